@@ -1,0 +1,49 @@
+-- What the whole part of a float is outside the range of a u64, and the test for a NaN. Assumes nothing.
+use Prim.Native.Nat.{ℕ, _+_, _-_, _*_, _/_, _^_, _≤_, _<_, min}
+use mathlib.Core.Path.{_≡_, refl, sym, subst, ap, _∙_}
+use mathlib.Core.Bool.{Bool, true, false, not, _&&_}
+use native.Mathlib.Omega.{arith}
+use native.Mathlib.Nat.{le-div-iff-mul-le, min-eq-right, mul-one, one-mul}
+use lib.IntN.{pos, ℤ}
+use lib.Dec.{T, eqb, ltb, eqb-refl}
+use borrow.Author.Tests.{lt-ltb, ltb-false, eq-eqb}
+use lib.Ieee as Ieee
+use lib.Ieee.{Float, fin, inf, nan, binary64, up, down}
+use lib.Ieee.Fits.{down-pos}
+
+pub clash : {A : Type 0} {b : Bool} → b ≡ true → b ≡ false → A
+clash p q = absurd (subst T (sym p ∙ q) tt)
+
+-- not above -1: nothing is left of it
+pub whole-low : (x : Float) → Ieee.lt (Ieee.neg (Ieee.ofBits binary64 0x3ff0_0000_0000_0000)) x ≡ false → Ieee.toUnsigned 64 x ≡ 0
+unfolding Ieee.lt Ieee.neg Ieee.ofBits Ieee.toUnsigned
+whole-low nan h = refl
+whole-low (inf true) h = refl
+whole-low (inf false) h = clash refl h
+whole-low (fin true m e) h = refl
+whole-low (fin false m e) h = clash (lt-ltb 0 (1 * 1 * down e + m * up e * 1) (let p : 0 < down e = down-pos e in omega arith)) h
+
+-- 2 ^ 64 or more: held to the largest
+pub whole-high : (x : Float) → Ieee.lt (Ieee.neg (Ieee.ofBits binary64 0x3ff0_0000_0000_0000)) x ≡ true → Ieee.lt x (Ieee.ofBits binary64 0x43f0_0000_0000_0000) ≡ false → Ieee.toUnsigned 64 x ≡ 18446744073709551615
+unfolding Ieee.lt Ieee.neg Ieee.ofBits Ieee.toUnsigned
+whole-high nan h k = clash h refl
+whole-high (inf true) h k = clash h refl
+whole-high (inf false) h k = refl
+whole-high (fin true m e) h k = clash (lt-ltb 0 (m * up e * 1 + 18446744073709551616 * down e) (let p : 0 < down e = down-pos e in omega arith)) k
+whole-high (fin false m e) h k =
+    let q : 18446744073709551616 * down e ≤ m * up e * 1 = ltb-false (m * up e * 1) (18446744073709551616 * down e) k in
+    let d : 18446744073709551616 ≤ m * up e / down e = le-div-iff-mul-le (down-pos e) .1 (omega arith) in
+    min-eq-right (omega arith)
+
+-- a NaN, and nothing else, differs from itself
+pub nan-test : (x : Float) → Ieee.ne x x ≡ Ieee.isNan x
+unfolding Ieee.ne Ieee.isNan
+nan-test nan = refl
+nan-test (inf true) = refl
+nan-test (inf false) = refl
+nan-test (fin true m e) = rw (eq-eqb (m * up e * down e) (m * up e * down e) refl)
+nan-test (fin false m e) = rw (eq-eqb (m * up e * down e) (m * up e * down e) refl)
+
+pub not-not : (b : Bool) → not (not b) ≡ b
+not-not true = refl
+not-not false = refl

@@ -1,0 +1,139 @@
+// Helpers on f64 that the Rust has in its library: clamp, whole part, rounding, range tests.
+ghost use mathlib.Core.Path.{_≡_};
+ghost use mathlib.Core.Bool.{not};
+ghost use lib.Dec.{T};
+ghost use lib.Ieee as Ieee;
+ghost use Rattle.float64.specs.Number.{whole, isNumber, inRange, inUnit, rateFits, coefficientFits, phaseFits, frequencyFits, sineFits, clampOf, atLeast, atMost, absolute, wholePart};
+
+// Whether x is a NaN.
+pub fn is_nan(x: f64) -> bool
+    ensures { λ r. ⌜ r ≡ not (isNumber x) ⌝ }
+{
+    x != x
+}
+
+// Whether lo <= x <= hi: no for a NaN.
+pub fn in_range(x: f64, lo: f64, hi: f64) -> bool
+    ensures { λ r. ⌜ r ≡ inRange x lo hi ⌝ }
+{
+    x >= lo && x <= hi
+}
+
+// Whether 0 <= x < 1: no for a NaN, yes for -0.
+pub fn in_unit(x: f64) -> bool
+    ensures { λ r. ⌜ r ≡ inUnit x ⌝ }
+{
+    x >= 0.0 && x < 1.0
+}
+
+// Whether x is a sample rate that a start accepts: 8,000 to 192,000.
+pub fn rate_fits(x: f64) -> bool
+    ensures { λ r. ⌜ r ≡ rateFits x ⌝ }
+{
+    in_range(x, 8000.0, 192000.0)
+}
+
+// Whether x is a glide coefficient.
+pub fn coefficient_fits(x: f64) -> bool
+    ensures { λ r. ⌜ r ≡ coefficientFits x ⌝ }
+{
+    in_unit(x)
+}
+
+// Whether x is a phase.
+pub fn phase_fits(x: f64) -> bool
+    ensures { λ r. ⌜ r ≡ phaseFits x ⌝ }
+{
+    in_unit(x)
+}
+
+// Whether x is a frequency that a tick accepts: 0 to 32 Hz.
+pub fn frequency_fits(x: f64) -> bool
+    ensures { λ r. ⌜ r ≡ frequencyFits x ⌝ }
+{
+    in_range(x, 0.0, 32.0)
+}
+
+// Whether x lies from -1 to 1.
+pub fn sine_fits(x: f64) -> bool
+    ensures { λ r. ⌜ r ≡ sineFits x ⌝ }
+{
+    in_range(x, -1.0, 1.0)
+}
+
+// x held to lo..=hi. What lies between passes as it is, -0 and a NaN too.
+pub fn clamp(x: f64, lo: f64, hi: f64) -> f64
+    ensures { λ r. ⌜ r ≡ clampOf x lo hi ⌝ }
+{
+    if x < lo {
+        lo
+    } else if x > hi {
+        hi
+    } else {
+        x
+    }
+}
+
+// The larger of x and lo; x where they are equal, and a NaN x.
+pub fn at_least(x: f64, lo: f64) -> f64
+    ensures { λ r. ⌜ r ≡ atLeast x lo ⌝ }
+{
+    if x < lo { lo } else { x }
+}
+
+// The smaller of x and hi; x where they are equal, and a NaN x.
+pub fn at_most(x: f64, hi: f64) -> f64
+    ensures { λ r. ⌜ r ≡ atMost x hi ⌝ }
+{
+    if x > hi { hi } else { x }
+}
+
+// The absolute value: +0 for either zero, and a NaN for a NaN.
+pub fn abs(x: f64) -> f64
+    ensures { λ r. ⌜ r ≡ absolute x ⌝ }
+{
+    if x < 0.0 {
+        -x
+    } else if x > 0.0 {
+        x
+    } else {
+        0.0 - x
+    }
+}
+
+// The whole part of a number from 1 to below 2^53: the digits, shifted. The effects' reads use it, where a total one costs more.
+pub fn whole_part_small(x: f64) -> u64
+    requires { ⌜ T (Ieee.le (whole 1) x) ⌝ ∗ ⌜ T (Ieee.lt x (whole 9007199254740992)) ⌝ }
+    ensures { λ r. ⌜ r ≡ wholePart x ⌝ }
+{
+    let bits: u64 = f64::to_bits(x);
+    let exponent: u64 = bits >> 52;
+    let digits: u64 = (bits & 0xf_ffff_ffff_ffff) | 0x10_0000_0000_0000;
+    digits >> (1075 - exponent)
+}
+
+// The Rust's `x as usize`: toward zero, held to 0..=2^64 - 1, and 0 for a NaN.
+pub fn whole_part(x: f64) -> u64
+    ensures { λ r. ⌜ r ≡ wholePart x ⌝ }
+{
+    if x >= 1.0 {
+        if x < 9007199254740992.0 {
+            return whole_part_small(x);
+        }
+        return whole_part_large(x);
+    }
+    0
+}
+
+// The whole part of a number of 2^53 or more, which no effect meets.
+fn whole_part_large(x: f64) -> u64
+    ensures { λ r. ⌜ r ≡ wholePart x ⌝ }
+{
+    if x > -1.0 {
+        if x < 18446744073709551616.0 {
+            return std::num::truncating_f64_to_u64(x);
+        }
+        return 18446744073709551615;
+    }
+    0
+}
