@@ -1,0 +1,28 @@
+-- Ports and refusals by their cases. Assumes nothing.
+use Prim.Native.Nat.{ℕ}
+use mathlib.Core.Path.{_≡_, sym, ap, _∙_}
+use mathlib.Core.Logic.{_≢_}
+use native.Mathlib.Omega.{arith}
+use lib.Ieee.{Float}
+use Rattle.port.specs.declared.Port.{Port}
+use Rattle.port.specs.declared.Port.the-variants.{Set, Unset}
+use Rattle.port.specs.Port.{valueOr}
+use Rattle.port.specs.declared.Refusal.{Refusal}
+use Rattle.port.specs.declared.Refusal.the-variants.{SampleRate, GlideCoefficient, Memory, State, Control, Curve}
+use Rattle.port.specs.Answer.{number}
+
+-- a port taken apart: set, its number; unset, the default
+pub value-set : {p : Port} {x y : Float} (d : Float) → p ≡ Set x → y ≡ x → y ≡ valueOr p d
+value-set d e k = k ∙ sym (ap (λ (q : Port). valueOr q d) e)
+
+pub value-unset : {p : Port} {y : Float} (d : Float) → p ≡ Unset → y ≡ d → y ≡ valueOr p d
+value-unset d e k = k ∙ sym (ap (λ (q : Port). valueOr q d) e)
+
+-- every cause has a number
+pub number-some : (r : Refusal) → number r ≢ 0
+number-some SampleRate = omega arith
+number-some GlideCoefficient = omega arith
+number-some Memory = omega arith
+number-some State = omega arith
+number-some Control = omega arith
+number-some Curve = omega arith
