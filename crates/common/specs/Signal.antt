@@ -1,0 +1,20 @@
+-- What the effects do to single samples and phases. Definitions only. Assumes nothing.
+use mathlib.Core.Bool.{cond}
+use lib.Ieee.{Float, nan, inf, fin, binary64, add, sub, mul, le}
+use Rattle.float64.specs.Number.{plusZero, whole}
+
+-- the input rule: non-finite audio becomes +0
+abbrev pub sanitized : Float → Float
+sanitized nan = plusZero
+sanitized (inf s) = plusZero
+sanitized (fin s m e) = fin s m e
+
+-- a × (1 − f) + b × f: every dry/wet, and the two places of a read
+unfoldable pub blended : Float → Float → Float → Float
+blended a b f = add binary64 (mul binary64 a (sub binary64 (whole 1) f)) (mul binary64 b f)
+
+-- a phase moved on by a step: add; at 1 or more, subtract 1
+unfoldable pub advanced : Float → Float → Float
+advanced phase step =
+    let next = add binary64 phase step in
+    cond (le (whole 1) next) (sub binary64 next (whole 1)) next

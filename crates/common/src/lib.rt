@@ -1,0 +1,88 @@
+// What the effects share: the input rule, dry/wet, phases, and lines in lent memory.
+ghost use mathlib.Core.Path.{_≡_};
+ghost use mathlib.Core.Bool.{true};
+ghost use Prim.Native.Nat.{_-_, _≤_, _<_};
+ghost use lib.ListN.{length};
+ghost use Rattle.float64.specs.Number.{whole, inRange};
+ghost use Rattle.common.specs.Signal.{sanitized, blended, advanced};
+ghost use Rattle.common.specs.Line.{zeros, place, nextPlace, lineAt, readAt, allZero};
+
+// The input rule: non-finite audio becomes +0.
+pub fn sanitize_audio(x: f64) -> f64
+    ensures { λ r. ⌜ r ≡ sanitized x ⌝ }
+{
+    let infinity = 1.0 / 0.0;
+    if x < infinity {
+        if x > -infinity {
+            return x;
+        }
+    }
+    0.0
+}
+
+// a x (1 - f) + b x f.
+pub fn blend(a: f64, b: f64, f: f64) -> f64
+    ensures { λ r. ⌜ r ≡ blended a b f ⌝ }
+{
+    a * (1.0 - f) + b * f
+}
+
+// The phase after one step: add; at 1 or more, subtract 1.
+pub fn advance_phase(phase: f64, step: f64) -> f64
+    ensures { λ r. ⌜ r ≡ advanced phase step ⌝ }
+{
+    let next = phase + step;
+    if next >= 1.0 { next - 1.0 } else { next }
+}
+
+// The place d samples behind w in a line of n places. A comparison in place of the `%` of the definition.
+fn place_back(n: usize, w: usize, d: usize) -> usize
+    requires { ⌜ w < n ⌝ }
+    requires { ⌜ d ≤ n ⌝ }
+    requires { ⌜ 1 ≤ d ⌝ }
+    requires { ⌜ n ≤ 4294967296 ⌝ }
+    ensures { λ r. ⌜ r ≡ place n w d ⌝ }
+    ensures { λ r. ⌜ r < n ⌝ }
+{
+    if w >= d {
+        return w - d;
+    }
+    w + n - d
+}
+
+// The position after w in a line of n places.
+pub fn next_place(n: u64, w: u64) -> u64
+    requires { ⌜ w < n ⌝ }
+    ensures { λ r. ⌜ r ≡ nextPlace n w ⌝ }
+{
+    let next = w + 1;
+    if next >= n {
+        return 0;
+    }
+    next
+}
+
+// A clearing: +0 in every place.
+pub fn clear(mem: &mut [f64])
+    ensures { λ _. ⌜ now (mem .exit) ≡ zeros (length (now (mem .entry))) ⌝ }
+{
+    let mut i: usize = 0;
+    while i < mem.len() {
+        mem[i] = 0.0;
+        i += 1;
+    }
+}
+
+// Whether every place is +0 or -0.
+pub fn all_zero(places: &[f64]) -> bool
+    ensures { λ r. ⌜ r ≡ allZero (now (places .entry)) ⌝ }
+{
+    let mut i: usize = 0;
+    while i < places.len() {
+        if places[i] != 0.0 {
+            return false;
+        }
+        i += 1;
+    }
+    true
+}
