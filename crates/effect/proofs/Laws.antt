@@ -1,0 +1,31 @@
+-- What an effect shows, once, so that the theorems on its calls and runs hold of it. Assumes nothing.
+use Prim.Native.Nat.{ℕ, _≤_, _<_}
+use mathlib.Core.Path.{_≡_}
+use mathlib.Core.Bool.{true, false}
+use mathlib.Core.List.{List, [], _∷_}
+use lib.ListN.{length}
+use lib.Ieee.{Float}
+use Rattle.effect.specs.Effect.{Effect, Write}
+
+-- all the places that are written lie below n
+abbrev pub Below : ℕ → List Write → Type 0
+Below n [] = Unit {0}
+Below n (w ∷ ws) = (w .place < n) × Below n ws
+
+pub record Laws (E : Effect) : Type 0 where
+  -- the blank state is refused
+  pub blank-refused : E .fits (E .blank) ≡ false
+  -- the settings of a state that passes the state test are not refused
+  pub settings-fit : (s : E .State) → E .fits s ≡ true → E .settingsNumber (E .settings s) ≡ 0
+  -- a clearing leaves its settings in force, and a tick those that are
+  pub fresh-settings : (k : E .Settings) → E .settings (E .fresh k) ≡ k
+  pub retuned-settings : (k : E .Settings) (s : E .State) → E .settings (E .retuned k s) ≡ k
+  pub next-settings : (t : E .Tick) (s : E .State) (m : List Float) → E .settings (E .next t s m) ≡ E .settings s
+  -- every state that an accepted call returns passes the state test
+  pub fresh-fits : (k : E .Settings) → E .settingsNumber k ≡ 0 → E .fits (E .fresh k) ≡ true
+  pub retuned-fits : (k : E .Settings) (s : E .State) → E .settingsNumber k ≡ 0 → E .fits s ≡ true → E .fits (E .retuned k s) ≡ true
+  pub next-fits : (t : E .Tick) (s : E .State) (m : List Float) → E .fits s ≡ true → E .places (E .settings s) ≤ length m
+      → E .tickNumber t (E .settings s) ≡ 0
+      → E .fits (E .next t s m) ≡ true
+  -- a tick writes only places in use
+  pub inside : (t : E .Tick) (s : E .State) (m : List Float) → E .fits s ≡ true → Below (E .places (E .settings s)) (E .writes t s m)

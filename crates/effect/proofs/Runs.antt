@@ -1,0 +1,124 @@
+-- Along a run every state passes the state test, and state and memory are what the arguments tell. Assumes the effect's laws.
+use Prim.Native.Nat.{ℕ, zero, suc, _≤_}
+use native.Mathlib.Omega.{arith}
+use mathlib.Core.Path.{_≡_, refl, sym, ap, _∙_, subst}
+use mathlib.Core.Bool.{true}
+use mathlib.Core.List.{List, [], _∷_}
+use lib.ListN.{length, length-replicate}
+use Rattle.float64.specs.Number.{plusZero}
+use Rattle.common.specs.Line.{zeros}
+use Rattle.effect.specs.Effect.{Effect, laid}
+use Rattle.effect.specs.Run.{tick, retune, reset, ask, CallOf, Device, ifNone, numberFor, numberAt, start, moved, step, after, Run, left}
+use Rattle.effect.specs.Told.{Told, laidOut, added, tell, toldFrom, told}
+use Rattle.effect.proofs.Laws.{Laws}
+use Rattle.effect.proofs.Memory.{length-laid, laid-append}
+use Rattle.effect.proofs.Table.{settings-accepted, tick-accepted}
+
+-- what holds of a unit along a run in a memory of n places
+pub record InRun (E : Effect) (n : ℕ) (h : Device (E .State)) : Type 0 where
+  pub size : length (h .memory) ≡ n
+  pub fits : E .fits (h .state) ≡ true
+  pub enough : E .places (E .settings (h .state)) ≤ n
+
+module _ (E : Effect) where
+  -- cause 4 never applies
+  pub number-is : {n : ℕ} {h : Device (E .State)} (c : CallOf E) → InRun E n h → numberAt E c h ≡ numberFor E c n (E .settings (h .state))
+  number-is c i = rw (i .fits, i .size)
+
+  -- what holds of the unit, and after the call if that is accepted, holds after the call
+  pub step-cases : (P : Device (E .State) → Type 0) {n : ℕ} {h : Device (E .State)} (c : CallOf E) → InRun E n h → P h
+      → (numberFor E c n (E .settings (h .state)) ≡ 0 → P (moved E c h)) → P (step E c h)
+  step-cases P {n} {h} c i p q = rw (number-is c i) (go (numberFor E c n (E .settings (h .state))) refl)
+    where
+      go : (k : ℕ) → numberFor E c n (E .settings (h .state)) ≡ k → P (ifNone k (moved E c h) h)
+      go zero e = q e
+      go (suc k) e = p
+
+module _ (E : Effect) (laws : Laws E) where
+  -- a clearing that leaves the settings k in force
+  cleared-in : {n : ℕ} (k : E .Settings) (s : E .State) (l : ℕ) → l ≡ n → E .settings s ≡ k → E .fits s ≡ true → E .places k ≤ n
+      → InRun E n (record { state = s; memory = zeros l })
+  cleared-in k s l e c f r = record { size = length-replicate _ _ ∙ e; fits = f; enough = omega (arith, ap (E .places) c) }
+
+  pub start-in : (x : Run E) → InRun E (length (x .memory)) (start E (x .handed) (x .memory))
+  start-in x =
+      let k = E .startSettings (x .handed) in
+      let v = settings-accepted E (length (x .memory)) k (x .accepted) in
+      rw (x .accepted)
+      (cleared-in k (E .fresh k) (length (x .memory)) refl (laws .fresh-settings k) (laws .fresh-fits k (v .number)) (v .enough))
+
+  pub moved-in : {n : ℕ} {h : Device (E .State)} (c : CallOf E) → InRun E n h → numberFor E c n (E .settings (h .state)) ≡ 0 → InRun E n (moved E c h)
+  moved-in {n} {h} (tick t) i e =
+      let m = h .memory in
+      record {
+        size = length-laid (E .writes t (h .state) m) m ∙ i .size;
+        fits = laws .next-fits t (h .state) m (i .fits) (omega (arith, i .enough, i .size)) (tick-accepted E n t (E .settings (h .state)) e .number);
+        enough = omega (arith, i .enough, ap (E .places) (laws .next-settings t (h .state) m));
+      }
+  moved-in {n} {h} (retune r) i e =
+      let k = E .retuneSettings r (E .settings (h .state)) in
+      let v = settings-accepted E n k e in
+      cleared-in k (E .retuned k (h .state)) (length (h .memory)) (i .size) (laws .retuned-settings k (h .state)) (laws .retuned-fits k (h .state) (v .number) (i .fits)) (v .enough)
+  moved-in {n} {h} reset i e =
+      let k = E .settings (h .state) in
+      cleared-in k (E .fresh k) (length (h .memory)) (i .size) (laws .fresh-settings k) (laws .fresh-fits k (laws .settings-fit (h .state) (i .fits))) (i .enough)
+  moved-in ask i e = i
+
+  pub step-in : {n : ℕ} {h : Device (E .State)} (c : CallOf E) → InRun E n h → InRun E n (step E c h)
+  step-in {n} c i = step-cases E (λ h. InRun E n h) c i i (moved-in c i)
+
+  pub after-in : {n : ℕ} {h : Device (E .State)} (cs : List (CallOf E)) → InRun E n h → InRun E n (after E cs h)
+  unfolding after
+  after-in [] i = i
+  after-in (c ∷ cs) i = after-in cs (step-in c i)
+
+  pub run-in : (x : Run E) → InRun E (length (x .memory)) (left E x)
+  run-in x = after-in (x .calls) (start-in x)
+
+  -- induction along a run: what every accepted call keeps, the calls keep
+  pub along : (P : Device (E .State) → Type 0) {n : ℕ} {h : Device (E .State)} (cs : List (CallOf E)) → InRun E n h → P h
+      → ((u : Device (E .State)) (c : CallOf E) → InRun E n u → P u → P (moved E c u))
+      → P (after E cs h)
+  unfolding after
+  along P [] i p keep = p
+  along P {h} (c ∷ cs) i p keep = along P cs (step-in c i) (step-cases E P c i p (λ e. keep h c i p)) keep
+
+  -- ---- state and memory are told by the arguments
+
+  all-places : (n : ℕ) (t : Told (E .State)) → length (laid (t .written) (zeros n)) ≡ n
+  all-places n t = length-laid (t .written) (zeros n) ∙ length-replicate n plusZero
+
+  moved-told : (n : ℕ) (t : Told (E .State)) (c : CallOf E)
+      → moved E c (laidOut n t) ≡ laidOut n (record { state = moved E c (laidOut n t) .state; written = added E c (laidOut n t) (t .written) })
+  moved-told n t (tick a) =
+      let m = laid (t .written) (zeros n) in
+      let e = laid-append (t .written) (E .writes a (t .state) m) (zeros n) in
+      λ i. record { state = E .next a (t .state) m; memory = sym e i }
+  moved-told n t (retune r) = λ i. record { state = E .retuned (E .retuneSettings r (E .settings (t .state))) (t .state); memory = zeros (all-places n t i) }
+  moved-told n t reset = λ i. record { state = E .fresh (E .settings (t .state)); memory = zeros (all-places n t i) }
+  moved-told n t ask = refl
+
+  step-told : {n : ℕ} (c : CallOf E) (t : Told (E .State)) → InRun E n (laidOut n t) → step E c (laidOut n t) ≡ laidOut n (tell E n c t)
+  step-told {n} c t i = rw (number-is E c i) (go (numberFor E c n (E .settings (t .state))))
+    where
+      t' : Told (E .State)
+      t' = record { state = moved E c (laidOut n t) .state; written = added E c (laidOut n t) (t .written) }
+
+      go : (k : ℕ) → ifNone k (moved E c (laidOut n t)) (laidOut n t) ≡ laidOut n (ifNone k t' t)
+      go zero = moved-told n t c
+      go (suc k) = refl
+
+  after-told : {n : ℕ} (cs : List (CallOf E)) (t : Told (E .State)) → InRun E n (laidOut n t) → after E cs (laidOut n t) ≡ laidOut n (toldFrom E n cs t)
+  unfolding after toldFrom
+  after-told [] t i = refl
+  after-told {n} (c ∷ cs) t i =
+      let e = step-told c t i in
+      ap (λ (h : Device (E .State)). after E cs h) e
+      ∙ after-told cs (tell E n c t) (subst (λ (h : Device (E .State)). InRun E n h) e (step-in c i))
+
+  pub run-told : (x : Run E) → left E x ≡ laidOut (length (x .memory)) (told E (x .handed) (length (x .memory)) (x .calls))
+  run-told x =
+      let e : start E (x .handed) (x .memory) ≡ laidOut (length (x .memory)) (record { state = E .fresh (E .startSettings (x .handed)); written = [] }) =
+      rw (x .accepted) in
+      ap (λ (h : Device (E .State)). after E (x .calls) h) e
+      ∙ after-told (x .calls) _ (subst (λ (h : Device (E .State)). InRun E (length (x .memory)) h) e (start-in x))

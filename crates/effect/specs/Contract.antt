@@ -1,0 +1,19 @@
+-- What the contracts of an effect's calls say: state, memory and answer, each equated with the defined one. Assumes nothing.
+use mathlib.Core.Path.{_≡_}
+use mathlib.Core.List.{List}
+use lib.Ieee.{Float}
+use Rattle.port.specs.Answer.{Reply}
+use Rattle.effect.specs.Effect.{Effect}
+use Rattle.effect.specs.Run.{CallOf, step, reply, start, startReply}
+
+-- The call c of a unit with the state s and the memory m leaves the state s' and the memory m', and answers a.
+pub record Does (E : Effect) (c : CallOf E) (s : E .State) (m : List Float) (s' : E .State) (m' : List Float) (a : Reply) : Type 0 where
+  pub state : s' ≡ step E c (record { state = s; memory = m }) .state
+  pub memory : m' ≡ step E c (record { state = s; memory = m }) .memory
+  pub answer : a ≡ reply E c (record { state = s; memory = m })
+
+-- A start that is handed x and the memory m gives the state s', leaves the memory m', and answers a.
+pub record Starts (E : Effect) (x : E .Start) (m : List Float) (s' : E .State) (m' : List Float) (a : Reply) : Type 0 where
+  pub state : s' ≡ start E x m .state
+  pub memory : m' ≡ start E x m .memory
+  pub answer : a ≡ startReply E x m
