@@ -1,0 +1,162 @@
+// The tremolo: the audio's amplitude swept by a sine or a triangle. The state goes in and out by value; no memory is lent.
+ghost use mathlib.Core.Path.{_≡_};
+ghost use mathlib.Core.List.{[]};
+ghost use Rattle.port.specs.Answer.{numberOf, outcomeReply, answerReply, silenceReply};
+ghost use Rattle.effect.specs.Run.{tick, reset, ask, numberIn};
+ghost use Rattle.effect.specs.Contract.{Does, Starts};
+ghost use Rattle.tremolo.specs.Tremolo.{tremolo, ticked, fits, tickNumber, triangle, lfo, modulated};
+use port::Answer;
+use port::Outcome;
+use port::Port;
+use port::Refusal;
+use port::Silence;
+
+pub struct Tremolo {
+    pub lfo_phase: f64,
+    pub sample_rate: f64,
+}
+
+// What start and reset return.
+pub struct Cleared {
+    pub state: Tremolo,
+    pub outcome: Outcome,
+}
+
+// What a tick returns.
+pub struct Ticked {
+    pub state: Tremolo,
+    pub answer: Answer,
+}
+
+impl Tremolo {
+    // Start: phase 0 at the rate.
+    pub fn new(sample_rate: f64) -> Cleared
+        ensures { λ r. ⌜ Starts tremolo «sample_rate» [] (r .state) [] (outcomeReply (r .outcome)) ⌝ }
+    {
+        if !float64::rate_fits(sample_rate) {
+            return Cleared {
+                state: Tremolo {
+                    lfo_phase: 0.0,
+                    sample_rate: 0.0,
+                },
+                outcome: Outcome::Refused(Refusal::SampleRate),
+            };
+        }
+        Cleared {
+            state: Tremolo {
+                lfo_phase: 0.0,
+                sample_rate,
+            },
+            outcome: Outcome::Accepted,
+        }
+    }
+
+    // The state test.
+    fn state_fits(self) -> bool
+        ensures { λ r. ⌜ r ≡ fits self ⌝ }
+    {
+        float64::rate_fits(self.sample_rate) && float64::phase_fits(self.lfo_phase)
+    }
+
+    // Reset: phase 0 again.
+    pub fn reset(self) -> Cleared
+        ensures { λ r. ⌜ Does tremolo reset self [] (r .state) [] (outcomeReply (r .outcome)) ⌝ }
+    {
+        if !self.state_fits() {
+            return Cleared {
+                state: self,
+                outcome: Outcome::Refused(Refusal::State),
+            };
+        }
+        Cleared {
+            state: Tremolo {
+                lfo_phase: 0.0,
+                sample_rate: self.sample_rate,
+            },
+            outcome: Outcome::Accepted,
+        }
+    }
+
+    // Silent? Always, as it has no line.
+    pub fn silent(self) -> Silence
+        ensures { λ r. ⌜ Does tremolo ask self [] self [] (silenceReply r) ⌝ }
+    {
+        if !self.state_fits() {
+            return Silence::Refused(Refusal::State);
+        }
+        Silence::Silent
+    }
+
+    // Causes 5 and 6 of a tick.
+    fn tick_causes(depth: Port, shape: Port, frequency: f64, sine: f64) -> Outcome
+        ensures { λ r. ⌜ numberOf r ≡ tickNumber depth shape frequency sine ⌝ }
+    {
+        if depth.is_nan_set() {
+            return Outcome::Refused(Refusal::Control);
+        }
+        if shape.is_nan_set() {
+            return Outcome::Refused(Refusal::Control);
+        }
+        if !float64::frequency_fits(frequency) {
+            return Outcome::Refused(Refusal::Curve);
+        }
+        if !float64::sine_fits(sine) {
+            return Outcome::Refused(Refusal::Curve);
+        }
+        Outcome::Accepted
+    }
+
+    // 1 - 4 x |phase - 0.5|.
+    fn triangle(phase: f64) -> f64
+        ensures { λ r. ⌜ r ≡ triangle phase ⌝ }
+    {
+        1.0 - 4.0 * float64::abs(phase - 0.5)
+    }
+
+    // The sweep from -1 to 1: a sine at shape 0, a triangle at shape 1.
+    fn lfo(phase: f64, shape: f64, sine: f64) -> f64
+        ensures { λ r. ⌜ r ≡ lfo phase shape sine ⌝ }
+    {
+        sine * (1.0 - shape) + Tremolo::triangle(phase) * shape
+    }
+
+    // The audio under the sweep.
+    fn modulated(input: f64, depth: f64, lfo: f64) -> f64
+        ensures { λ r. ⌜ r ≡ modulated input depth lfo ⌝ }
+    {
+        input * (1.0 - depth * 0.5 * (1.0 - lfo))
+    }
+
+    // One sample. Frequency and sine are the host's curve numbers, the sine at the state's phase.
+    pub fn tick(self, audio: Port, depth: Port, shape: Port, frequency: f64, sine: f64) -> Ticked
+        ensures { λ r. ⌜ Does tremolo (tick (ticked audio depth shape frequency sine)) self [] (r .state) [] (answerReply (r .answer)) ⌝ }
+    {
+        if !self.state_fits() {
+            return Ticked {
+                state: self,
+                answer: Answer::Refused(Refusal::State),
+            };
+        }
+        let causes = Tremolo::tick_causes(depth, shape, frequency, sine);
+        if let Outcome::Refused(cause) = causes {
+            return Ticked {
+                state: self,
+                answer: Answer::Refused(cause),
+            };
+        }
+        let input = if let Port::Set(x) = audio { x } else { 0.0 };
+        let amount = if let Port::Set(x) = depth { x } else { 0.5 };
+        let blend = if let Port::Set(x) = shape { x } else { 0.0 };
+        let phase = self.lfo_phase;
+        let rate = self.sample_rate;
+        let lfo = Tremolo::lfo(phase, float64::clamp(blend, 0.0, 1.0), sine);
+        let y = Tremolo::modulated(input, float64::clamp(amount, 0.0, 1.0), lfo);
+        Ticked {
+            state: Tremolo {
+                lfo_phase: common::advance_phase(phase, frequency / rate),
+                sample_rate: rate,
+            },
+            answer: Answer::One(y),
+        }
+    }
+}
