@@ -1,12 +1,14 @@
 -- Ports and refusals by their cases. Assumes nothing.
 use Prim.Native.Nat.{ℕ}
-use mathlib.Core.Path.{_≡_, sym, ap, _∙_}
+use mathlib.Core.Path.{_≡_, refl, sym, ap, _∙_}
+use mathlib.Core.Bool.{true, not}
 use mathlib.Core.Logic.{_≢_}
 use native.Mathlib.Omega.{arith}
 use lib.Ieee.{Float}
+use Rattle.float64.specs.Number.{isNumber}
 use Rattle.port.specs.declared.Port.{Port}
 use Rattle.port.specs.declared.Port.the-variants.{Set, Unset}
-use Rattle.port.specs.Port.{valueOr}
+use Rattle.port.specs.Port.{valueOr, isNanSet}
 use Rattle.port.specs.declared.Refusal.{Refusal}
 use Rattle.port.specs.declared.Refusal.the-variants.{SampleRate, GlideCoefficient, Memory, State, Control, Curve}
 use Rattle.port.specs.Answer.{number}
@@ -17,6 +19,11 @@ value-set d e k = k ∙ sym (ap (λ (q : Port). valueOr q d) e)
 
 pub value-unset : {p : Port} {y : Float} (d : Float) → p ≡ Unset → y ≡ d → y ≡ valueOr p d
 value-unset d e k = k ∙ sym (ap (λ (q : Port). valueOr q d) e)
+
+-- a port and its value, where the default is a number: the one is set and NaN where the other is NaN
+pub nan-value : (p : Port) (d : Float) → isNumber d ≡ true → isNanSet (Set (valueOr p d)) ≡ isNanSet p
+nan-value (Set x) d h = refl
+nan-value Unset d h = ap not h
 
 -- every cause has a number
 pub number-some : (r : Refusal) → number r ≢ 0

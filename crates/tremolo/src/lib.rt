@@ -87,14 +87,11 @@ impl Tremolo {
         Silence::Silent
     }
 
-    // Causes 5 and 6 of a tick.
-    fn tick_causes(depth: Port, shape: Port, frequency: f64, sine: f64) -> Outcome
-        ensures { λ r. ⌜ numberOf r ≡ tickNumber depth shape frequency sine ⌝ }
+    // Causes 5 and 6 of a tick, its controls with their defaults.
+    fn tick_causes(depth: f64, shape: f64, frequency: f64, sine: f64) -> Outcome
+        ensures { λ r. ⌜ numberOf r ≡ tickNumber (Port.Set depth) (Port.Set shape) frequency sine ⌝ }
     {
-        if depth.is_nan_set() {
-            return Outcome::Refused(Refusal::Control);
-        }
-        if shape.is_nan_set() {
+        if float64::is_nan(depth) | float64::is_nan(shape) {
             return Outcome::Refused(Refusal::Control);
         }
         if !float64::frequency_fits(frequency) {
@@ -137,23 +134,24 @@ impl Tremolo {
                 answer: Answer::Refused(Refusal::State),
             };
         }
-        let causes = Tremolo::tick_causes(depth, shape, frequency, sine);
+        let input = if let Port::Set(x) = audio { x } else { 0.0 };
+        let amount = if let Port::Set(x) = depth { x } else { 0.5 };
+        let blend = if let Port::Set(x) = shape { x } else { 0.0 };
+        let causes = Tremolo::tick_causes(amount, blend, frequency, sine);
         if let Outcome::Refused(cause) = causes {
             return Ticked {
                 state: self,
                 answer: Answer::Refused(cause),
             };
         }
-        let input = if let Port::Set(x) = audio { x } else { 0.0 };
-        let amount = if let Port::Set(x) = depth { x } else { 0.5 };
-        let blend = if let Port::Set(x) = shape { x } else { 0.0 };
         let phase = self.lfo_phase;
         let rate = self.sample_rate;
+        let next = common::advance_phase(phase, frequency / rate);
         let lfo = Tremolo::lfo(phase, float64::clamp(blend, 0.0, 1.0), sine);
         let y = Tremolo::modulated(input, float64::clamp(amount, 0.0, 1.0), lfo);
         Ticked {
             state: Tremolo {
-                lfo_phase: common::advance_phase(phase, frequency / rate),
+                lfo_phase: next,
                 sample_rate: rate,
             },
             answer: Answer::One(y),

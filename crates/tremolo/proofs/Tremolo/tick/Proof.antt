@@ -1,19 +1,24 @@
--- `Tremolo::tick` is the tick of `tremolo`: cause 4, then causes 5 and 6, else the ports or their defaults, clamped, in the tick's formulas.
+-- `Tremolo::tick` is the tick of `tremolo`: cause 4, then the ports or their defaults, causes 5 and 6, then the tick's formulas on the clamped controls.
 -- Assumes nothing.
 use mathlib.Core.Path.{_≡_, refl, sym, ap, _∙_}
 use mathlib.Core.Logic.{inl, inr}
-use mathlib.Core.List.{[]}
+use Prim.Native.Nat.{ℕ}
+use mathlib.Core.Bool.{true, cond, _&&_, _||_}
+use mathlib.Core.List.{[], _∷_}
 use native.Mathlib.Omega.{arith}
-use lib.Ieee.{ofBits, ofInt, round}
+use lib.Ieee.{Float, ofBits, ofInt, round, fits, isNan}
 use borrow.Author.Needs.{needs}
 use borrow.Author.Tests.{not-true, not-false}
-use Rattle.float64.specs.Number.{plusZero, half}
+use Rattle.float64.specs.Number.{plusZero, half, isNumber, frequencyFits, sineFits}
+use Rattle.port.specs.declared.Port.the-variants.{Set}
 use Rattle.port.specs.Port.{valueOr}
-use Rattle.port.specs.Answer.{number, numberOf}
-use Rattle.port.proofs.Laws.{value-set, value-unset, number-some}
-use Rattle.effect.specs.Run.{tick}
+use Rattle.port.specs.Answer.{number, numberOf, played}
+use Rattle.port.proofs.Laws.{value-set, value-unset, nan-value, number-some}
+use Rattle.effect.specs.Run.{tick, numberIn}
 use Rattle.effect.proofs.Contract.{refuses, accepts, state-refused, tick-number}
-use Rattle.tremolo.specs.Tremolo.{tremolo, ticked, next, sample}
+use Rattle.tremolo.specs.Tremolo.{tremolo, Tick, ticked, tickNumber, next}
+use Rattle.tremolo.specs.Tremolo as page
+use Rattle.tremolo.proofs.Laws.{sample-is}
 use Rattle.tremolo.proofs.Tremolo.tick.Statement.{statement}
 use Rattle.tremolo.proofs.Tremolo.tick.Tie as tie
 
@@ -28,38 +33,85 @@ returns c =
     (state-refused tremolo 0 (a .self) (tick t) (sym (c .before .state-fits .ensures) ∙ not-true _ (c .if1 .taken)))
     (omega arith)
 
+enum-known-audio : tie.Need-enum-known-audio
+enum-known-audio c = search needs
+
+enum-told : tie.Need-enum-told
+enum-told c = search needs
+
+enum-known-depth : tie.Need-enum-known-depth
+enum-known-depth c = search needs
+
+enum-told-2 : tie.Need-enum-told-2
+enum-told-2 c = search needs
+
+enum-known-shape : tie.Need-enum-known-shape
+enum-known-shape c = search needs
+
+enum-told-3 : tie.Need-enum-told-3
+enum-told-3 c = search needs
+
 tick-causes-requires : tie.Need-tick-causes-requires
 tick-causes-requires c κs = search needs
 
 enum-known-causes : tie.Need-enum-known-causes
 enum-known-causes c = search needs
 
+-- what the tick is handed
+abbrev handed : tie.Start → Tick
+handed s = ticked (s .args .audio) (s .args .depth) (s .args .shape) (s .args .frequency) (s .args .sine)
+
+-- each port's number, or the default
+module _ (c : tie.At-match3-came) where
+  abbrev start : tie.Start
+  start = c .before .before .before .before .before
+
+  input-is : c .before .before .match .input ≡ valueOr (start .args .audio) plusZero
+  unfolding ofBits
+  input-is =
+      elim (c .before .before .match .came) [
+        | inl w ↦ value-set plusZero (w .1 .given .1) (w .3)
+        | inr w ↦ value-unset plusZero (w .1 .given .1) (w .2)
+      ]
+
+  amount-is : c .before .match2 .amount ≡ valueOr (start .args .depth) half
+  unfolding ofBits round
+  amount-is =
+      elim (c .before .match2 .came) [
+        | inl w ↦ value-set half (w .1 .given .1) (w .3)
+        | inr w ↦ value-unset half (w .1 .given .1) (w .2)
+      ]
+
+  blend-is : c .match3 .blend ≡ valueOr (start .args .shape) plusZero
+  unfolding ofBits
+  blend-is =
+      elim (c .match3 .came) [
+        | inl w ↦ value-set plusZero (w .1 .given .1) (w .3)
+        | inr w ↦ value-unset plusZero (w .1 .given .1) (w .2)
+      ]
+
+  passed : page.fits (start .args .self) ≡ true
+  passed = sym (c .before .before .before .before .state-fits .ensures) ∙ not-false _ (c .before .before .before .if1 .left)
+
+-- the number by the ports is the number by their values
+module _ (c : tie.After-tick-causes) where
+  number-is : (k : ℕ) → numberOf (c .tick-causes .result) ≡ k → k ≡ numberIn tremolo (tick (handed (start (c .before)))) 0 (start (c .before) .args .self)
+  unfolding tickNumber isNumber fits isNan round
+  number-is k e =
+      let a = start (c .before) .args in
+      tick-number tremolo 0 (a .self) (handed (start (c .before))) (passed (c .before)) refl
+      (sym e ∙ c .tick-causes .ensures
+      ∙ (λ i. tickNumber (Set (amount-is (c .before) i)) (Set (blend-is (c .before) i)) (a .frequency) (a .sine))
+      ∙ (λ i. cond (nan-value (a .depth) half refl i || nan-value (a .shape) plusZero refl i) 5 (cond (frequencyFits (a .frequency) && sineFits (a .sine)) 0 6)))
+
 returns-2 : tie.Need-returns-2
 returns-2 c =
-    let a = c .before .before .before .before .before .before .args in
-    let t = ticked (a .audio) (a .depth) (a .shape) (a .frequency) (a .sine) in
-    refuses tremolo (tick t) (a .self) [] (number (c .before .causes .given .0 .0))
-    (tick-number tremolo 0 (a .self) t (sym (c .before .before .before .before .before .state-fits .ensures) ∙ not-false _ (c .before .before .before .before .if1 .left)) refl
-    (sym (ap numberOf (c .before .causes .given .1)) ∙ c .before .before .before .tick-causes .ensures))
-    (number-some (c .before .causes .given .0 .0))
-
-enum-told : tie.Need-enum-told
-enum-told c = search needs
-
-enum-known-audio : tie.Need-enum-known-audio
-enum-known-audio c = search needs
-
-enum-told-2 : tie.Need-enum-told-2
-enum-told-2 c = search needs
-
-enum-known-depth : tie.Need-enum-known-depth
-enum-known-depth c = search needs
-
-enum-told-3 : tie.Need-enum-told-3
-enum-told-3 c = search needs
-
-enum-known-shape : tie.Need-enum-known-shape
-enum-known-shape c = search needs
+    let causes = c .before .before .before in
+    let cause = c .before .causes .given .0 .0 in
+    let s = start (causes .before) in
+    refuses tremolo (tick (handed s)) (s .args .self) [] (number cause)
+    (number-is causes (number cause) (ap numberOf (c .before .causes .given .1)))
+    (number-some cause)
 
 enum-told-4 : tie.Need-enum-told-4
 enum-told-4 c = search needs
@@ -80,34 +132,18 @@ advance-phase-requires : tie.Need-advance-phase-requires
 advance-phase-requires c κs = search needs
 
 returns-3 : tie.Need-returns-3
-unfolding next sample ofBits ofInt round
+unfolding next ofBits ofInt
 returns-3 c =
-    let matched = c .before .before .before .before .before .before .before in
-    let a = matched .before .before .before .before .before .before .args in
-    let t = ticked (a .audio) (a .depth) (a .shape) (a .frequency) (a .sine) in
-    let audio : matched .match2 .input ≡ valueOr (a .audio) plusZero =
-    elim (matched .match2 .came) [
-      | inl w ↦ value-set plusZero (w .1 .given .1) (w .3)
-      | inr w ↦ value-unset plusZero (w .1 .given .1) (w .2)
-    ] in
-    let depth : c .before .before .before .before .before .before .match3 .amount ≡ valueOr (a .depth) half =
-    elim (c .before .before .before .before .before .before .match3 .came) [
-      | inl w ↦ value-set half (w .1 .given .1) (w .3)
-      | inr w ↦ value-unset half (w .1 .given .1) (w .2)
-    ] in
-    let shape : c .before .before .before .before .before .match4 .blend ≡ valueOr (a .shape) plusZero =
-    elim (c .before .before .before .before .before .match4 .came) [
-      | inl w ↦ value-set plusZero (w .1 .given .1) (w .3)
-      | inr w ↦ value-unset plusZero (w .1 .given .1) (w .2)
-    ] in
-    accepts tremolo (tick t) (a .self) []
-    (sym
-    (tick-number tremolo 0 (a .self) t (sym (matched .before .before .before .before .before .state-fits .ensures) ∙ not-false _ (matched .before .before .before .before .if1 .left)) refl
-    (sym (ap numberOf (matched .before .enum-told .given .1)) ∙ matched .before .before .before .tick-causes .ensures)))
-    (rw (c .advance-phase .ensures))
+    let causes = c .before .before .before .before .before .before .before in
+    let values = causes .before in
+    let s = start values in
+    accepts tremolo (tick (handed s)) (s .args .self) []
+    (sym (number-is causes 0 (ap numberOf (c .before .before .before .before .before .enum-told4 .given .1))))
+    (rw (c .before .before .before .before .advance-phase .ensures))
     refl
-    (rw
-    (c .before .modulated .ensures, c .before .before .before .lfo .ensures, c .before .before .clamp2 .ensures, c .before .before .before .before .clamp .ensures, audio, depth, shape))
+    (ap (λ (y : Float). played (y ∷ []))
+    (sample-is (handed s) (s .args .self) (input-is values) (amount-is values) (blend-is values) (c .before .before .before .clamp .ensures) (c .before .before .lfo .ensures) (c .before .clamp2 .ensures)
+    (c .modulated .ensures)))
 
 pub tick-spec : {M : Type 1} → statement M
 tick-spec =
@@ -115,19 +151,19 @@ tick-spec =
     (tie.spec
     state-fits-requires
     returns
+    enum-known-audio
+    enum-told
+    enum-known-depth
+    enum-told-2
+    enum-known-shape
+    enum-told-3
     tick-causes-requires
     enum-known-causes
     returns-2
-    enum-told
-    enum-known-audio
-    enum-told-2
-    enum-known-depth
-    enum-told-3
-    enum-known-shape
     enum-told-4
+    advance-phase-requires
     clamp-requires
     lfo-requires
     clamp-requires-2
     modulated-requires
-    advance-phase-requires
     returns-3)
