@@ -1,0 +1,42 @@
+//! The table of refusals, read from document 01 and from nothing else: of each cause, whether it applies.
+
+pub const SAMPLE_RATE: u32 = 1;
+pub const STATE: u32 = 4;
+pub const CONTROL: u32 = 5;
+pub const CURVE: u32 = 6;
+
+/// One more than the table's last number.
+pub const NUMBERS: usize = 7;
+
+/// The number of the first cause that applies, 0 for none. The causes stand in the order of the call.
+pub fn first(causes: &[(u32, bool)]) -> u32 {
+    causes
+        .iter()
+        .find(|(_, applies)| *applies)
+        .map_or(0, |(number, _)| *number)
+}
+
+/// "sample rate NaN or outside 8,000 to 192,000"
+pub fn sample_rate(rate: f64) -> bool {
+    rate.is_nan() || rate < 8_000.0 || rate > 192_000.0
+}
+
+/// "every phase at least 0 and below 1": the state test fails where this is true.
+pub fn phase(phase: f64) -> bool {
+    !(phase >= 0.0 && phase < 1.0)
+}
+
+/// "a control read by this tick is set and NaN"
+pub fn control(port: Option<f64>) -> bool {
+    port.is_some_and(f64::is_nan)
+}
+
+/// "curve number NaN, ... a frequency outside 0 to 32"
+pub fn frequency(frequency: f64) -> bool {
+    frequency.is_nan() || frequency < 0.0 || frequency > 32.0
+}
+
+/// "curve number NaN, a sine outside −1 to 1"
+pub fn sine(sine: f64) -> bool {
+    sine.is_nan() || sine < -1.0 || sine > 1.0
+}

@@ -1,0 +1,3 @@
+//! Inside the Rust's timefx.rs: one file for each effect.
+
+pub mod tremolo;
