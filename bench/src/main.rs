@@ -1,0 +1,156 @@
+//! What a tick costs: the Rust's and ours, in one process, from one driver.
+//!
+//!     bench time                       ns per tick of every effect
+//!     bench count EFFECT SIDE TICKS    only these ticks, for callgrind; SIDE is rust or ours
+//!
+//! How it is taken:
+//! - Both are called functions: ours is in the static library, the Rust's tick stands behind `inline(never)`. The Rust's is
+//!   `tick_generic` with the cheapest frames (every port set, nothing to test) and in the release profile (fat LTO), so
+//!   nothing between the call and its tick is left.
+//! - Curve numbers are handed to both. Ours gets them as arguments. For the Rust the driver leaves them in memory before the
+//!   call: the frequency in the memo, under the key that the tick will ask for, and the sine where the shim of libm takes it by
+//!   one load. The driver does that in the rounds of every side, so that it favours none. What is left on the Rust's side is
+//!   the memo's own test, which is part of its tick.
+//! - Audio, controls, frequencies and sines move from tick to tick; the state is fed back; the samples are summed up, and both
+//!   sides must come to the same sum.
+//! - Rounds are interleaved, so that a machine that slows down slows both. The lowest is what the code can do; the median says
+//!   how noisy the machine was. "Driver" is a tick that copies its audio: what the loop and a call cost alone.
+
+mod inputs;
+mod tremolo;
+
+use inputs::{inputs, Input};
+use std::hint::black_box;
+use std::time::Instant;
+
+/// An effect: a unit of each side, started alike.
+pub trait Effect {
+    const NAME: &'static str;
+
+    fn start() -> Self;
+
+    /// Leave a tick's curve numbers where the Rust's tick takes them.
+    fn hand(&mut self, input: &Input);
+
+    fn rust(&mut self, input: &Input) -> f64;
+
+    fn ours(&mut self, input: &Input) -> f64;
+}
+
+const ROUNDS: usize = 400;
+const TICKS: usize = 40_000;
+
+fn main() {
+    let words: Vec<String> = std::env::args().skip(1).collect();
+    let words: Vec<&str> = words.iter().map(String::as_str).collect();
+    match words[..] {
+        ["time"] => {
+            print_row(
+                "ns a tick",
+                ["driver", "Rust", "ours", "ours / Rust"].map(String::from),
+            );
+            time::<tremolo::Tremolo>();
+        }
+        ["count", tremolo::Tremolo::NAME, side, ticks] => {
+            count::<tremolo::Tremolo>(side, ticks.parse().expect("ticks"))
+        }
+        _ => panic!("bench time, or bench count EFFECT SIDE TICKS"),
+    }
+}
+
+/// The driver. The sum of the samples' bits keeps every tick alive.
+#[inline(never)]
+fn drive<E: Effect>(
+    unit: &mut E,
+    tick: impl Fn(&mut E, &Input) -> f64,
+    inputs: &[Input],
+    ticks: usize,
+) -> u64 {
+    let mut sum = 0u64;
+    for input in inputs.iter().cycle().take(ticks) {
+        unit.hand(input);
+        sum = sum.rotate_left(1) ^ tick(unit, input).to_bits();
+    }
+    sum
+}
+
+#[no_mangle]
+#[inline(never)]
+extern "C" fn bench_nothing(audio: f64, out: &mut f64) {
+    *out = audio;
+}
+
+fn nothing<E: Effect>(_unit: &mut E, input: &Input) -> f64 {
+    let mut out = 0.0;
+    bench_nothing(input.audio, &mut out);
+    out
+}
+
+fn time<E: Effect>() {
+    let inputs = inputs();
+    let mut unit = E::start();
+    let mut times = [const { Vec::new() }; 3];
+    for round in 0..ROUNDS {
+        let [driver, rust, ours] = [
+            timed(|| drive(&mut unit, nothing, &inputs, TICKS)),
+            timed(|| drive(&mut unit, E::rust, &inputs, TICKS)),
+            timed(|| drive(&mut unit, E::ours, &inputs, TICKS)),
+        ];
+        assert_eq!(
+            rust.1,
+            ours.1,
+            "{}: the sides differ in round {round}",
+            E::NAME
+        );
+        for (times, (took, _)) in times.iter_mut().zip([driver, rust, ours]) {
+            times.push(took);
+        }
+    }
+    let [driver, rust, ours] = times.map(Spread::of);
+    let ratio = Spread {
+        lowest: ours.lowest / rust.lowest,
+        median: ours.median / rust.median,
+    };
+    print_row(E::NAME, [driver, rust, ours, ratio].map(Spread::shown));
+}
+
+fn print_row(name: &str, columns: [String; 4]) {
+    let [driver, rust, ours, ratio] = columns;
+    println!("{name:10} {driver:>22} {rust:>22} {ours:>22} {ratio:>22}");
+}
+
+/// ns per tick of a round, and its sum.
+fn timed(round: impl FnOnce() -> u64) -> (f64, u64) {
+    let start = Instant::now();
+    let sum = black_box(round());
+    (start.elapsed().as_secs_f64() * 1e9 / TICKS as f64, sum)
+}
+
+#[derive(Clone, Copy)]
+struct Spread {
+    lowest: f64,
+    median: f64,
+}
+
+impl Spread {
+    fn of(mut times: Vec<f64>) -> Self {
+        times.sort_by(f64::total_cmp);
+        Self {
+            lowest: times[0],
+            median: times[times.len() / 2],
+        }
+    }
+
+    fn shown(self) -> String {
+        format!("{:.2} (median {:.2})", self.lowest, self.median)
+    }
+}
+
+fn count<E: Effect>(side: &str, ticks: usize) {
+    let tick = match side {
+        "rust" => E::rust,
+        "ours" => E::ours,
+        _ => panic!("the side is rust or ours"),
+    };
+    println!("{:x}", drive(&mut E::start(), tick, &inputs(), ticks));
+}
