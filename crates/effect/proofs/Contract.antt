@@ -10,7 +10,7 @@ use lib.Ieee.{Float}
 use Rattle.port.specs.Answer.{Reply, done, refused}
 use Rattle.common.specs.Line.{zeros}
 use Rattle.effect.specs.Effect.{Effect}
-use Rattle.effect.specs.Run.{tick, retune, reset, ask, CallOf, Device, memoryNumber, startNumber, numberIn, moved, says}
+use Rattle.effect.specs.Run.{tick, retune, reset, ask, CallOf, Device, memoryNumber, startNumber, numberFor, numberIn, moved, says}
 use Rattle.effect.specs.Contract.{Does, Starts}
 use Rattle.effect.proofs.Table.{ifNone-some, first-some}
 
@@ -66,6 +66,10 @@ module _ (E : Effect) (n : ℕ) (s : E .State) where
   -- 4, of any call after the start
   pub state-refused : (c : CallOf E) → E .fits s ≡ false → _≡_ {A = ℕ} 4 (numberIn E c n s)
   state-refused c e = rw e
+
+  -- without it the rest of the call's row decides
+  pub state-passed : (c : CallOf E) {k : ℕ} → E .fits s ≡ true → k ≡ numberFor E c n (E .settings s) → k ≡ numberIn E c n s
+  state-passed c f e = rw f e
 
   -- retune 1, 2, 3
   pub retune-settings : (r : E .Retune) {k : ℕ} → E .fits s ≡ true → k ≡ E .settingsNumber (E .retuneSettings r (E .settings s)) → k ≢ 0

@@ -2,19 +2,17 @@
 use Prim.Native.Nat.{ℕ, zero, suc, _≤_}
 use native.Mathlib.Omega.{arith}
 use mathlib.Core.Path.{_≡_, refl, sym, ap, _∙_}
-use mathlib.Core.Bool.{true}
 use mathlib.Core.List.{List, [], _∷_, _++_}
-use lib.ListN.{length, getD, length-replicate}
-use lib.Ieee.{Float}
+use lib.ListN.{length, getD}
 use Rattle.float64.specs.Number.{plusZero}
 use Rattle.common.specs.Line.{zeros}
 use Rattle.effect.specs.Effect.{Effect, Unnamed}
-use Rattle.effect.specs.Run.{tick, retune, reset, ask, CallOf, Device, ifNone, numberAt, start, startNumber, started, moved, step, after, replies, Run, left}
+use Rattle.effect.specs.Run.{tick, retune, reset, ask, CallOf, Device, numberAt, startNumber, started, moved, step, after, replies, Run, left}
 use Rattle.effect.specs.Demand1.{Demand1, EndsCleared, at-start, at-reset, at-retune, clearedState, begun}
 use Rattle.effect.proofs.Laws.{Laws}
-use Rattle.effect.proofs.Memory.{length-laid, laid-elsewhere, below-unnamed}
-use Rattle.effect.proofs.Table.{ifNone-some, settings-accepted, tick-accepted, Accepted, accepted}
-use Rattle.effect.proofs.Runs.{InRun, number-is, run-in, start-in, after-in, run-told, along}
+use Rattle.effect.proofs.Memory.{laid-elsewhere, below-unnamed}
+use Rattle.effect.proofs.Table.{ifNone-both, ifNone-some, accepted}
+use Rattle.effect.proofs.Runs.{InRun, number-is, retune-clears, reset-clears, length-moved, moved-fits, start-in, after-in, run-in, along, run-told}
 
 getD-zeros : (n p : ℕ) → getD (zeros n) p plusZero ≡ plusZero
 getD-zeros zero p = refl
@@ -22,33 +20,12 @@ getD-zeros (suc n) zero = refl
 getD-zeros (suc n) (suc p) = getD-zeros n p
 
 module _ (E : Effect) where
-  asks : (h : Device (E .State)) → step E ask h ≡ h
-  asks h = go (numberAt E ask h)
-    where
-      go : (k : ℕ) → ifNone k h h ≡ h
-      go zero = refl
-      go (suc k) = refl
-
   leaves : (t : E .Tick) (h : Device (E .State)) (p : ℕ) → Unnamed p (E .writes t (h .state) (h .memory))
       → getD (step E (tick t) h .memory) p plusZero ≡ getD (h .memory) p plusZero
-  leaves t h p u = go (numberAt E (tick t) h)
-    where
-      go : (k : ℕ) → getD (ifNone k (moved E (tick t) h) h .memory) p plusZero ≡ getD (h .memory) p plusZero
-      go zero = laid-elsewhere (E .writes t (h .state) (h .memory)) (h .memory) p plusZero u
-      go (suc k) = refl
-
-  length-moved : (c : CallOf E) (h : Device (E .State)) → length (moved E c h .memory) ≡ length (h .memory)
-  length-moved (tick t) h = length-laid (E .writes t (h .state) (h .memory)) (h .memory)
-  length-moved (retune r) h = length-replicate _ _
-  length-moved reset h = length-replicate _ _
-  length-moved ask h = refl
-
-  lengths : (c : CallOf E) (h : Device (E .State)) → length (step E c h .memory) ≡ length (h .memory)
-  lengths c h = go (numberAt E c h)
-    where
-      go : (k : ℕ) → length (ifNone k (moved E c h) h .memory) ≡ length (h .memory)
-      go zero = length-moved c h
-      go (suc k) = refl
+  leaves t h p u =
+      ifNone-both (λ (v : Device (E .State)). getD (v .memory) p plusZero ≡ getD (h .memory) p plusZero) (numberAt E (tick t) h)
+      (laid-elsewhere (E .writes t (h .state) (h .memory)) (h .memory) p plusZero u)
+      refl
 
   -- the last of the calls, accepted
   after-last : (bs : List (CallOf E)) (c : CallOf E) (h : Device (E .State)) → numberAt E c (after E bs h) ≡ 0 → after E (bs ++ c ∷ []) h ≡ moved E c (after E bs h)
@@ -63,9 +40,9 @@ module _ (E : Effect) (laws : Laws E) where
   unfolding after
   clean x cs at-start = rw (x .accepted)
   clean x cs (at-reset bs e) =
-      ap (λ (h : Device (E .State)). h .memory) (after-last E bs reset (begun E x) e) ∙ ap zeros (after-in E laws bs (start-in E laws x) .size)
+      rw (after-last E bs reset (begun E x) e) (reset-clears E (after E bs (begun E x)) ∙ ap zeros (after-in E laws bs (start-in E laws x) .size))
   clean x cs (at-retune bs r e) =
-      ap (λ (h : Device (E .State)). h .memory) (after-last E bs (retune r) (begun E x) e) ∙ ap zeros (after-in E laws bs (start-in E laws x) .size)
+      rw (after-last E bs (retune r) (begun E x) e) (retune-clears E r (after E bs (begun E x)) ∙ ap zeros (after-in E laws bs (start-in E laws x) .size))
 
   cleared : (x : Run E) (cs : List (CallOf E)) (c : EndsCleared E (begun E x) cs)
       → after E cs (begun E x) .state ≡ clearedState E (begun E x) (E .settings (after E cs (begun E x) .state)) c
@@ -96,8 +73,8 @@ module _ (E : Effect) (laws : Laws E) where
       laid-elsewhere ws (u .memory) p plusZero
       (below-unnamed ws (E .places (E .settings (u .state))) p (laws .inside t (u .state) (u .memory) (i .fits)) (omega (arith, e)))
       ∙ z (omega (arith, e))
-  spare-moved p n u (retune r) i z h = getD-zeros (length (u .memory)) p
-  spare-moved p n u reset i z h = getD-zeros (length (u .memory)) p
+  spare-moved p n u (retune r) i z h = rw (retune-clears E r u) (getD-zeros (length (u .memory)) p)
+  spare-moved p n u reset i z h = rw (reset-clears E u) (getD-zeros (length (u .memory)) p)
   spare-moved p n u ask i z h = z h
 
   spare : (x : Run E) (p : ℕ) → SpareZero p (left E x)
@@ -106,21 +83,6 @@ module _ (E : Effect) (laws : Laws E) where
       (spare-moved p (length (x .memory)))
 
   -- ---- one call, in a run or not
-
-  moved-fits : (c : CallOf E) (h : Device (E .State)) → Accepted E (length (h .memory)) c (h .state) → E .fits (moved E c h .state) ≡ true
-  moved-fits (tick t) h a =
-      let v = tick-accepted E (length (h .memory)) t (E .settings (h .state)) (a .number) in
-      laws .next-fits t (h .state) (h .memory) (a .fits) (v .enough) (v .number)
-  moved-fits (retune r) h a =
-      let k = E .retuneSettings r (E .settings (h .state)) in
-      laws .retuned-fits k (h .state) (settings-accepted E (length (h .memory)) k (a .number) .number) (a .fits)
-  moved-fits reset h a = laws .fresh-fits (E .settings (h .state)) (laws .settings-fit (h .state) (a .fits))
-  moved-fits ask h a = a .fits
-
-  starts : (a : E .Start) (m : List Float) → startNumber E a (length m) ≡ 0 → E .fits (start E a m .state) ≡ true
-  starts a m e =
-      let k = E .startSettings a in
-      rw e (laws .fresh-fits k (settings-accepted E (length m) k e .number))
 
   spares : (t : E .Tick) (h : Device (E .State)) (p : ℕ) → numberAt E (tick t) h ≡ 0 → E .places (E .settings (h .state)) ≤ p
       → getD (step E (tick t) h .memory) p plusZero ≡ getD (h .memory) p plusZero
@@ -138,16 +100,16 @@ module _ (E : Effect) (laws : Laws E) where
             (ap (λ (h : Device (E .State)). after E cs h) e, ap (λ (h : Device (E .State)). replies E cs h) e);
         cleared = λ x. cleared x (x .calls);
         passes = λ x. run-in E laws x .fits;
-        numbers = λ x c. number-is E c (run-in E laws x);
+        numbers = λ x c. number-is E c (run-in E laws x) refl;
         enough = λ x. run-in E laws x .enough;
         spare = spare;
         leaves = leaves E;
         spares = spares;
         refuses = λ c h. ifNone-some (numberAt E c h) (moved E c h) h;
-        asks = asks E;
+        asks = λ h. ifNone-both (λ u. u ≡ h) (numberAt E ask h) refl refl;
         refused-start = λ a m. ifNone-some (startNumber E a (length m)) (started E a m) (record { state = E .blank; memory = m });
         blank = laws .blank-refused;
-        lengths = lengths E;
-        starts = starts;
-        returns = λ c h e. rw e (moved-fits c h (accepted E (length (h .memory)) c (h .state) e));
+        lengths = λ c h. ifNone-both (λ (u : Device (E .State)). length (u .memory) ≡ length (h .memory)) (numberAt E c h) (length-moved E c h) refl;
+        starts = λ a m e. start-in E laws (record { handed = a; memory = m; accepted = e; calls = [] }) .fits;
+        returns = λ c h e. rw e (moved-fits E laws c h (accepted E (length (h .memory)) c (h .state) e));
       }

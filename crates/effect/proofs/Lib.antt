@@ -4,3 +4,9 @@ pub mod Table
 pub mod Contract
 pub mod Runs
 pub mod Demand1
+pub mod LineLaws
+pub mod Lines
+pub mod Past
+pub mod Later
+pub mod Demand3
+pub mod Covers

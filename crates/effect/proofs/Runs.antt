@@ -1,6 +1,5 @@
 -- Along a run every state passes the state test, and state and memory are what the arguments tell. Assumes the effect's laws.
 use Prim.Native.Nat.{ℕ, zero, suc, _≤_}
-use native.Mathlib.Omega.{arith}
 use mathlib.Core.Path.{_≡_, refl, sym, ap, _∙_, subst}
 use mathlib.Core.Bool.{true}
 use mathlib.Core.List.{List, [], _∷_}
@@ -12,7 +11,7 @@ use Rattle.effect.specs.Run.{tick, retune, reset, ask, CallOf, Device, i
 use Rattle.effect.specs.Told.{Told, laidOut, added, tell, toldFrom, told}
 use Rattle.effect.proofs.Laws.{Laws}
 use Rattle.effect.proofs.Memory.{length-laid, laid-append}
-use Rattle.effect.proofs.Table.{settings-accepted, tick-accepted}
+use Rattle.effect.proofs.Table.{settings-accepted, tick-accepted, Accepted}
 
 -- what holds of a unit along a run in a memory of n places
 pub record InRun (E : Effect) (n : ℕ) (h : Device (E .State)) : Type 0 where
@@ -21,48 +20,71 @@ pub record InRun (E : Effect) (n : ℕ) (h : Device (E .State)) : Type 0 where
   pub enough : E .places (E .settings (h .state)) ≤ n
 
 module _ (E : Effect) where
-  -- cause 4 never applies
-  pub number-is : {n : ℕ} {h : Device (E .State)} (c : CallOf E) → InRun E n h → numberAt E c h ≡ numberFor E c n (E .settings (h .state))
-  number-is c i = rw (i .fits, i .size)
+  -- cause 4 never applies: acceptance is settled by the arguments, the memory's length and the settings in force
+  pub number-is : {n : ℕ} {h : Device (E .State)} {k : E .Settings} (c : CallOf E) → InRun E n h → E .settings (h .state) ≡ k
+      → numberAt E c h ≡ numberFor E c n k
+  number-is c i e = rw (i .fits, i .size, e)
 
   -- what holds of the unit, and after the call if that is accepted, holds after the call
   pub step-cases : (P : Device (E .State) → Type 0) {n : ℕ} {h : Device (E .State)} (c : CallOf E) → InRun E n h → P h
       → (numberFor E c n (E .settings (h .state)) ≡ 0 → P (moved E c h)) → P (step E c h)
-  step-cases P {n} {h} c i p q = rw (number-is c i) (go (numberFor E c n (E .settings (h .state))) refl)
+  step-cases P {n} {h} c i p q = rw (number-is c i refl) (go (numberFor E c n (E .settings (h .state))) refl)
     where
       go : (k : ℕ) → numberFor E c n (E .settings (h .state)) ≡ k → P (ifNone k (moved E c h) h)
       go zero e = q e
       go (suc k) e = p
 
+  -- a clearing leaves +0 in every place
+  pub retune-clears : (r : E .Retune) (h : Device (E .State)) → moved E (retune r) h .memory ≡ zeros (length (h .memory))
+  retune-clears r h = refl
+
+  pub reset-clears : (h : Device (E .State)) → moved E reset h .memory ≡ zeros (length (h .memory))
+  reset-clears h = refl
+
+  pub length-moved : (c : CallOf E) (h : Device (E .State)) → length (moved E c h .memory) ≡ length (h .memory)
+  length-moved (tick t) h = length-laid (E .writes t (h .state) (h .memory)) (h .memory)
+  length-moved (retune r) h = rw (retune-clears r h) (length-replicate _ _)
+  length-moved reset h = rw (reset-clears h) (length-replicate _ _)
+  length-moved ask h = refl
+
 module _ (E : Effect) (laws : Laws E) where
-  -- a clearing that leaves the settings k in force
-  cleared-in : {n : ℕ} (k : E .Settings) (s : E .State) (l : ℕ) → l ≡ n → E .settings s ≡ k → E .fits s ≡ true → E .places k ≤ n
-      → InRun E n (record { state = s; memory = zeros l })
-  cleared-in k s l e c f r = record { size = length-replicate _ _ ∙ e; fits = f; enough = omega (arith, ap (E .places) c) }
+  pub moved-fits : (c : CallOf E) (h : Device (E .State)) → Accepted E (length (h .memory)) c (h .state) → E .fits (moved E c h .state) ≡ true
+  moved-fits (tick t) h a =
+      let v = tick-accepted E (length (h .memory)) t (E .settings (h .state)) (a .number) in
+      laws .next-fits t (h .state) (h .memory) (a .fits) (v .enough) (v .number)
+  moved-fits (retune r) h a =
+      let k = E .retuneSettings r (E .settings (h .state)) in
+      laws .retuned-fits k (h .state) (settings-accepted E (length (h .memory)) k (a .number) .number) (a .fits)
+  moved-fits reset h a = laws .fresh-fits (E .settings (h .state)) (laws .settings-fit (h .state) (a .fits))
+  moved-fits ask h a = a .fits
+
+  -- an accepted call leaves settings that the memory has the places for
+  moved-enough : (n : ℕ) (c : CallOf E) (h : Device (E .State)) → E .places (E .settings (h .state)) ≤ n → numberFor E c n (E .settings (h .state)) ≡ 0
+      → E .places (E .settings (moved E c h .state)) ≤ n
+  moved-enough n (tick t) h l e = rw (laws .next-settings t (h .state) (h .memory)) l
+  moved-enough n (retune r) h l e =
+      let k = E .retuneSettings r (E .settings (h .state)) in
+      rw (laws .retuned-settings k (h .state)) (settings-accepted E n k e .enough)
+  moved-enough n reset h l e = rw (laws .fresh-settings (E .settings (h .state))) l
+  moved-enough n ask h l e = l
 
   pub start-in : (x : Run E) → InRun E (length (x .memory)) (start E (x .handed) (x .memory))
   start-in x =
       let k = E .startSettings (x .handed) in
       let v = settings-accepted E (length (x .memory)) k (x .accepted) in
-      rw (x .accepted)
-      (cleared-in k (E .fresh k) (length (x .memory)) refl (laws .fresh-settings k) (laws .fresh-fits k (v .number)) (v .enough))
+      record {
+        size = rw (x .accepted) (length-replicate _ _);
+        fits = rw (x .accepted) (laws .fresh-fits k (v .number));
+        enough = rw (x .accepted, laws .fresh-settings k) (v .enough);
+      }
 
   pub moved-in : {n : ℕ} {h : Device (E .State)} (c : CallOf E) → InRun E n h → numberFor E c n (E .settings (h .state)) ≡ 0 → InRun E n (moved E c h)
-  moved-in {n} {h} (tick t) i e =
-      let m = h .memory in
+  moved-in {n} {h} c i e =
       record {
-        size = length-laid (E .writes t (h .state) m) m ∙ i .size;
-        fits = laws .next-fits t (h .state) m (i .fits) (omega (arith, i .enough, i .size)) (tick-accepted E n t (E .settings (h .state)) e .number);
-        enough = omega (arith, i .enough, ap (E .places) (laws .next-settings t (h .state) m));
+        size = length-moved E c h ∙ i .size;
+        fits = moved-fits c h (record { fits = i .fits; number = rw (i .size) e });
+        enough = moved-enough n c h (i .enough) e;
       }
-  moved-in {n} {h} (retune r) i e =
-      let k = E .retuneSettings r (E .settings (h .state)) in
-      let v = settings-accepted E n k e in
-      cleared-in k (E .retuned k (h .state)) (length (h .memory)) (i .size) (laws .retuned-settings k (h .state)) (laws .retuned-fits k (h .state) (v .number) (i .fits)) (v .enough)
-  moved-in {n} {h} reset i e =
-      let k = E .settings (h .state) in
-      cleared-in k (E .fresh k) (length (h .memory)) (i .size) (laws .fresh-settings k) (laws .fresh-fits k (laws .settings-fit (h .state) (i .fits))) (i .enough)
-  moved-in ask i e = i
 
   pub step-in : {n : ℕ} {h : Device (E .State)} (c : CallOf E) → InRun E n h → InRun E n (step E c h)
   step-in {n} c i = step-cases E (λ h. InRun E n h) c i i (moved-in c i)
@@ -99,7 +121,7 @@ module _ (E : Effect) (laws : Laws E) where
   moved-told n t ask = refl
 
   step-told : {n : ℕ} (c : CallOf E) (t : Told (E .State)) → InRun E n (laidOut n t) → step E c (laidOut n t) ≡ laidOut n (tell E n c t)
-  step-told {n} c t i = rw (number-is E c i) (go (numberFor E c n (E .settings (t .state))))
+  step-told {n} c t i = rw (number-is E c i refl) (go (numberFor E c n (E .settings (t .state))))
     where
       t' : Told (E .State)
       t' = record { state = moved E c (laidOut n t) .state; written = added E c (laidOut n t) (t .written) }

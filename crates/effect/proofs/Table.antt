@@ -1,4 +1,4 @@
--- The table's numbers: what stands behind a 0, and that no cause has the number 0. Assumes nothing.
+-- The table's numbers: what stands behind a 0. Assumes nothing.
 use Prim.Native.Nat.{ℕ, zero, suc, _≤_, _<_}
 use native.Mathlib.Omega.{arith}
 use mathlib.Core.Path.{_≡_, refl}
@@ -6,21 +6,15 @@ use mathlib.Core.Logic.{_≢_}
 use mathlib.Core.Bool.{Bool, true, false, cond}
 use lib.Dec.{ltb}
 use borrow.Author.Tests.{ltb-false, lt-ltb, le-ltb}
-use Rattle.port.specs.declared.Refusal.{Refusal}
-use Rattle.port.specs.declared.Refusal.the-variants.{SampleRate, GlideCoefficient, Memory, State, Control, Curve}
-use Rattle.port.specs.Answer.{number}
 use Rattle.effect.specs.Effect.{Effect}
 use Rattle.effect.specs.Run.{tick, CallOf, ifNone, first, memoryNumber, numberFor, numberIn}
 
 -- ---- numbers
 
-pub number-some : (r : Refusal) → number r ≢ 0
-number-some SampleRate = omega arith
-number-some GlideCoefficient = omega arith
-number-some Memory = omega arith
-number-some State = omega arith
-number-some Control = omega arith
-number-some Curve = omega arith
+-- what holds in both cases holds
+pub ifNone-both : {A : Type 0} (P : A → Type 0) (k : ℕ) {a b : A} → P a → P b → P (ifNone k a b)
+ifNone-both P zero p q = p
+ifNone-both P (suc k) p q = q
 
 pub ifNone-some : {A : Type 0} (k : ℕ) (a b : A) → k ≢ 0 → ifNone k a b ≡ b
 ifNone-some zero a b f = absurd (f refl)

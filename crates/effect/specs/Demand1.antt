@@ -19,7 +19,7 @@ pub data EndsCleared (E : Effect) (h : Device (E .State)) : List (CallOf E) → 
   at-reset : (bs : List (CallOf E)) → numberAt E reset (after E bs h) ≡ 0 → EndsCleared E h (bs ++ reset ∷ [])
   at-retune : (bs : List (CallOf E)) (r : E .Retune) → numberAt E (retune r) (after E bs h) ≡ 0 → EndsCleared E h (bs ++ retune r ∷ [])
 
--- The state that the clearing leaves, by the settings k that it leaves in force. Only a retune keeps anything: the phases of chorus and flanger.
+-- The state that the clearing leaves, by the settings k that it leaves in force. A retune keeps the phases of chorus and flanger.
 abbrev pub clearedState : (E : Effect) (h : Device (E .State)) (k : E .Settings) {cs : List (CallOf E)} → EndsCleared E h cs → E .State
 clearedState E h k at-start = E .fresh k
 clearedState E h k (at-reset bs e) = E .fresh k
@@ -42,7 +42,7 @@ pub record Demand1 (E : Effect) : Type 0 where
   pub forgets : (x y : Run E) → EndsCleared E (begun E x) (x .calls) → EndsCleared E (begun E y) (y .calls) → left E x .state ≡ left E y .state
       → length (x .memory) ≡ length (y .memory)
       → (cs : List (CallOf E)) → (after E cs (left E x) ≡ after E cs (left E y)) × (replies E cs (left E x) ≡ replies E cs (left E y))
-  -- those states are worked out from the settings in force, what a retune keeps aside
+  -- That state is worked out from the settings in force; only a retune keeps parts of the state before it.
   pub cleared : (x : Run E) (c : EndsCleared E (begun E x) (x .calls)) → left E x .state ≡ clearedState E (begun E x) (E .settings (left E x .state)) c
   -- every state of a run passes the state test, so cause 4 never applies
   pub passes : (x : Run E) → E .fits (left E x .state) ≡ true

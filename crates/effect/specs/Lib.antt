@@ -3,3 +3,8 @@ pub mod Run
 pub mod Contract
 pub mod Told
 pub mod Demand1
+pub mod Lines
+pub mod Past
+pub mod Later
+pub mod Demand3
+pub mod Covers
