@@ -1,14 +1,10 @@
 -- A float that lies strictly between the infinities passes the input rule, and no other does. Assumes nothing.
 use mathlib.Core.Path.{_≡_, refl}
-use mathlib.Core.Bool.{Bool, true, false}
-use Prim.Native.Nat.{ℕ}
-use native.Mathlib.Omega.{arith}
+use mathlib.Core.Bool.{true, false}
 use lib.Ieee.{Float, nan, inf, fin, lt}
 use Rattle.float64.specs.Number.{plusZero}
+use Rattle.float64.proofs.Tests.{clash}
 use Rattle.common.specs.Signal.{sanitized}
-
-clash : {A : Type 0} {b : Bool} → b ≡ true → b ≡ false → A
-clash p q = let z : _≡_ {A = ℕ} 0 1 = cc in absurd (omega arith)
 
 pub between : (x : Float) → lt x (inf false) ≡ true → lt (inf true) x ≡ true → x ≡ sanitized x
 unfolding lt

@@ -1,3 +1,5 @@
 pub mod Finite
 pub mod Fill
 pub mod Ring
+pub mod Reading
+pub mod Phases

@@ -62,6 +62,22 @@ pub fn next_place(n: u64, w: u64) -> u64
     next
 }
 
+// What stands `distance` samples back from the write position w of a line. Both places are multiplied, also where the fraction is 0.
+pub fn read_interpolated(line: &[f64], w: usize, distance: f64) -> f64
+    requires { ⌜ w < length (now line) ⌝ }
+    requires { ⌜ length (now line) ≤ 16777217 ⌝ }
+    requires { ⌜ inRange distance (whole 1) (whole (length (now line) - 1)) ≡ true ⌝ }
+    ensures { λ r. ⌜ r ≡ readAt (lineAt 0 (length (now (line .entry))) w (now (line .entry))) distance ⌝ }
+{
+    let n = line.len();
+    let whole = float64::whole_part_small(distance);
+    let d = whole as usize;
+    let f = distance - std::num::nearest_u64_to_f64(whole as u32 as u64);
+    let p = place_back(n, w, d);
+    let q = place_back(n, w, d + 1);
+    blend(line[p], line[q], f)
+}
+
 // A clearing: +0 in every place.
 pub fn clear(mem: &mut [f64])
     ensures { λ _. ⌜ now (mem .exit) ≡ zeros (length (now (mem .entry))) ⌝ }

@@ -28,6 +28,17 @@ none-first : (a b : ℕ) → first a b ≡ 0 → (a ≡ 0) × (b ≡ 0)
 none-first zero b e = (refl, e)
 none-first (suc a) b e = absurd (omega arith)
 
+-- ---- a number that is none, of the tests behind it
+
+pub none-1 : (passes : Bool) → _≡_ {A = ℕ} (cond passes 0 1) 0 → passes ≡ true
+none-1 true e = refl
+none-1 false e = absurd (omega arith)
+
+pub none-5-6 : (applies passes : Bool) → _≡_ {A = ℕ} (cond applies 5 (cond passes 0 6)) 0 → passes ≡ true
+none-5-6 true passes e = absurd (omega arith)
+none-5-6 false true e = refl
+none-5-6 false false e = absurd (omega arith)
+
 -- ---- cause 3
 
 pub memory-short : {needed n : ℕ} → n < needed → _≡_ {A = ℕ} 3 (memoryNumber needed n)

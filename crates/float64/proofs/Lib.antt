@@ -1,3 +1,19 @@
+-- The float laws. A client needs Interval, Ranges, Clamped, Phase, Glide, Parts and Lengths; what is below them counts values in units of the smallest one. Assumes nothing.
+pub mod Units
+pub mod Round
+pub mod Keys
+pub mod Near
+pub mod Order
+pub mod Same
+pub mod Interval
+pub mod Ranges
+pub mod Clamped
+pub mod Phase
+pub mod Wholes
+pub mod Glide
+pub mod Parts
+pub mod Lengths
+pub mod Rounding
 pub mod Digits
 pub mod Tests
 pub mod Absolute

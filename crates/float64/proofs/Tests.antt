@@ -44,6 +44,11 @@ nan-test (inf false) = refl
 nan-test (fin true m e) = rw (eq-eqb (m * up e * down e) (m * up e * down e) refl)
 nan-test (fin false m e) = rw (eq-eqb (m * up e * down e) (m * up e * down e) refl)
 
+-- both tests of a conjunction that passes pass
+pub both : (a b : Bool) → a && b ≡ true → (a ≡ true) × (b ≡ true)
+both true b e = (refl, e)
+both false b e = clash e refl
+
 pub not-not : (b : Bool) → not (not b) ≡ b
 not-not true = refl
 not-not false = refl

@@ -3,7 +3,7 @@ ghost use mathlib.Core.Path.{_≡_};
 ghost use mathlib.Core.Bool.{not};
 ghost use lib.Dec.{T};
 ghost use lib.Ieee as Ieee;
-ghost use Rattle.float64.specs.Number.{whole, isNumber, inRange, inUnit, rateFits, coefficientFits, phaseFits, frequencyFits, sineFits, clampOf, atLeast, atMost, absolute, wholePart};
+ghost use Rattle.float64.specs.Number.{whole, isNumber, inRange, inUnit, rateFits, coefficientFits, phaseFits, frequencyFits, sineFits, clampOf, atLeast, atMost, absolute, wholePart, roundHalfAway};
 
 // Whether x is a NaN.
 pub fn is_nan(x: f64) -> bool
@@ -136,4 +136,17 @@ fn whole_part_large(x: f64) -> u64
         return 18446744073709551615;
     }
     0
+}
+
+// The nearest whole number, halves away from zero: the Rust's `round(x) as usize`.
+pub fn round_half_away(x: f64) -> u64
+    ensures { λ r. ⌜ r ≡ roundHalfAway x ⌝ }
+{
+    let down = whole_part(x);
+    if x < 4503599627370496.0 {
+        if x - std::num::nearest_u64_to_f64(down) >= 0.5 {
+            return down + 1;
+        }
+    }
+    down
 }

@@ -1,1 +1,2 @@
 pub mod Tremolo
+pub mod Bench

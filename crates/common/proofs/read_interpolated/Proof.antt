@@ -1,0 +1,99 @@
+-- `common::read_interpolated` is `readAt` of the line: a distance from 1 to L − 1 has its whole part there, so both places lie in the line. Assumes nothing.
+use Prim.Native.Nat.{ℕ, _+_, _-_, _≤_, _<_}
+use native.Mathlib.Omega.{arith}
+use mathlib.Core.Path.{_≡_, sym, subst}
+use lib.ListN.{length}
+use lib.Ieee.{binary64}
+use borrow.Author.Needs.{needs}
+use Rattle.float64.specs.Number.{whole, wholePart}
+use Rattle.float64.proofs.Interval.{In}
+use Rattle.float64.proofs.Ranges.{range-in}
+use Rattle.float64.proofs.Parts.{Parts, parts-of, whole-ends}
+use Rattle.common.proofs.Reading.{read-is}
+use Rattle.common.proofs.read_interpolated.Statement.{statement}
+use Rattle.common.proofs.read_interpolated.Tie as tie
+
+module _ (s : tie.Start) where
+  abbrev last : ℕ
+  last = length (s .args .line .now) - 1
+
+  short : last ≤ 16777216
+  short = omega (arith, s .pre .1 .0)
+
+  distance-in : In binary64 (whole 1) (whole last) (s .args .distance)
+  distance-in = range-in (whole-ends last short) (s .pre .1 .1)
+
+  parts : Parts last (s .args .distance)
+  parts = parts-of last short distance-in
+
+-- the whole part as the code has it: from 1 to L − 1
+in-line : (c : tie.After-whole-part-small) → (1 ≤ c .whole-part-small .result) × (c .whole-part-small .result < length (c .before .before .args .line .now))
+in-line c =
+    let p = parts (c .before .before) in
+    let e = c .whole-part-small .ensures in
+    (subst (λ (n : ℕ). 1 ≤ n) (sym e) (p .at-least), under (c .whole-part-small .result) (wholePart (c .before .before .args .distance)) (length (c .before .before .args .line .now)) e (p .at-least) (p .at-most))
+  where
+    under : (r d n : ℕ) → r ≡ d → 1 ≤ d → d ≤ n - 1 → r < n
+    under r d n e h k = omega arith
+
+whole-part-small-requires : tie.Need-whole-part-small-requires
+whole-part-small-requires c κs = (distance-in (c .before) .lower, parts (c .before) .small)
+
+cast-nearest-u64-to-f64 : tie.Need-cast-nearest-u64-to-f64
+cast-nearest-u64-to-f64 c = omega (arith, in-line c .1, c .before .before .pre .1 .0)
+
+cast-nearest-u64-to-f64-2 : tie.Need-cast-nearest-u64-to-f64-2
+cast-nearest-u64-to-f64-2 c = search needs
+
+nearest-u64-to-f64-requires : tie.Need-nearest-u64-to-f64-requires
+nearest-u64-to-f64-requires c κs = search needs
+
+place-back-requires : tie.Need-place-back-requires
+place-back-requires c κs = let r = in-line (c .before) in (c .before .before .before .pre .0, (omega (arith, r .1), (r .0, omega (arith, c .before .before .before .pre .1 .0))))
+
+add-place-back : tie.Need-add-place-back
+add-place-back c = omega (arith, in-line (c .before .before) .1, c .before .before .before .before .pre .1 .0)
+
+place-back-requires-2 : tie.Need-place-back-requires-2
+place-back-requires-2 c κs = let r = in-line (c .before .before) in (c .before .before .before .before .pre .0, (omega (arith, r .1), (omega arith, omega (arith, c .before .before .before .before .pre .1 .0))))
+
+mul-blend : tie.Need-mul-blend
+mul-blend c = search needs
+
+shared-slice-read-blend : tie.Need-shared-slice-read-blend
+shared-slice-read-blend c = search needs
+
+mul-blend-2 : tie.Need-mul-blend-2
+mul-blend-2 c = search needs
+
+shared-slice-read-blend-2 : tie.Need-shared-slice-read-blend-2
+shared-slice-read-blend-2 c = search needs
+
+blend-requires : tie.Need-blend-requires
+blend-requires c κs = search needs
+
+returns : tie.Need-returns
+returns c =
+    let q = c .before .before .before in
+    let d = q .before .before .before in
+    let a = d .before .before .args in
+    read-is (a .line .now) (a .w) (a .distance) _ _ _ _ _ (d .whole-part-small .ensures) (q .before .place-back .ensures .0) (q .place-back2 .ensures .0)
+    (q .before .before .nearest-u64-to-f64 .ensures) (c .blend .ensures)
+
+pub read-interpolated-spec : {M : Type 1} → statement M
+read-interpolated-spec =
+    tie.close
+    (tie.spec
+    whole-part-small-requires
+    cast-nearest-u64-to-f64
+    cast-nearest-u64-to-f64-2
+    nearest-u64-to-f64-requires
+    place-back-requires
+    add-place-back
+    place-back-requires-2
+    mul-blend
+    shared-slice-read-blend
+    mul-blend-2
+    shared-slice-read-blend-2
+    blend-requires
+    returns)

@@ -1,0 +1,58 @@
+-- Demand 1 for the tremolo, by the laws of its parts. Assumes nothing.
+use mathlib.Core.Path.{_≡_, refl}
+use mathlib.Core.Bool.{true, false, _&&_, _||_}
+use lib.Ieee.{Float, le, lt, ofInt}
+use lib.Ieee as Ieee
+use Rattle.float64.specs.Number.{plusZero, rateFits, phaseFits, frequencyFits, sineFits, inRange, inUnit}
+use Rattle.port.specs.Port.{isNanSet}
+use Rattle.common.proofs.Phases.{phase-stays}
+use Rattle.float64.proofs.Tests.{both}
+use Rattle.effect.proofs.Table.{none-1, none-5-6}
+use Rattle.effect.proofs.Laws.{Laws}
+use Rattle.effect.specs.Demand1.{Demand1}
+use Rattle.effect.proofs.Demand1.{demand-1}
+use Rattle.tremolo.specs.declared.Tremolo.{Tremolo}
+use Rattle.tremolo.specs.Tremolo.{Tick, tremolo, fits, fresh, blank, tickNumber, next}
+
+-- ---- the laws
+
+blank-refused : fits blank ≡ false
+unfolding fits inRange le ofInt Ieee.fits
+blank-refused = refl
+
+zero-phase : phaseFits plusZero ≡ true
+unfolding inUnit le lt ofInt Ieee.fits
+zero-phase = refl
+
+fresh-fits : (rate : Float) → rateFits rate ≡ true → fits (fresh rate) ≡ true
+unfolding fits
+fresh-fits rate h = rw (h, zero-phase)
+
+parts : (s : Tremolo) → fits s ≡ true → (rateFits (s .«sample_rate») ≡ true) × (phaseFits (s .«lfo_phase») ≡ true)
+unfolding fits
+parts s e = both (rateFits (s .«sample_rate»)) (phaseFits (s .«lfo_phase»)) e
+
+next-fits : (t : Tick) (s : Tremolo) → fits s ≡ true → tickNumber (t .depth) (t .shape) (t .frequency) (t .sine) ≡ 0 → fits (next t s) ≡ true
+unfolding fits next tickNumber
+next-fits t s e n =
+    let p = parts s e in
+    let f = both (frequencyFits (t .frequency)) (sineFits (t .sine)) (none-5-6 (isNanSet (t .depth) || isNanSet (t .shape)) (frequencyFits (t .frequency) && sineFits (t .sine)) n) .0 in
+    rw (p .0) (phase-stays (s .«lfo_phase») (t .frequency) (s .«sample_rate») (p .1) f (p .0))
+
+pub laws : Laws tremolo
+unfolding next
+laws =
+    record {
+      blank-refused = blank-refused;
+      settings-fit = λ s e. rw (parts s e .0);
+      fresh-settings = λ k. refl;
+      retuned-settings = λ k s. refl;
+      next-settings = λ t s m. refl;
+      fresh-fits = λ k e. fresh-fits k (none-1 (rateFits k) e);
+      retuned-fits = λ k s e f. fresh-fits k (none-1 (rateFits k) e);
+      next-fits = λ t s m e r n. next-fits t s e n;
+      inside = λ t s m e. tt;
+    }
+
+pub shown : Demand1 tremolo
+shown = demand-1 tremolo laws
