@@ -7,10 +7,10 @@
 //! - Both are called functions: ours is in the static library, the Rust's tick stands behind `inline(never)`. The Rust's is
 //!   `tick_generic` with the cheapest frames (every port set, nothing to test) and in the release profile (fat LTO), so
 //!   nothing between the call and its tick is left.
-//! - Curve numbers are handed to both. Ours gets them as arguments. For the Rust the driver leaves them in memory before the
-//!   call: the frequency in the memo, under the key that the tick will ask for, and the sine where the shim of libm takes it by
-//!   one load. The driver does that in the rounds of every side, so that it favours none. What is left on the Rust's side is
-//!   the memo's own test, which is part of its tick.
+//! - Curve numbers are handed to both, to each in its own way. Ours gets them as arguments. For the Rust the driver leaves them
+//!   in memory before the call: the frequency in the memo, under the key that the tick will ask for, and the sine where the shim
+//!   of libm takes it by one load. "Rust, curves still" is the Rust without these stores, its curve numbers the same in every
+//!   tick: what they cost it. What is left on the Rust's side is the memo's own test, which is part of its tick.
 //! - Audio, controls, frequencies and sines move from tick to tick; the state is fed back; the samples are summed up, and both
 //!   sides must come to the same sum.
 //! - Rounds are interleaved, so that a machine that slows down slows both. The lowest is what the code can do; the median says
@@ -47,7 +47,7 @@ fn main() {
         ["time"] => {
             print_row(
                 "ns a tick",
-                ["driver", "Rust", "ours", "ours / Rust"].map(String::from),
+                ["driver", "Rust, curves still", "Rust", "ours", "ours / Rust"].map(String::from),
             );
             time::<tremolo::Tremolo>();
         }
@@ -68,7 +68,6 @@ fn drive<E: Effect>(
 ) -> u64 {
     let mut sum = 0u64;
     for input in inputs.iter().cycle().take(ticks) {
-        unit.hand(input);
         sum = sum.rotate_left(1) ^ tick(unit, input).to_bits();
     }
     sum
@@ -86,14 +85,24 @@ fn nothing<E: Effect>(_unit: &mut E, input: &Input) -> f64 {
     out
 }
 
+/// The Rust's tick with its curve numbers handed over.
+#[inline(always)]
+fn handed<E: Effect>(unit: &mut E, input: &Input) -> f64 {
+    unit.hand(input);
+    unit.rust(input)
+}
+
 fn time<E: Effect>() {
     let inputs = inputs();
     let mut unit = E::start();
-    let mut times = [const { Vec::new() }; 3];
+    let mut other = E::start();
+    other.hand(&inputs[0]);
+    let mut times = [const { Vec::new() }; 4];
     for round in 0..ROUNDS {
-        let [driver, rust, ours] = [
+        let [driver, still, rust, ours] = [
             timed(|| drive(&mut unit, nothing, &inputs, TICKS)),
-            timed(|| drive(&mut unit, E::rust, &inputs, TICKS)),
+            timed(|| drive(&mut other, E::rust, &inputs, TICKS)),
+            timed(|| drive(&mut unit, handed, &inputs, TICKS)),
             timed(|| drive(&mut unit, E::ours, &inputs, TICKS)),
         ];
         assert_eq!(
@@ -102,21 +111,24 @@ fn time<E: Effect>() {
             "{}: the sides differ in round {round}",
             E::NAME
         );
-        for (times, (took, _)) in times.iter_mut().zip([driver, rust, ours]) {
+        for (times, (took, _)) in times.iter_mut().zip([driver, still, rust, ours]) {
             times.push(took);
         }
     }
-    let [driver, rust, ours] = times.map(Spread::of);
+    let [driver, still, rust, ours] = times.map(Spread::of);
     let ratio = Spread {
         lowest: ours.lowest / rust.lowest,
         median: ours.median / rust.median,
     };
-    print_row(E::NAME, [driver, rust, ours, ratio].map(Spread::shown));
+    print_row(
+        E::NAME,
+        [driver, still, rust, ours, ratio].map(Spread::shown),
+    );
 }
 
-fn print_row(name: &str, columns: [String; 4]) {
-    let [driver, rust, ours, ratio] = columns;
-    println!("{name:10} {driver:>22} {rust:>22} {ours:>22} {ratio:>22}");
+fn print_row(name: &str, columns: [String; 5]) {
+    let [driver, still, rust, ours, ratio] = columns;
+    println!("{name:10} {driver:>20} {still:>20} {rust:>20} {ours:>20} {ratio:>20}");
 }
 
 /// ns per tick of a round, and its sum.
@@ -148,7 +160,7 @@ impl Spread {
 
 fn count<E: Effect>(side: &str, ticks: usize) {
     let tick = match side {
-        "rust" => E::rust,
+        "rust" => handed::<E>,
         "ours" => E::ours,
         _ => panic!("the side is rust or ours"),
     };

@@ -1,5 +1,6 @@
 -- What the effects do to single samples and phases. Definitions only. Assumes nothing.
-use mathlib.Core.Bool.{cond}
+use Prim.Native.Nat.{ℕ}
+use mathlib.Core.Bool.{Bool, cond}
 use lib.Ieee.{Float, nan, inf, fin, binary64, add, sub, mul, le}
 use Rattle.float64.specs.Number.{plusZero, whole}
 
@@ -18,3 +19,7 @@ unfoldable pub advanced : Float → Float → Float
 advanced phase step =
     let next = add binary64 phase step in
     cond (le (whole 1) next) (sub binary64 next (whole 1)) next
+
+-- causes 5 and 6 of a tick: a control that it reads is set and NaN; a curve number is NaN or out of range. 0 is none
+abbrev pub causeNumber : Bool → Bool → ℕ
+causeNumber controlNan curvesFit = cond controlNan 5 (cond curvesFit 0 6)

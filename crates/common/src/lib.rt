@@ -4,8 +4,11 @@ ghost use mathlib.Core.Bool.{true};
 ghost use Prim.Native.Nat.{_-_, _≤_, _<_};
 ghost use lib.ListN.{length};
 ghost use Rattle.float64.specs.Number.{whole, inRange};
-ghost use Rattle.common.specs.Signal.{sanitized, blended, advanced};
+ghost use Rattle.port.specs.Answer.{numberOf};
+ghost use Rattle.common.specs.Signal.{sanitized, blended, advanced, causeNumber};
 ghost use Rattle.common.specs.Line.{zeros, place, nextPlace, lineAt, readAt, allZero};
+use port::Outcome;
+use port::Refusal;
 
 // The input rule: non-finite audio becomes +0.
 pub fn sanitize_audio(x: f64) -> f64
@@ -27,12 +30,32 @@ pub fn blend(a: f64, b: f64, f: f64) -> f64
     a * (1.0 - f) + b * f
 }
 
-// The phase after one step: add; at 1 or more, subtract 1.
+// The phase after one step: add; at 1 or more, subtract 1. The last arm is a NaN's. Tested in this order it compiles to a branch, which is nearly
+// always taken, and the next phase waits for the sum alone.
 pub fn advance_phase(phase: f64, step: f64) -> f64
     ensures { λ r. ⌜ r ≡ advanced phase step ⌝ }
 {
     let next = phase + step;
-    if next >= 1.0 { next - 1.0 } else { next }
+    if next < 1.0 {
+        next
+    } else if next >= 1.0 {
+        next - 1.0
+    } else {
+        next
+    }
+}
+
+// Causes 5 and 6 of a tick: whether a control that it reads is NaN, and whether its curve numbers are in range.
+pub fn tick_causes(control_nan: bool, curves_fit: bool) -> Outcome
+    ensures { λ r. ⌜ numberOf r ≡ causeNumber «control_nan» «curves_fit» ⌝ }
+{
+    if control_nan {
+        return Outcome::Refused(Refusal::Control);
+    }
+    if !curves_fit {
+        return Outcome::Refused(Refusal::Curve);
+    }
+    Outcome::Accepted
 }
 
 // The place d samples behind w in a line of n places. A comparison in place of the `%` of the definition.

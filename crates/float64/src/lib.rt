@@ -88,17 +88,11 @@ pub fn at_most(x: f64, hi: f64) -> f64
     if x > hi { hi } else { x }
 }
 
-// The absolute value: +0 for either zero, and a NaN for a NaN.
+// The absolute value: +0 for either zero, and a NaN for a NaN. In this form it compiles to clearing the sign.
 pub fn abs(x: f64) -> f64
     ensures { λ r. ⌜ r ≡ absolute x ⌝ }
 {
-    if x < 0.0 {
-        -x
-    } else if x > 0.0 {
-        x
-    } else {
-        0.0 - x
-    }
+    if x > 0.0 { x } else { 0.0 - x }
 }
 
 // The whole part of a number from 1 to below 2^53: the digits, shifted. The effects' reads use it, where a total one costs more.

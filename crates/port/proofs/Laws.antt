@@ -1,7 +1,7 @@
 -- Ports and refusals by their cases. Assumes nothing.
 use Prim.Native.Nat.{ℕ}
 use mathlib.Core.Path.{_≡_, refl, sym, ap, _∙_}
-use mathlib.Core.Bool.{true, not}
+use mathlib.Core.Bool.{Bool, true, not}
 use mathlib.Core.Logic.{_≢_}
 use native.Mathlib.Omega.{arith}
 use lib.Ieee.{Float}
@@ -20,10 +20,13 @@ value-set d e k = k ∙ sym (ap (λ (q : Port). valueOr q d) e)
 pub value-unset : {p : Port} {y : Float} (d : Float) → p ≡ Unset → y ≡ d → y ≡ valueOr p d
 value-unset d e k = k ∙ sym (ap (λ (q : Port). valueOr q d) e)
 
--- a port and its value, where the default is a number: the one is set and NaN where the other is NaN
-pub nan-value : (p : Port) (d : Float) → isNumber d ≡ true → isNanSet (Set (valueOr p d)) ≡ isNanSet p
+-- a NaN test of a port's value, where the default is a number, is the test that the port is set and NaN
+nan-value : (p : Port) (d : Float) → isNumber d ≡ true → not (isNumber (valueOr p d)) ≡ isNanSet p
 nan-value (Set x) d h = refl
 nan-value Unset d h = ap not h
+
+pub nan-is : (p : Port) (d : Float) {x : Float} {b : Bool} → isNumber d ≡ true → x ≡ valueOr p d → b ≡ not (isNumber x) → b ≡ isNanSet p
+nan-is p d h e k = k ∙ ap (λ (y : Float). not (isNumber y)) e ∙ nan-value p d h
 
 -- every cause has a number
 pub number-some : (r : Refusal) → number r ≢ 0

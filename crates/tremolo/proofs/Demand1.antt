@@ -32,7 +32,7 @@ parts : (s : Tremolo) → fits s ≡ true → (rateFits (s .«sample_rate») ≡
 unfolding fits
 parts s e = both (rateFits (s .«sample_rate»)) (phaseFits (s .«lfo_phase»)) e
 
-next-fits : (t : Tick) (s : Tremolo) → fits s ≡ true → tickNumber (t .depth) (t .shape) (t .frequency) (t .sine) ≡ 0 → fits (next t s) ≡ true
+next-fits : (t : Tick) (s : Tremolo) → fits s ≡ true → tickNumber t ≡ 0 → fits (next t s) ≡ true
 unfolding fits next tickNumber
 next-fits t s e n =
     let p = parts s e in

@@ -7,7 +7,7 @@ use lib.Ieee.{Float, binary64, add, sub, mul, div}
 use Rattle.float64.specs.Number.{plusZero, whole, half, rateFits, phaseFits, frequencyFits, sineFits, clampOf, absolute}
 use Rattle.port.specs.declared.Port.{Port}
 use Rattle.port.specs.Port.{valueOr, isNanSet}
-use Rattle.common.specs.Signal.{advanced}
+use Rattle.common.specs.Signal.{advanced, causeNumber}
 use Rattle.effect.specs.Effect.{Effect, Write}
 use Rattle.tremolo.specs.declared.Tremolo.{Tremolo}
 
@@ -34,9 +34,8 @@ unfoldable pub fits : Tremolo → Bool
 fits s = rateFits (s .«sample_rate») && phaseFits (s .«lfo_phase»)
 
 -- causes 5 and 6
-unfoldable pub tickNumber : Port → Port → Float → Float → ℕ
-tickNumber depth shape frequency sine =
-    cond (isNanSet depth || isNanSet shape) 5 (cond (frequencyFits frequency && sineFits sine) 0 6)
+unfoldable pub tickNumber : Tick → ℕ
+tickNumber t = causeNumber (isNanSet (t .depth) || isNanSet (t .shape)) (frequencyFits (t .frequency) && sineFits (t .sine))
 
 -- ---- an accepted tick
 
@@ -85,7 +84,7 @@ tremolo =
       retuneSettings = λ none rate. rate;
       settingsNumber = λ rate. cond (rateFits rate) 0 1;
       places = λ rate. 0;
-      tickNumber = λ t rate. tickNumber (t .depth) (t .shape) (t .frequency) (t .sine);
+      tickNumber = λ t rate. tickNumber t;
       blank = blank;
       fresh = fresh;
       retuned = λ rate s. fresh rate;

@@ -1,10 +1,10 @@
 // The tremolo: the audio's amplitude swept by a sine or a triangle. The state goes in and out by value; no memory is lent.
 ghost use mathlib.Core.Path.{_≡_};
 ghost use mathlib.Core.List.{[]};
-ghost use Rattle.port.specs.Answer.{numberOf, outcomeReply, answerReply, silenceReply};
-ghost use Rattle.effect.specs.Run.{tick, reset, ask, numberIn};
+ghost use Rattle.port.specs.Answer.{outcomeReply, answerReply, silenceReply};
+ghost use Rattle.effect.specs.Run.{tick, reset, ask};
 ghost use Rattle.effect.specs.Contract.{Does, Starts};
-ghost use Rattle.tremolo.specs.Tremolo.{tremolo, ticked, fits, tickNumber, triangle, lfo, modulated};
+ghost use Rattle.tremolo.specs.Tremolo.{tremolo, ticked, fits, triangle, lfo, modulated};
 use port::Answer;
 use port::Outcome;
 use port::Port;
@@ -87,22 +87,6 @@ impl Tremolo {
         Silence::Silent
     }
 
-    // Causes 5 and 6 of a tick, its controls with their defaults.
-    fn tick_causes(depth: f64, shape: f64, frequency: f64, sine: f64) -> Outcome
-        ensures { λ r. ⌜ numberOf r ≡ tickNumber (Port.Set depth) (Port.Set shape) frequency sine ⌝ }
-    {
-        if float64::is_nan(depth) | float64::is_nan(shape) {
-            return Outcome::Refused(Refusal::Control);
-        }
-        if !float64::frequency_fits(frequency) {
-            return Outcome::Refused(Refusal::Curve);
-        }
-        if !float64::sine_fits(sine) {
-            return Outcome::Refused(Refusal::Curve);
-        }
-        Outcome::Accepted
-    }
-
     // 1 - 4 x |phase - 0.5|.
     fn triangle(phase: f64) -> f64
         ensures { λ r. ⌜ r ≡ triangle phase ⌝ }
@@ -137,7 +121,10 @@ impl Tremolo {
         let input = if let Port::Set(x) = audio { x } else { 0.0 };
         let amount = if let Port::Set(x) = depth { x } else { 0.5 };
         let blend = if let Port::Set(x) = shape { x } else { 0.0 };
-        let causes = Tremolo::tick_causes(amount, blend, frequency, sine);
+        let causes = common::tick_causes(
+            float64::is_nan(amount) | float64::is_nan(blend),
+            float64::frequency_fits(frequency) & float64::sine_fits(sine),
+        );
         if let Outcome::Refused(cause) = causes {
             return Ticked {
                 state: self,

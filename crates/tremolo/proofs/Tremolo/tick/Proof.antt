@@ -3,17 +3,17 @@
 use mathlib.Core.Path.{_≡_, refl, sym, ap, _∙_}
 use mathlib.Core.Logic.{inl, inr}
 use Prim.Native.Nat.{ℕ}
-use mathlib.Core.Bool.{true, cond, _&&_, _||_}
+use mathlib.Core.Bool.{true, _&&_, _||_}
 use mathlib.Core.List.{[], _∷_}
 use native.Mathlib.Omega.{arith}
 use lib.Ieee.{Float, ofBits, ofInt, round, fits, isNan}
 use borrow.Author.Needs.{needs}
 use borrow.Author.Tests.{not-true, not-false}
-use Rattle.float64.specs.Number.{plusZero, half, isNumber, frequencyFits, sineFits}
-use Rattle.port.specs.declared.Port.the-variants.{Set}
+use Rattle.float64.specs.Number.{plusZero, half, isNumber}
 use Rattle.port.specs.Port.{valueOr}
 use Rattle.port.specs.Answer.{number, numberOf, played}
-use Rattle.port.proofs.Laws.{value-set, value-unset, nan-value, number-some}
+use Rattle.port.proofs.Laws.{value-set, value-unset, nan-is, number-some}
+use Rattle.common.specs.Signal.{causeNumber}
 use Rattle.effect.specs.Run.{tick, numberIn}
 use Rattle.effect.proofs.Contract.{refuses, accepts, state-refused, tick-number}
 use Rattle.tremolo.specs.Tremolo.{tremolo, Tick, ticked, tickNumber, next}
@@ -50,6 +50,18 @@ enum-known-shape c = search needs
 
 enum-told-3 : tie.Need-enum-told-3
 enum-told-3 c = search needs
+
+is-nan-requires : tie.Need-is-nan-requires
+is-nan-requires c κs = search needs
+
+is-nan-requires-2 : tie.Need-is-nan-requires-2
+is-nan-requires-2 c κs = search needs
+
+frequency-fits-requires : tie.Need-frequency-fits-requires
+frequency-fits-requires c κs = search needs
+
+sine-fits-requires : tie.Need-sine-fits-requires
+sine-fits-requires c κs = search needs
 
 tick-causes-requires : tie.Need-tick-causes-requires
 tick-causes-requires c κs = search needs
@@ -93,28 +105,34 @@ module _ (c : tie.At-match3-came) where
   passed : page.fits (start .args .self) ≡ true
   passed = sym (c .before .before .before .before .state-fits .ensures) ∙ not-false _ (c .before .before .before .if1 .left)
 
--- the number by the ports is the number by their values
+-- the number by the ports
 module _ (c : tie.After-tick-causes) where
-  number-is : (k : ℕ) → numberOf (c .tick-causes .result) ≡ k → k ≡ numberIn tremolo (tick (handed (start (c .before)))) 0 (start (c .before) .args .self)
+  abbrev values : tie.At-match3-came
+  values = c .before .before .before .before .before
+
+  number-is : (k : ℕ) → numberOf (c .tick-causes .result) ≡ k → k ≡ numberIn tremolo (tick (handed (start values))) 0 (start values .args .self)
   unfolding tickNumber isNumber fits isNan round
   number-is k e =
-      let a = start (c .before) .args in
-      tick-number tremolo 0 (a .self) (handed (start (c .before))) (passed (c .before)) refl
-      (sym e ∙ c .tick-causes .ensures
-      ∙ (λ i. tickNumber (Set (amount-is (c .before) i)) (Set (blend-is (c .before) i)) (a .frequency) (a .sine))
-      ∙ (λ i. cond (nan-value (a .depth) half refl i || nan-value (a .shape) plusZero refl i) 5 (cond (frequencyFits (a .frequency) && sineFits (a .sine)) 0 6)))
+      let a = start values .args in
+      let depth = nan-is (a .depth) half refl (amount-is values) (c .before .before .before .before .is-nan .ensures) in
+      let shape = nan-is (a .shape) plusZero refl (blend-is values) (c .before .before .before .is-nan2 .ensures) in
+      tick-number tremolo 0 (a .self) (handed (start values)) (passed values) refl
+      (sym e ∙ c .tick-causes .ensures ∙ (λ i. causeNumber (depth i || shape i) (c .before .before .frequency-fits .ensures i && c .before .sine-fits .ensures i)))
 
 returns-2 : tie.Need-returns-2
 returns-2 c =
     let causes = c .before .before .before in
     let cause = c .before .causes .given .0 .0 in
-    let s = start (causes .before) in
+    let s = start (values causes) in
     refuses tremolo (tick (handed s)) (s .args .self) [] (number cause)
     (number-is causes (number cause) (ap numberOf (c .before .causes .given .1)))
     (number-some cause)
 
 enum-told-4 : tie.Need-enum-told-4
 enum-told-4 c = search needs
+
+advance-phase-requires : tie.Need-advance-phase-requires
+advance-phase-requires c κs = search needs
 
 clamp-requires : tie.Need-clamp-requires
 clamp-requires c κs = search needs
@@ -128,21 +146,18 @@ clamp-requires-2 c κs = search needs
 modulated-requires : tie.Need-modulated-requires
 modulated-requires c κs = search needs
 
-advance-phase-requires : tie.Need-advance-phase-requires
-advance-phase-requires c κs = search needs
-
 returns-3 : tie.Need-returns-3
 unfolding next ofBits ofInt
 returns-3 c =
     let causes = c .before .before .before .before .before .before .before in
-    let values = causes .before in
-    let s = start values in
+    let v = values causes in
+    let s = start v in
     accepts tremolo (tick (handed s)) (s .args .self) []
     (sym (number-is causes 0 (ap numberOf (c .before .before .before .before .before .enum-told4 .given .1))))
     (rw (c .before .before .before .before .advance-phase .ensures))
     refl
     (ap (λ (y : Float). played (y ∷ []))
-    (sample-is (handed s) (s .args .self) (input-is values) (amount-is values) (blend-is values) (c .before .before .before .clamp .ensures) (c .before .before .lfo .ensures) (c .before .clamp2 .ensures)
+    (sample-is (handed s) (s .args .self) (input-is v) (amount-is v) (blend-is v) (c .before .before .before .clamp .ensures) (c .before .before .lfo .ensures) (c .before .clamp2 .ensures)
     (c .modulated .ensures)))
 
 pub tick-spec : {M : Type 1} → statement M
@@ -157,6 +172,10 @@ tick-spec =
     enum-told-2
     enum-known-shape
     enum-told-3
+    is-nan-requires
+    is-nan-requires-2
+    frequency-fits-requires
+    sine-fits-requires
     tick-causes-requires
     enum-known-causes
     returns-2
