@@ -3,3 +3,4 @@ pub mod Fill
 pub mod Ring
 pub mod Reading
 pub mod Phases
+pub mod Bench
