@@ -10,6 +10,7 @@ target/demo: examples/demo.c include/room_effects.h $(LIB)
 
 # rt proves the crates before it writes the library, and does nothing where nothing changed
 $(LIB): FORCE
+	@mkdir -p target
 	rt staticlib room_effects >target/staticlib.log 2>&1 || { cat target/staticlib.log; exit 1; }
 
 test:
