@@ -7,13 +7,19 @@
  * How to use an effect E
  *
  *   room_E state;                        one for each unit; the host keeps it
- *   room_E_start(&state, ...)            makes a state at a sample rate
- *   room_E_tick(&state, ports..., curve numbers..., out)
+ *   double memory[...];                  likewise, for an effect with lines: see "Memory"
+ *   room_E_start(&state, memory, places, ...)
+ *                                        makes a state at a sample rate
+ *   room_E_tick(&state, memory, places, ports..., curve numbers..., out)
  *                                        one sample in, one, two or three out
- *   room_E_reset(&state)                 back to what start left, at the same rate
- *   room_E_silent(&state, &silent)       asks whether the unit still sounds
+ *   room_E_retune(&state, memory, places, ...)
+ *                                        goes to another sample rate, its lines cleared (effects with lines)
+ *   room_E_reset(&state, memory, places) back to what start left, at the same rate
+ *   room_E_silent(&state, memory, places, &silent)
+ *                                        asks whether the unit still sounds
  *
- * Between calls the host leaves the state as the last call returned it.
+ * Calls of an effect without lines, as the tremolo, have no `memory, places`. Between calls the host leaves the state as the
+ * last call returned it.
  *
  * What a call returns
  *
@@ -21,16 +27,28 @@
  *
  *   1  the sample rate is NaN or outside 8,000 to 192,000
  *   2  the glide coefficient is NaN, below 0, or 1 or more (delay only)
- *   3  the memory has fewer places than the effect needs (effects with memory)
+ *   3  the memory has fewer places than the effect needs at its rate, for a retune at the new one (effects with lines)
  *   4  the state is not one that a start could lead to
  *   5  a control that this tick reads is set and is NaN
  *   6  a curve number is NaN, a sine is outside -1 to 1, or a frequency is outside 0 to 32
  *
- * Where several apply, the first in this order is returned: start 1, 2, 3; reset and silent 4, 3; tick 4, 3, 5, 6.
+ * Where several apply, the first in this order is returned: start 1, 2, 3; retune 4, 1, 2, 3; reset and silent 4, 3; tick 4,
+ * 3, 5, 6.
  *
- * A refused call changes nothing: every field of the state is left as it was, to the bit. Two things are written all the
- * same, so that a host that overlooks the number plays silence and not noise: a refused tick puts +0 into every sample of
- * `out`, and a refused start, which has no state to leave, writes a state of zeros, which every later call refuses with 4.
+ * A refused call changes nothing: every field of the state and every place of the memory is left as it was, to the bit. Two
+ * things are written all the same, so that a host that overlooks the number plays silence and not noise: a refused tick puts
+ * +0 into every sample of `out`, and a refused start, which has no state to leave, writes a state of zeros, which every later
+ * call refuses with 4.
+ *
+ * Memory
+ *
+ * An effect with lines is lent its places with each call: `memory` is the address of the first, `places` how many there are.
+ * The host keeps them. It lends a unit the same places each time, writes nothing there between calls, and keeps them apart
+ * from the state and from `out`. What they hold before a start is of no account.
+ *
+ * A line has L places, by the sample rate: the whole part of n x rate / 1000, plus 10, with n as the effect says. A unit's
+ * lines follow each other from place 0. The memory may be longer than that. Start, retune and reset put +0 into every place,
+ * spare ones too; a tick writes one place of each line and never a spare one.
  *
  * Ports
  *
@@ -75,10 +93,18 @@ static inline uint32_t room_set_bit(room_port port, uint32_t bit)
     return port.set != 0 ? bit : 0u;
 }
 
+/* The mask of three ports: 1, 2 and 4 in the order in which a tick takes them. */
+static inline uint32_t room_set_mask(room_port first, room_port second, room_port third)
+{
+    return room_set_bit(first, 1u) | room_set_bit(second, 2u) | room_set_bit(third, 4u);
+}
+
 /*
  * What the library exports. The functions further down are what a host calls; they put a struct together from these.
  * A state comes as its fields, a number that may change by its address; ports come as a mask of those that are set and
- * their numbers. Numbers returned, and what is written on a refusal, are as said above.
+ * their numbers; memory comes as the address of its first place and the count of places. Numbers returned, and what is
+ * written on a refusal, are as said above. Masks: 1 is the tick's first port, 2 the second, 4 the third; other bits are not
+ * read. A silent's `out` gets 1 for yes, else 0; 0 on a refusal.
  */
 #ifdef __cplusplus
 extern "C" {
@@ -86,13 +112,30 @@ extern "C" {
 
 uint32_t room_raw_tremolo_start(double sample_rate, double *out_phase, double *out_rate);
 uint32_t room_raw_tremolo_reset(double *phase, double rate);
-
-/* Mask: 1 audio, 2 depth, 4 shape; other bits are not read. */
 uint32_t room_raw_tremolo_tick(double *phase, double rate, uint32_t set, double audio, double depth, double shape,
                                double frequency, double sine, double *out);
-
-/* `out` gets 1 for yes; 0 on a refusal. */
 uint32_t room_raw_tremolo_silent(double phase, double rate, uint32_t *out);
+
+uint32_t room_raw_vibrato_start(double sample_rate, double *memory, uint64_t places, uint64_t *pos, double *phase,
+                                double *rate);
+uint32_t room_raw_vibrato_retune(double sample_rate, double *memory, uint64_t places, uint64_t *pos, double *phase,
+                                 double *rate);
+uint32_t room_raw_vibrato_reset(double *memory, uint64_t places, uint64_t *pos, double *phase, double rate);
+uint32_t room_raw_vibrato_tick(uint64_t *pos, double *phase, double rate, double *memory, uint64_t places, uint32_t set,
+                               double audio, double depth, double mix, double frequency, double sine, double *out);
+uint32_t room_raw_vibrato_silent(uint64_t pos, double phase, double rate, const double *memory, uint64_t places,
+                                 uint32_t *out);
+
+uint32_t room_raw_chorus_start(double sample_rate, double *memory, uint64_t places, uint64_t *pos, double phases[3],
+                               double *rate);
+uint32_t room_raw_chorus_retune(double sample_rate, double *memory, uint64_t places, uint64_t *pos, double phases[3],
+                                double *rate);
+uint32_t room_raw_chorus_reset(double *memory, uint64_t places, uint64_t *pos, double phases[3], double rate);
+uint32_t room_raw_chorus_tick(uint64_t *pos, double phases[3], double rate, double *memory, uint64_t places, uint32_t set,
+                              double audio, double depth, double mix, double frequency, double sine0, double sine1,
+                              double sine2, double out[3]);
+uint32_t room_raw_chorus_silent(uint64_t pos, const double phases[3], double rate, const double *memory, uint64_t places,
+                                uint32_t *out);
 
 #ifdef __cplusplus
 }
@@ -125,9 +168,8 @@ static inline uint32_t room_tremolo_reset(room_tremolo *state)
 static inline uint32_t room_tremolo_tick(room_tremolo *state, room_port audio, room_port depth, room_port shape,
                                          double frequency, double sine, double out[1])
 {
-    const uint32_t set = room_set_bit(audio, 1u) | room_set_bit(depth, 2u) | room_set_bit(shape, 4u);
-    return room_raw_tremolo_tick(&state->lfo_phase, state->sample_rate, set, audio.value, depth.value, shape.value,
-                                 frequency, sine, out);
+    return room_raw_tremolo_tick(&state->lfo_phase, state->sample_rate, room_set_mask(audio, depth, shape), audio.value,
+                                 depth.value, shape.value, frequency, sine, out);
 }
 
 /* Whether the unit is silent. The tremolo keeps no sound, so *silent is 1; on a refusal it is 0. Refusal: 4. */
@@ -135,6 +177,109 @@ static inline uint32_t room_tremolo_silent(const room_tremolo *state, int *silen
 {
     uint32_t yes = 0u;
     const uint32_t number = room_raw_tremolo_silent(state->lfo_phase, state->sample_rate, &yes);
+    *silent = yes != 0u;
+    return number;
+}
+
+/* The vibrato. One line, n = 20: at 44,100 it needs 892 places, at 8,000 170, at 192,000 3,850. */
+
+typedef struct room_vibrato {
+    uint64_t write_pos; /* below L */
+    double lfo_phase;   /* at least 0 and below 1 */
+    double sample_rate; /* 8,000 to 192,000 */
+} room_vibrato;
+
+/* A vibrato at this rate: position 0, phase +0, +0 in every place. Refusals: 1, 3. */
+static inline uint32_t room_vibrato_start(room_vibrato *state, double *memory, uint64_t places, double sample_rate)
+{
+    return room_raw_vibrato_start(sample_rate, memory, places, &state->write_pos, &state->lfo_phase, &state->sample_rate);
+}
+
+/* As a new start: position 0, phase +0, +0 in every place, the same rate or another. Refusals: 4, 1, 3. */
+static inline uint32_t room_vibrato_retune(room_vibrato *state, double *memory, uint64_t places, double sample_rate)
+{
+    return room_raw_vibrato_retune(sample_rate, memory, places, &state->write_pos, &state->lfo_phase, &state->sample_rate);
+}
+
+/* Position 0, phase +0, +0 in every place; the rate stays. Refusals: 4, 3. */
+static inline uint32_t room_vibrato_reset(room_vibrato *state, double *memory, uint64_t places)
+{
+    return room_raw_vibrato_reset(memory, places, &state->write_pos, &state->lfo_phase, state->sample_rate);
+}
+
+/*
+ * One sample in out[0]: `audio` blended with the line, read about 10 ms back; `audio` is stored as it is, NaN and infinities
+ * too. The phase moves on by frequency / rate.
+ * depth: 0 to 1, how far the read moves; 0.5 if unset. mix: 0 dry to 1 wet; 1 if unset. Audio is 0 if unset. At mix 1 the
+ * audio is still multiplied by 0, so that an infinite one gives NaN at once.
+ * Refusals: 4, 3, 5, 6.
+ */
+static inline uint32_t room_vibrato_tick(room_vibrato *state, double *memory, uint64_t places, room_port audio,
+                                         room_port depth, room_port mix, double frequency, double sine, double out[1])
+{
+    return room_raw_vibrato_tick(&state->write_pos, &state->lfo_phase, state->sample_rate, memory, places,
+                                 room_set_mask(audio, depth, mix), audio.value, depth.value, mix.value, frequency,
+                                 sine, out);
+}
+
+/* Whether the unit is silent: every place of its line is +0 or -0. On a refusal *silent is 0. Refusals: 4, 3. */
+static inline uint32_t room_vibrato_silent(const room_vibrato *state, const double *memory, uint64_t places, int *silent)
+{
+    uint32_t yes = 0u;
+    const uint32_t number =
+        room_raw_vibrato_silent(state->write_pos, state->lfo_phase, state->sample_rate, memory, places, &yes);
+    *silent = yes != 0u;
+    return number;
+}
+
+/* The chorus. Three lines, n = 32: at 44,100 it needs 3 x 1,421 places, at 8,000 3 x 266, at 192,000 3 x 6,154. */
+
+typedef struct room_chorus {
+    uint64_t write_pos;   /* below L; one for the three lines */
+    double lfo_phases[3]; /* each at least 0 and below 1 */
+    double sample_rate;   /* 8,000 to 192,000 */
+} room_chorus;
+
+/* A chorus at this rate: position 0, phases 0, 0.33 and 0.67, +0 in every place. Refusals: 1, 3. */
+static inline uint32_t room_chorus_start(room_chorus *state, double *memory, uint64_t places, double sample_rate)
+{
+    return room_raw_chorus_start(sample_rate, memory, places, &state->write_pos, state->lfo_phases, &state->sample_rate);
+}
+
+/* The same rate or another: position 0, +0 in every place; the phases stay. Refusals: 4, 1, 3. */
+static inline uint32_t room_chorus_retune(room_chorus *state, double *memory, uint64_t places, double sample_rate)
+{
+    return room_raw_chorus_retune(sample_rate, memory, places, &state->write_pos, state->lfo_phases, &state->sample_rate);
+}
+
+/* Position 0, phases 0, 0.33 and 0.67, +0 in every place; the rate stays. Refusals: 4, 3. */
+static inline uint32_t room_chorus_reset(room_chorus *state, double *memory, uint64_t places)
+{
+    return room_raw_chorus_reset(memory, places, &state->write_pos, state->lfo_phases, state->sample_rate);
+}
+
+/*
+ * Three samples, mono, left and right: `audio` blended with its three voices, each read 7 to 32 ms back. Audio that is NaN or
+ * infinite counts as +0; each line stores it. Phase i moves on by frequency x (1 + (i - 1) x 0.1) / rate.
+ * depth: 0 to 1, how far the reads move; 0.5 if unset. mix: 0 dry to 1 wet; 0.5 if unset. Audio is 0 if unset. sines[i] is
+ * the sine of phase i.
+ * Refusals: 4, 3, 5, 6.
+ */
+static inline uint32_t room_chorus_tick(room_chorus *state, double *memory, uint64_t places, room_port audio,
+                                        room_port depth, room_port mix, double frequency, const double sines[3],
+                                        double out[3])
+{
+    return room_raw_chorus_tick(&state->write_pos, state->lfo_phases, state->sample_rate, memory, places,
+                                room_set_mask(audio, depth, mix), audio.value, depth.value, mix.value, frequency,
+                                sines[0], sines[1], sines[2], out);
+}
+
+/* Whether the unit is silent: every place of its lines is +0 or -0. On a refusal *silent is 0. Refusals: 4, 3. */
+static inline uint32_t room_chorus_silent(const room_chorus *state, const double *memory, uint64_t places, int *silent)
+{
+    uint32_t yes = 0u;
+    const uint32_t number =
+        room_raw_chorus_silent(state->write_pos, state->lfo_phases, state->sample_rate, memory, places, &yes);
     *silent = yes != 0u;
     return number;
 }

@@ -1,11 +1,40 @@
 //! What the ticks get: numbers of every-day use that move from tick to tick. Few enough to stay in the cache.
 
+use libm::timing::set_sines;
+use quiver_oracle::Effect;
+use room_effects::{Tick, PORTS};
+use std::array::from_fn;
+
 pub struct Input {
-    pub audio: f64,
-    /// Three controls; what each is depends on the effect.
-    pub controls: [f64; 3],
+    /// Audio and two controls; what each control is depends on the effect.
+    pub ports: [f64; 3],
     pub frequency: f64,
-    pub sine: f64,
+    pub sines: [f64; 3],
+}
+
+impl Input {
+    /// Leaves the curve numbers where the Rust's tick takes them.
+    #[inline(always)]
+    pub fn hand<const N: usize>(&self, rust: &mut impl Effect<N>) {
+        rust.plant_frequency(self.frequency);
+        set_sines::<N>(self.first_sines());
+    }
+
+    /// The arguments of our tick, every port set.
+    #[inline(always)]
+    pub fn tick<const N: usize>(&self) -> Tick<N> {
+        Tick {
+            set: PORTS,
+            ports: self.ports,
+            frequency: self.frequency,
+            sines: self.first_sines(),
+        }
+    }
+
+    #[inline(always)]
+    fn first_sines<const N: usize>(&self) -> [f64; N] {
+        from_fn(|i| self.sines[i])
+    }
 }
 
 const COUNT: usize = 512;
@@ -20,10 +49,9 @@ pub fn inputs() -> Vec<Input> {
         low + (state >> 11) as f64 / (1u64 << 53) as f64 * (high - low)
     };
     let mut input = |_| Input {
-        audio: within(-5.0, 5.0),
-        controls: [(); 3].map(|()| within(0.0, 1.0)),
+        ports: [within(-5.0, 5.0), within(0.0, 1.0), within(0.0, 1.0)],
         frequency: within(0.1, 20.0),
-        sine: within(-1.0, 1.0),
+        sines: [(); 3].map(|()| within(-1.0, 1.0)),
     };
     (0..COUNT).map(&mut input).collect()
 }

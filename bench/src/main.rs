@@ -8,23 +8,33 @@
 //!   `tick_generic` with the cheapest frames (every port set, nothing to test) and in the release profile (fat LTO), so
 //!   nothing between the call and its tick is left.
 //! - Curve numbers are handed to both, to each in its own way. Ours gets them as arguments. For the Rust the driver leaves them
-//!   in memory before the call: the frequency in the memo, under the key that the tick will ask for, and the sine where the shim
-//!   of libm takes it by one load. "Rust, curves still" is the Rust without these stores, its curve numbers the same in every
+//!   in memory before the call: the frequency in the memo, under the key that the tick will ask for, and the sines where the shim
+//!   of libm takes each by one load. "Rust, curves still" is the Rust without these stores, its curve numbers the same in every
 //!   tick: what they cost it. What is left on the Rust's side is the memo's own test, which is part of its tick.
-//! - Audio, controls, frequencies and sines move from tick to tick; the state is fed back; the samples are summed up, and both
-//!   sides must come to the same sum.
+//! - Audio, controls, frequencies and sines move from tick to tick; the state is fed back, the lines too; the samples are summed
+//!   up, and both sides must come to the same sum.
 //! - Rounds are interleaved, so that a machine that slows down slows both. The lowest is what the code can do; the median says
 //!   how noisy the machine was. "Driver" is a tick that copies its audio: what the loop and a call cost alone.
 
+mod chorus;
 mod inputs;
+mod lines;
 mod tremolo;
+mod vibrato;
 
+use chorus::Chorus;
 use inputs::{inputs, Input};
+use lines::Row;
 use std::hint::black_box;
 use std::time::Instant;
+use tremolo::Tremolo;
+use vibrato::Vibrato;
 
-/// An effect: a unit of each side, started alike.
-pub trait Effect {
+/// The rate of every row.
+pub const SAMPLE_RATE: f64 = 48_000.0;
+
+/// An effect that answers N samples: a unit of each side, started alike.
+pub trait Effect<const N: usize> {
     const NAME: &'static str;
 
     fn start() -> Self;
@@ -32,9 +42,9 @@ pub trait Effect {
     /// Leave a tick's curve numbers where the Rust's tick takes them.
     fn hand(&mut self, input: &Input);
 
-    fn rust(&mut self, input: &Input) -> f64;
+    fn rust(&mut self, input: &Input) -> [f64; N];
 
-    fn ours(&mut self, input: &Input) -> f64;
+    fn ours(&mut self, input: &Input) -> [f64; N];
 }
 
 const ROUNDS: usize = 400;
@@ -49,26 +59,30 @@ fn main() {
                 "ns a tick",
                 ["driver", "Rust, curves still", "Rust", "ours", "ours / Rust"].map(String::from),
             );
-            time::<tremolo::Tremolo>();
+            time::<Tremolo, 1>();
+            time::<Row<Vibrato, 1>, 1>();
+            time::<Row<Chorus, 3>, 3>();
         }
-        ["count", tremolo::Tremolo::NAME, side, ticks] => {
-            count::<tremolo::Tremolo>(side, ticks.parse().expect("ticks"))
-        }
+        ["count", "tremolo", side, ticks] => count::<Tremolo, 1>(side, ticks),
+        ["count", "vibrato", side, ticks] => count::<Row<Vibrato, 1>, 1>(side, ticks),
+        ["count", "chorus", side, ticks] => count::<Row<Chorus, 3>, 3>(side, ticks),
         _ => panic!("bench time, or bench count EFFECT SIDE TICKS"),
     }
 }
 
 /// The driver. The sum of the samples' bits keeps every tick alive.
 #[inline(never)]
-fn drive<E: Effect>(
+fn drive<E: Effect<N>, const N: usize>(
     unit: &mut E,
-    tick: impl Fn(&mut E, &Input) -> f64,
+    tick: impl Fn(&mut E, &Input) -> [f64; N],
     inputs: &[Input],
     ticks: usize,
 ) -> u64 {
     let mut sum = 0u64;
     for input in inputs.iter().cycle().take(ticks) {
-        sum = sum.rotate_left(1) ^ tick(unit, input).to_bits();
+        for sample in tick(unit, input) {
+            sum = sum.rotate_left(1) ^ sample.to_bits();
+        }
     }
     sum
 }
@@ -79,20 +93,20 @@ extern "C" fn bench_nothing(audio: f64, out: &mut f64) {
     *out = audio;
 }
 
-fn nothing<E: Effect>(_unit: &mut E, input: &Input) -> f64 {
-    let mut out = 0.0;
-    bench_nothing(input.audio, &mut out);
+fn nothing<E: Effect<N>, const N: usize>(_unit: &mut E, input: &Input) -> [f64; N] {
+    let mut out = [0.0; N];
+    bench_nothing(input.ports[0], &mut out[0]);
     out
 }
 
 /// The Rust's tick with its curve numbers handed over.
 #[inline(always)]
-fn handed<E: Effect>(unit: &mut E, input: &Input) -> f64 {
+fn handed<E: Effect<N>, const N: usize>(unit: &mut E, input: &Input) -> [f64; N] {
     unit.hand(input);
     unit.rust(input)
 }
 
-fn time<E: Effect>() {
+fn time<E: Effect<N>, const N: usize>() {
     let inputs = inputs();
     let mut unit = E::start();
     let mut other = E::start();
@@ -158,9 +172,10 @@ impl Spread {
     }
 }
 
-fn count<E: Effect>(side: &str, ticks: usize) {
+fn count<E: Effect<N>, const N: usize>(side: &str, ticks: &str) {
+    let ticks = ticks.parse().expect("ticks");
     let tick = match side {
-        "rust" => handed::<E>,
+        "rust" => handed::<E, N>,
         "ours" => E::ours,
         _ => panic!("the side is rust or ours"),
     };

@@ -1,12 +1,11 @@
 //! The tremolo's row.
 
 use crate::inputs::Input;
-use crate::Effect;
-use libm::timing::set_sine;
+use crate::{Effect, SAMPLE_RATE};
+use libm::timing::first_sine_next;
 use quiver_oracle::tremolo::Unit;
-use room_effects::tremolo::{start, tick, State, Tick, AUDIO, DEPTH, SHAPE};
-
-const SAMPLE_RATE: f64 = 48_000.0;
+use quiver_oracle::Effect as _;
+use room_effects::tremolo::{start, tick, State};
 
 pub struct Tremolo {
     rust: Unit,
@@ -17,10 +16,12 @@ pub struct Tremolo {
 #[no_mangle]
 #[inline(never)]
 extern "C" fn quiver_tremolo_tick(unit: &mut Unit, audio: f64, depth: f64, shape: f64) -> f64 {
-    unit.tick_plain(audio, depth, shape)
+    first_sine_next();
+    let [out] = unit.tick_plain([audio, depth, shape]);
+    out
 }
 
-impl Effect for Tremolo {
+impl Effect<1> for Tremolo {
     const NAME: &'static str = "tremolo";
 
     fn start() -> Self {
@@ -37,30 +38,19 @@ impl Effect for Tremolo {
 
     #[inline(always)]
     fn hand(&mut self, input: &Input) {
-        self.rust.plant_frequency(input.frequency);
-        set_sine(input.sine);
+        input.hand(&mut self.rust);
     }
 
     #[inline(always)]
-    fn rust(&mut self, input: &Input) -> f64 {
-        let [depth, shape, _] = input.controls;
-        quiver_tremolo_tick(&mut self.rust, input.audio, depth, shape)
+    fn rust(&mut self, input: &Input) -> [f64; 1] {
+        let [audio, depth, shape] = input.ports;
+        [quiver_tremolo_tick(&mut self.rust, audio, depth, shape)]
     }
 
     #[inline(always)]
-    fn ours(&mut self, input: &Input) -> f64 {
-        let [depth, shape, _] = input.controls;
-        let set = AUDIO | DEPTH | SHAPE;
+    fn ours(&mut self, input: &Input) -> [f64; 1] {
         let mut out = 0.0;
-        let arguments = Tick {
-            set,
-            audio: input.audio,
-            depth,
-            shape,
-            frequency: input.frequency,
-            sine: input.sine,
-        };
-        tick(&mut self.ours, &arguments, &mut out);
-        out
+        tick(&mut self.ours, &input.tick(), &mut out);
+        [out]
     }
 }

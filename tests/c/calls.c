@@ -2,77 +2,125 @@
  * Drives every call of room_effects.h, accepted and refused, and compares all that it returns and leaves by bits.
  * The last line is `N passed, M failed`; the exit status is 1 if one failed.
  */
-#include "room_effects.h"
+#include "calls.h"
 
-#include <float.h>
-#include <math.h>
 #include <stdio.h>
 #include <string.h>
 
-#define COUNT(list) (sizeof(list) / sizeof((list)[0]))
-
 static unsigned passed, failed;
+static const char *under_test = "ports";
 
-static void check(int good, const char *what, unsigned number)
+void check(int good, const char *what, unsigned number)
 {
     if (good) {
         passed++;
     } else {
         failed++;
-        printf("FAILED: %s (case %u)\n", what, number);
+        printf("FAILED: %s: %s (case %u)\n", under_test, what, number);
     }
 }
 
-static uint64_t bits(double x)
+uint64_t bits(double x)
 {
     uint64_t u;
     memcpy(&u, &x, sizeof u);
     return u;
 }
 
-static double of_bits(uint64_t u)
+double of_bits(uint64_t u)
 {
     double x;
     memcpy(&x, &u, sizeof x);
     return x;
 }
 
-/* Equal to the bit: +0 and -0 differ, and so do two NaNs of other bits. */
-static int same(double a, double b)
+int same(double a, double b)
 {
     return bits(a) == bits(b);
 }
 
-/* The next float away from 0, the next one towards it. */
-static double farther(double x)
+int all_same(const double *a, const double *b, unsigned count)
+{
+    return memcmp(a, b, count * sizeof *a) == 0;
+}
+
+int plays(double is, double should)
+{
+    return isnan(should) ? isnan(is) : same(is, should);
+}
+
+double farther(double x)
 {
     return of_bits(bits(x) + 1u);
 }
 
-static double nearer(double x)
+double nearer(double x)
 {
     return of_bits(bits(x) - 1u);
 }
 
-/* The smallest float above 0, and a NaN whose bits must survive a refusal. */
-#define SMALLEST of_bits(1u)
-#define ODD_NAN of_bits(UINT64_C(0xfff8000000001234))
-#define JUNK 12345.0
+#define NUMBERS(...) {COUNT(((const double[]){__VA_ARGS__})), {__VA_ARGS__}}
 
-static room_tremolo tremolo(double lfo_phase, double sample_rate)
+struct numbers rates_accepted(void)
 {
-    room_tremolo state;
-    state.lfo_phase = lfo_phase;
-    state.sample_rate = sample_rate;
-    return state;
+    const struct numbers n = NUMBERS(8000.0, farther(8000.0), 44100.0, 48000.5, nearer(192000.0), 192000.0);
+    return n;
 }
 
-static int state_is(const room_tremolo *state, double lfo_phase, double sample_rate)
+struct numbers rates_refused(void)
 {
-    return same(state->lfo_phase, lfo_phase) && same(state->sample_rate, sample_rate);
+    const double infinity = (double)INFINITY;
+    const struct numbers n = NUMBERS(nearer(8000.0), farther(192000.0), 0.0, -0.0, -44100.0, SMALLEST, DBL_MAX, infinity,
+                                     -infinity, (double)NAN, ODD_NAN);
+    return n;
 }
 
-/* Ports */
+struct numbers phases_accepted(void)
+{
+    const struct numbers n = NUMBERS(0.0, -0.0, SMALLEST, 0.25, 0.5, nearer(1.0));
+    return n;
+}
+
+struct numbers phases_refused(void)
+{
+    const double infinity = (double)INFINITY;
+    const struct numbers n = NUMBERS(1.0, farther(1.0), 2.0, -SMALLEST, -1e-300, -0.5, infinity, -infinity, (double)NAN,
+                                     ODD_NAN);
+    return n;
+}
+
+struct numbers frequencies_refused(void)
+{
+    const double infinity = (double)INFINITY;
+    const struct numbers n = NUMBERS(-SMALLEST, -1e-9, farther(32.0), 32.000001, 1e308, infinity, -infinity, (double)NAN,
+                                     ODD_NAN);
+    return n;
+}
+
+struct numbers sines_refused(void)
+{
+    const double infinity = (double)INFINITY;
+    const struct numbers n = NUMBERS(farther(1.0), farther(-1.0), 1.0000001, 2.0, infinity, -infinity, (double)NAN, ODD_NAN);
+    return n;
+}
+
+struct numbers at_least_one(void)
+{
+    const struct numbers n = NUMBERS(1.0, farther(1.0), 2.0, 1e308, DBL_MAX, (double)INFINITY);
+    return n;
+}
+
+struct numbers at_most_zero(void)
+{
+    const struct numbers n = NUMBERS(0.0, -0.0, -SMALLEST, -1.0, -1e308, -(double)INFINITY);
+    return n;
+}
+
+struct numbers not_read(void)
+{
+    const struct numbers n = NUMBERS(0.0, 1.0, (double)NAN, ODD_NAN, (double)INFINITY);
+    return n;
+}
 
 static void ports(void)
 {
@@ -82,282 +130,18 @@ static void ports(void)
     check(unset.set == 0, "an unset port is not set", 0);
 }
 
-/* Start */
-
-static void start_accepted(void)
+static void test(const char *name, void (*calls)(void))
 {
-    const double rates[] = {8000.0, farther(8000.0), 44100.0, 48000.5, nearer(192000.0), 192000.0};
-    unsigned i;
-    for (i = 0; i < COUNT(rates); i++) {
-        room_tremolo state = tremolo(JUNK, JUNK);
-        check(room_tremolo_start(&state, rates[i]) == 0, "start is accepted", i);
-        check(state_is(&state, 0.0, rates[i]), "start leaves phase +0 and the rate", i);
-    }
-}
-
-static void start_refused(void)
-{
-    const double rates[] = {nearer(8000.0), farther(192000.0), 0.0, -0.0, -44100.0, SMALLEST,
-                            DBL_MAX, (double)INFINITY, -(double)INFINITY, (double)NAN, ODD_NAN};
-    unsigned i;
-    for (i = 0; i < COUNT(rates); i++) {
-        room_tremolo state = tremolo(JUNK, JUNK);
-        double out[1] = {JUNK};
-        int silent = 7;
-        check(room_tremolo_start(&state, rates[i]) == 1, "start is refused with 1", i);
-        check(state_is(&state, 0.0, 0.0), "a refused start writes a state of zeros", i);
-        check(room_tremolo_tick(&state, room_set(1.0), room_unset(), room_unset(), 1.0, 0.0, out) == 4,
-              "tick refuses the state of a refused start", i);
-        check(same(out[0], 0.0), "and plays +0", i);
-        check(room_tremolo_reset(&state) == 4, "reset refuses the state of a refused start", i);
-        check(room_tremolo_silent(&state, &silent) == 4 && silent == 0, "silent refuses the state of a refused start", i);
-        check(state_is(&state, 0.0, 0.0), "and the state stays as it is", i);
-    }
-}
-
-/* Reset, silent and tick by state */
-
-static void states_accepted(void)
-{
-    const double phases[] = {0.0, -0.0, SMALLEST, 0.25, 0.5, nearer(1.0)};
-    unsigned i;
-    for (i = 0; i < COUNT(phases); i++) {
-        room_tremolo state = tremolo(phases[i], 44100.0);
-        double out[1] = {JUNK};
-        int silent = 7;
-        check(room_tremolo_silent(&state, &silent) == 0 && silent == 1, "the tremolo is silent", i);
-        check(state_is(&state, phases[i], 44100.0), "silent changes nothing", i);
-        check(room_tremolo_tick(&state, room_unset(), room_unset(), room_unset(), 0.0, 0.0, out) == 0,
-              "tick accepts the state", i);
-        check(same(out[0], 0.0), "unset audio is +0", i);
-        state = tremolo(phases[i], 44100.0);
-        check(room_tremolo_reset(&state) == 0, "reset accepts the state", i);
-        check(state_is(&state, 0.0, 44100.0), "reset leaves phase +0 and the rate", i);
-    }
-}
-
-static void state_refused(double lfo_phase, double sample_rate, unsigned i)
-{
-    room_tremolo state = tremolo(lfo_phase, sample_rate);
-    double out[1] = {JUNK};
-    int silent = 7;
-    check(room_tremolo_reset(&state) == 4, "reset is refused with 4", i);
-    check(state_is(&state, lfo_phase, sample_rate), "a refused reset changes nothing", i);
-    check(room_tremolo_silent(&state, &silent) == 4 && silent == 0, "silent is refused with 4 and answers 0", i);
-    check(state_is(&state, lfo_phase, sample_rate), "a refused silent changes nothing", i);
-    check(room_tremolo_tick(&state, room_set(4.0), room_set(1.0), room_set(0.0), 1.0, 0.0, out) == 4,
-          "tick is refused with 4", i);
-    check(state_is(&state, lfo_phase, sample_rate) && same(out[0], 0.0), "a refused tick changes nothing and plays +0", i);
-}
-
-static void states_refused(void)
-{
-    const double phases[] = {1.0, farther(1.0), 2.0, -SMALLEST, -1e-300, -0.5,
-                             (double)INFINITY, -(double)INFINITY, (double)NAN, ODD_NAN};
-    const double rates[] = {nearer(8000.0), farther(192000.0), 0.0, -44100.0, (double)INFINITY, (double)NAN, ODD_NAN};
-    unsigned i;
-    for (i = 0; i < COUNT(phases); i++) {
-        state_refused(phases[i], 44100.0, i);
-    }
-    for (i = 0; i < COUNT(rates); i++) {
-        state_refused(0.25, rates[i], 100u + i);
-        state_refused(1.0, rates[i], 200u + i);
-    }
-}
-
-/* Ticks: what one gets, the number it must return and, if that is 0, the sample. */
-
-struct tick {
-    room_port audio, depth, shape;
-    double frequency, sine;
-    uint32_t number;
-    double sample;
-};
-
-/* A tick with every port set. */
-static struct tick tick_of(double audio, double depth, double shape, double frequency, double sine)
-{
-    struct tick t;
-    t.audio = room_set(audio);
-    t.depth = room_set(depth);
-    t.shape = room_set(shape);
-    t.frequency = frequency;
-    t.sine = sine;
-    t.number = 0;
-    t.sample = 0.0;
-    return t;
-}
-
-static struct tick gives(struct tick t, double sample)
-{
-    t.sample = sample;
-    return t;
-}
-
-static struct tick refused(struct tick t, uint32_t number)
-{
-    t.number = number;
-    return t;
-}
-
-/* Runs the tick from this phase at 8,000; at a sample of NaN any NaN will do. */
-static void run(struct tick t, double phase, double next_phase, const char *what, unsigned i)
-{
-    room_tremolo state = tremolo(phase, 8000.0);
-    double out[1] = {JUNK};
-    const uint32_t number = room_tremolo_tick(&state, t.audio, t.depth, t.shape, t.frequency, t.sine, out);
-    check(number == t.number, what, i);
-    if (t.number == 0 && isnan(t.sample)) {
-        check(isnan(out[0]) != 0, what, i);
-    } else {
-        check(same(out[0], t.number == 0 ? t.sample : 0.0), what, i);
-    }
-    check(state_is(&state, t.number == 0 ? next_phase : phase, 8000.0), what, i);
-}
-
-static void bench_case(void)
-{
-    run(gives(tick_of(4.0, 1.0, 0.0, 0.0, 0.0), 2.0), 0.0, 0.0, "bench case, shape 0", 0);
-    run(gives(tick_of(4.0, 1.0, 1.0, 0.0, 0.0), 0.0), 0.0, 0.0, "bench case, shape 1", 0);
-}
-
-static void phase_moves(void)
-{
-    const struct tick still = gives(tick_of(4.0, 0.0, 0.0, -0.0, 0.0), 4.0);
-    const struct tick eighth = gives(tick_of(4.0, 0.0, 0.0, 31.25, 0.0), 4.0);
-    run(still, 0.25, 0.25, "frequency -0 leaves the phase", 0);
-    run(still, -0.0, -0.0, "a phase of -0 plus -0 stays -0", 1);
-    run(eighth, 0.0, 0.00390625, "the phase moves on by frequency / rate", 2);
-    run(eighth, 0.99609375, 0.0, "a phase that gets to 1 goes to 0", 3);
-    run(eighth, 0.998046875, 0.001953125, "a phase beyond 1 loses 1", 4);
-    run(gives(tick_of(4.0, 1.0, 1.0, 31.25, 0.0), 2.0), 0.25, 0.25390625, "the triangle is of the phase before", 5);
-    run(gives(tick_of(4.0, 1.0, 1.0, 31.25, 0.0), 4.0), 0.5, 0.50390625, "the triangle's top is at the middle", 6);
-}
-
-static void audio_is_free(void)
-{
-    const double infinity = (double)INFINITY;
-    run(gives(tick_of((double)NAN, 1.0, 0.0, 0.0, 0.0), (double)NAN), 0.0, 0.0, "NaN audio is accepted", 0);
-    run(gives(tick_of(infinity, 1.0, 0.0, 0.0, 0.0), infinity), 0.0, 0.0, "infinite audio is accepted", 1);
-    run(gives(tick_of(-infinity, 1.0, 0.0, 0.0, 0.0), -infinity), 0.0, 0.0, "infinite audio is accepted", 2);
-    run(gives(tick_of(infinity, 1.0, 1.0, 0.0, 0.0), (double)NAN), 0.0, 0.0, "infinite audio times 0 is NaN", 3);
-    run(gives(tick_of(-0.0, 1.0, 0.0, 0.0, 0.0), -0.0), 0.0, 0.0, "audio of -0 gives -0", 4);
-    run(gives(tick_of(SMALLEST, 0.0, 0.0, 0.0, 0.0), SMALLEST), 0.0, 0.0, "subnormal audio stays", 5);
-    run(gives(tick_of(DBL_MAX, 0.0, 0.0, 0.0, 0.0), DBL_MAX), 0.0, 0.0, "the largest audio stays", 6);
-}
-
-static void controls_clamped(void)
-{
-    const double above[] = {1.0, farther(1.0), 2.0, 1e308, DBL_MAX, (double)INFINITY};
-    const double below[] = {0.0, -0.0, -SMALLEST, -1.0, -1e308, -(double)INFINITY};
-    unsigned i;
-    for (i = 0; i < COUNT(above); i++) {
-        run(gives(tick_of(4.0, above[i], 0.0, 0.0, -1.0), 0.0), 0.0, 0.0, "depth is at most 1", i);
-        run(gives(tick_of(4.0, 1.0, above[i], 0.0, 1.0), 0.0), 0.0, 0.0, "shape is at most 1", i);
-    }
-    for (i = 0; i < COUNT(below); i++) {
-        run(gives(tick_of(4.0, below[i], 0.0, 0.0, -1.0), 4.0), 0.0, 0.0, "depth is at least 0", i);
-        run(gives(tick_of(4.0, 1.0, below[i], 0.0, 1.0), 4.0), 0.0, 0.0, "shape is at least 0", i);
-    }
-}
-
-/* An unset port takes its default, whatever number it holds. */
-static void unset_ports(void)
-{
-    const double numbers[] = {0.0, 1.0, (double)NAN, ODD_NAN, (double)INFINITY};
-    unsigned i;
-    for (i = 0; i < COUNT(numbers); i++) {
-        struct tick t = gives(tick_of(4.0, 1.0, 0.0, 0.0, -1.0), 0.0);
-        t.audio.set = 0;
-        t.audio.value = numbers[i];
-        run(t, 0.0, 0.0, "unset audio is +0", i);
-        t = gives(tick_of(4.0, numbers[i], 0.0, 0.0, -1.0), 2.0);
-        t.depth.set = 0;
-        run(t, 0.0, 0.0, "unset depth is 0.5", i);
-        t = gives(tick_of(4.0, 1.0, numbers[i], 0.0, 1.0), 4.0);
-        t.shape.set = 0;
-        run(t, 0.0, 0.0, "unset shape is 0", i);
-    }
-}
-
-static void curves_accepted(void)
-{
-    const double frequencies[] = {0.0, -0.0, SMALLEST};
-    unsigned i;
-    for (i = 0; i < COUNT(frequencies); i++) {
-        run(gives(tick_of(4.0, 1.0, 0.0, frequencies[i], 0.0), 2.0), 0.5, 0.5, "frequency from 0 on", i);
-    }
-    run(gives(tick_of(4.0, 1.0, 0.0, 32.0, 0.0), 2.0), 0.5, 0.5 + 32.0 / 8000.0, "frequency up to 32", 0);
-    run(gives(tick_of(4.0, 1.0, 0.0, 0.0, -1.0), 0.0), 0.0, 0.0, "sine from -1 on", 0);
-    run(gives(tick_of(4.0, 1.0, 0.0, 0.0, 1.0), 4.0), 0.0, 0.0, "sine up to 1", 0);
-    run(gives(tick_of(4.0, 1.0, 0.0, 0.0, -0.0), 2.0), 0.0, 0.0, "sine of -0", 0);
-}
-
-static void controls_refused(void)
-{
-    run(refused(tick_of(4.0, (double)NAN, 0.0, 1.0, 0.0), 5), 0.25, 0.0, "depth of NaN is refused with 5", 0);
-    run(refused(tick_of(4.0, 0.5, (double)NAN, 1.0, 0.0), 5), 0.25, 0.0, "shape of NaN is refused with 5", 1);
-    run(refused(tick_of(4.0, ODD_NAN, ODD_NAN, 1.0, 0.0), 5), 0.25, 0.0, "both of NaN are refused with 5", 2);
-    run(refused(tick_of((double)NAN, ODD_NAN, 0.0, 1.0, 0.0), 5), 0.25, 0.0, "NaN audio does not hide it", 3);
-}
-
-static void curves_refused(void)
-{
-    const double infinity = (double)INFINITY;
-    const double frequencies[] = {-SMALLEST, -1e-9, farther(32.0), 32.000001, 1e308, infinity, -infinity, (double)NAN, ODD_NAN};
-    const double sines[] = {farther(1.0), farther(-1.0), 1.0000001, 2.0, infinity, -infinity, (double)NAN, ODD_NAN};
-    unsigned i;
-    for (i = 0; i < COUNT(frequencies); i++) {
-        run(refused(tick_of(4.0, 0.5, 0.0, frequencies[i], 0.0), 6), 0.25, 0.0, "the frequency is refused with 6", i);
-    }
-    for (i = 0; i < COUNT(sines); i++) {
-        run(refused(tick_of(4.0, 0.5, 0.0, 1.0, sines[i]), 6), 0.25, 0.0, "the sine is refused with 6", i);
-    }
-}
-
-/* Where several causes apply: 4 before 5 before 6. */
-static void order(void)
-{
-    const double nan_ = (double)NAN;
-    run(refused(tick_of(4.0, nan_, nan_, 1.0, 0.0), 4), 1.0, 0.0, "4 before 5", 0);
-    run(refused(tick_of(4.0, 0.5, 0.0, 33.0, 2.0), 4), 1.0, 0.0, "4 before 6", 1);
-    run(refused(tick_of(4.0, nan_, nan_, 33.0, 2.0), 4), nan_, 0.0, "4 before 5 and 6", 2);
-    run(refused(tick_of(4.0, nan_, 0.0, 33.0, 0.0), 5), 0.25, 0.0, "5 before 6, by the frequency", 3);
-    run(refused(tick_of(4.0, 0.5, nan_, 1.0, nan_), 5), 0.25, 0.0, "5 before 6, by the sine", 4);
-}
-
-/* The exported functions by themselves: bits of the mask beyond the three ports are not read. */
-static void mask(void)
-{
-    double phase = 0.0;
-    double out = JUNK;
-    uint32_t silent = 7;
-    check(room_raw_tremolo_tick(&phase, 8000.0, UINT32_C(0xffffffff), 4.0, 1.0, 0.0, 0.0, -1.0, &out) == 0, "all bits", 0);
-    check(same(out, 0.0) && same(phase, 0.0), "all bits: all ports are set", 0);
-    check(room_raw_tremolo_tick(&phase, 8000.0, UINT32_C(0xfffffff9), 4.0, (double)NAN, (double)NAN, 0.0, -1.0, &out) == 0,
-          "audio and the other bits", 0);
-    check(same(out, 2.0) && same(phase, 0.0), "audio and the other bits: controls are unset", 0);
-    check(room_raw_tremolo_silent(0.0, 8000.0, &silent) == 0 && silent == 1u, "silent is 1", 0);
-    check(room_raw_tremolo_silent(1.0, 8000.0, &silent) == 4 && silent == 0u, "silent is 0 on a refusal", 0);
+    under_test = name;
+    calls();
 }
 
 int main(void)
 {
     ports();
-    start_accepted();
-    start_refused();
-    states_accepted();
-    states_refused();
-    bench_case();
-    phase_moves();
-    audio_is_free();
-    controls_clamped();
-    unset_ports();
-    curves_accepted();
-    controls_refused();
-    curves_refused();
-    order();
-    mask();
+    test("tremolo", tremolo);
+    test("vibrato", vibrato);
+    test("chorus", chorus);
     printf("%u passed, %u failed\n", passed, failed);
     return failed != 0;
 }

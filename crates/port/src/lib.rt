@@ -104,6 +104,30 @@ impl Answer {
             Answer::Refused(_) => 0.0,
         }
     }
+
+    // The second sample, +0 where there is none.
+    pub fn second(self) -> f64
+        ensures { λ r. ⌜ r ≡ replySample 1 (answerReply self) ⌝ }
+    {
+        match self {
+            Answer::One(_) => 0.0,
+            Answer::Two(_, y) => y,
+            Answer::Three(_, y, _) => y,
+            Answer::Refused(_cause) => 0.0,
+        }
+    }
+
+    // The third sample, +0 where there is none.
+    pub fn third(self) -> f64
+        ensures { λ r. ⌜ r ≡ replySample 2 (answerReply self) ⌝ }
+    {
+        match self {
+            Answer::One(_) => 0.0,
+            Answer::Two(_, _) => 0.0,
+            Answer::Three(_, _, z) => z,
+            Answer::Refused(_cause) => 0.0,
+        }
+    }
 }
 
 impl Silence {

@@ -1,2 +1,4 @@
 pub mod Ports
-pub mod Lent
+pub mod LentTremolo
+pub mod LentVibrato
+pub mod LentChorus

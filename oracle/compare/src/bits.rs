@@ -2,6 +2,9 @@
 
 const NAN: u64 = 0x7ff8_0000_0000_0000;
 
+/// What a place that a call writes holds before it: nothing that a call would leave there.
+pub const JUNK: f64 = 12_345.0;
+
 /// The bits of `x`, of every NaN the same.
 pub fn word(x: f64) -> u64 {
     if x.is_nan() {

@@ -1,16 +1,21 @@
 //! Ticks our effects and the Rust's side by side and compares them bit for bit.
 //!
 //!     compare EFFECT --ticks N [--seed S]        compare N accepted ticks, and refused calls between them
-//!     compare EFFECT --record FILE --ticks N     write N of the Rust's answers, for the program that replays them
+//!     compare EFFECT --record FILE --ticks N     write the Rust's answers to N ticks, for the program that replays them
 //!
 //! Exit status: 0 all agree; 1 a difference, which is printed; 2 bad usage.
 
 mod bits;
+mod chorus;
+mod lines;
 mod random;
 mod run;
 mod table;
+mod tick;
 mod tremolo;
+mod vibrato;
 
+use lines::Lines;
 use std::process::exit;
 use std::{env, fs};
 
@@ -21,11 +26,23 @@ struct Effect {
     record: fn(ticks: u64, seed: u64) -> Result<Vec<u64>, String>,
 }
 
-const EFFECTS: [Effect; 1] = [Effect {
-    name: "tremolo",
-    run: run::run::<tremolo::Tremolo>,
-    record: tremolo::record,
-}];
+const EFFECTS: [Effect; 3] = [
+    Effect {
+        name: "tremolo",
+        run: run::run::<tremolo::Tremolo>,
+        record: tremolo::record,
+    },
+    Effect {
+        name: "vibrato",
+        run: run::run::<Lines<vibrato::Vibrato, 1>>,
+        record: lines::record::<vibrato::Vibrato, 1>,
+    },
+    Effect {
+        name: "chorus",
+        run: run::run::<Lines<chorus::Chorus, 3>>,
+        record: lines::record::<chorus::Chorus, 3>,
+    },
+];
 
 struct Options {
     ticks: u64,
@@ -94,7 +111,7 @@ fn record(effect: &Effect, file: &str, options: &Options) -> Result<String, Stri
     let bytes: Vec<u8> = words.iter().flat_map(|word| word.to_le_bytes()).collect();
     fs::write(file, bytes).map_err(|e| format!("{file}: {e}"))?;
     Ok(format!(
-        "{}: {} of the Rust's answers are in {file}",
+        "{}: the Rust's answers to {} ticks are in {file}",
         effect.name, options.ticks
     ))
 }

@@ -92,6 +92,15 @@ impl Random {
         }
     }
 
+    /// Mostly ordinary audio: a line full of the other kind would play little but NaN.
+    pub fn mostly_ordinary_audio(&mut self) -> f64 {
+        if self.one_in(4) {
+            self.audio()
+        } else {
+            self.within(-5.0, 5.0)
+        }
+    }
+
     /// A control that is no NaN, in and around 0 to 1.
     pub fn control(&mut self) -> f64 {
         match self.below(16) {
@@ -198,6 +207,11 @@ impl Random {
         } else {
             self.of(&far)
         }
+    }
+
+    pub fn wrong_position(&mut self, length: u64) -> u64 {
+        let beyond = length + self.below(100_000);
+        self.of(&[length, length, length + 1, beyond, 1 << 63, u64::MAX])
     }
 
     pub fn wrong_phase(&mut self) -> f64 {

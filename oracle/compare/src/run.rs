@@ -20,8 +20,13 @@ pub trait Pair: Sized {
     /// A call for this unit: mostly ticks, now and then one that must be refused.
     fn draw(&self, random: &mut Random) -> Self::Call;
 
-    /// Make the call on both sides and compare all that it returns and leaves; a message where they differ.
+    /// Make the call on both sides and compare what it returns and leaves; a message where they differ.
     fn call(&mut self, call: &Self::Call) -> Result<Made, String>;
+
+    /// The end of the run: compare what `call` compares only now and then.
+    fn finish(&self) -> Result<(), String> {
+        Ok(())
+    }
 }
 
 /// What a call that went as it should was.
@@ -29,6 +34,17 @@ pub enum Made {
     Tick,
     Other,
     Refused(u32),
+}
+
+impl Made {
+    /// By the call's number in the table.
+    pub fn of(number: u32, tick: bool) -> Self {
+        match (number, tick) {
+            (0, true) => Made::Tick,
+            (0, false) => Made::Other,
+            _ => Made::Refused(number),
+        }
+    }
 }
 
 #[derive(Default)]
@@ -79,6 +95,7 @@ pub fn run<P: Pair>(ticks: u64, seed: u64) -> Result<String, String> {
             Err(message) => return Err(format!("after {} ticks, {call}\n{message}", tally.ticks)),
         }
     }
+    units.iter().try_for_each(P::finish)?;
     let missing = P::REFUSALS
         .iter()
         .find(|number| tally.refused[**number as usize] == 0);
@@ -96,4 +113,12 @@ pub fn number_agrees(ours: u32, table: u32) -> Result<(), String> {
     Err(format!(
         "number {ours} was returned, by the table it is {table}"
     ))
+}
+
+/// What silent wrote: 1 for yes, else 0.
+pub fn silent_agrees(wrote: u32, yes: bool) -> Result<(), String> {
+    if wrote == u32::from(yes) {
+        return Ok(());
+    }
+    Err(format!("silent answers {wrote}"))
 }

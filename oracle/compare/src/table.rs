@@ -1,6 +1,7 @@
 //! The table of refusals, read from document 01 and from nothing else: of each cause, whether it applies.
 
 pub const SAMPLE_RATE: u32 = 1;
+pub const MEMORY: u32 = 3;
 pub const STATE: u32 = 4;
 pub const CONTROL: u32 = 5;
 pub const CURVE: u32 = 6;
@@ -19,6 +20,21 @@ pub fn first(causes: &[(u32, bool)]) -> u32 {
 /// "sample rate NaN or outside 8,000 to 192,000"
 pub fn sample_rate(rate: f64) -> bool {
     rate.is_nan() || rate < 8_000.0 || rate > 192_000.0
+}
+
+/// "A line has L places: the whole part of ... n × rate / 1000, plus 10". A rate that is refused must not stop the program.
+pub fn length(n: f64, rate: f64) -> u64 {
+    ((n * rate / 1_000.0).trunc() as u64).saturating_add(10)
+}
+
+/// "memory with fewer places than needed": that is `lines` lines of this length.
+pub fn memory(places: u64, lines: u64, length: u64) -> bool {
+    places < length.saturating_mul(lines)
+}
+
+/// "every position below its line's length at that rate": the state test fails where this is true.
+pub fn position(position: u64, length: u64) -> bool {
+    position >= length
 }
 
 /// "every phase at least 0 and below 1": the state test fails where this is true.

@@ -1,15 +1,17 @@
 //! The tremolo: ours beside the Rust's.
 
-use crate::bits::{agree, shown, untouched, word};
+use crate::bits::{agree, shown, untouched, word, JUNK};
 use crate::random::{Random, COMMON_RATES};
-use crate::run::{number_agrees, Made, Pair};
-use crate::table;
-use libm::script::{asked_angles, hand_sines};
+use crate::run::{number_agrees, silent_agrees, Made, Pair};
+use crate::{table, tick};
 use quiver_oracle::tremolo::Unit;
+use quiver_oracle::Effect;
 use room_effects::tremolo as ours;
-use room_effects::tremolo::{State, Tick, AUDIO, DEPTH, SHAPE};
-use std::f64::consts::TAU;
+use room_effects::tremolo::State;
+use room_effects::PORTS;
 use std::fmt;
+
+type Tick = room_effects::Tick<1>;
 
 pub struct Tremolo {
     ours: State,
@@ -24,12 +26,6 @@ pub enum Call {
     Tick(State, Tick),
 }
 
-/// The mask with every port set.
-const PORTS: u32 = AUDIO | DEPTH | SHAPE;
-
-/// What a place that a call writes holds before it: nothing that a call would leave there.
-const JUNK: f64 = 12_345.0;
-
 impl Call {
     /// Document 01's order: start 1; reset and silent 4; tick 4, 5, 6.
     fn number(&self) -> u32 {
@@ -38,33 +34,16 @@ impl Call {
             Call::Reset(state) | Call::Silent(state) => {
                 table::first(&[(table::STATE, misfits(state))])
             }
-            Call::Tick(state, t) => table::first(&[
-                (table::STATE, misfits(state)),
-                (
-                    table::CONTROL,
-                    table::control(port(t, DEPTH)) || table::control(port(t, SHAPE)),
-                ),
-                (
-                    table::CURVE,
-                    table::frequency(t.frequency) || table::sine(t.sine),
-                ),
-            ]),
+            Call::Tick(state, t) => {
+                let [control, curve] = tick::causes(t);
+                table::first(&[(table::STATE, misfits(state)), control, curve])
+            }
         }
     }
 }
 
 fn misfits(state: &State) -> bool {
     table::sample_rate(state.sample_rate) || table::phase(state.lfo_phase)
-}
-
-/// A port as document 01 has it: a number or unset.
-fn port(t: &Tick, bit: u32) -> Option<f64> {
-    let value = match bit {
-        AUDIO => t.audio,
-        DEPTH => t.depth,
-        _ => t.shape,
-    };
-    (t.set & bit != 0).then_some(value)
 }
 
 impl fmt::Display for Call {
@@ -74,18 +53,7 @@ impl fmt::Display for Call {
             Call::Start(rate) => write!(f, "start:\n  {}", shown(&[("rate", *rate)])),
             Call::Reset(state) => write!(f, "reset:\n  {}", of(state)),
             Call::Silent(state) => write!(f, "silent:\n  {}", of(state)),
-            Call::Tick(state, t) => {
-                let ports = [("audio", t.audio), ("depth", t.depth), ("shape", t.shape)];
-                let curves = [("frequency", t.frequency), ("sine", t.sine)];
-                write!(
-                    f,
-                    "tick:\n  {}\n  set {:#x}\n  {}\n  {}",
-                    of(state),
-                    t.set,
-                    shown(&ports),
-                    shown(&curves)
-                )
-            }
+            Call::Tick(state, t) => write!(f, "tick:\n  {}\n  {}", of(state), tick::listed(t)),
         }
     }
 }
@@ -124,9 +92,9 @@ impl Pair for Tremolo {
             10 => Call::Silent(self.at_any_phase(random)),
             11 => Call::Silent(wrong_state(self.ours, random)),
             12..=31 => wrong_tick(self.ours, random),
-            32..=55 => Call::Tick(self.at_any_phase(random), tick(random)),
+            32..=55 => Call::Tick(self.at_any_phase(random), drawn(random)),
             56..=63 => self.tick_near_wrap(random),
-            _ => Call::Tick(self.ours, tick(random)),
+            _ => Call::Tick(self.ours, drawn(random)),
         }
     }
 
@@ -138,11 +106,7 @@ impl Pair for Tremolo {
             Call::Silent(state) => silent_ours(state, number)?,
             Call::Tick(state, t) => self.tick_both(*state, t, number)?,
         }
-        Ok(match (number, call) {
-            (0, Call::Tick(..)) => Made::Tick,
-            (0, _) => Made::Other,
-            _ => Made::Refused(number),
-        })
+        Ok(Made::of(number, matches!(call, Call::Tick(..))))
     }
 }
 
@@ -157,7 +121,7 @@ impl Tremolo {
 
     /// A tick that takes the phase to 1, or just short of it or beyond.
     fn tick_near_wrap(&self, random: &mut Random) -> Call {
-        let t = tick(random);
+        let t = drawn(random);
         let lfo_phase = random.phase_near_wrap(t.frequency / self.ours.sample_rate);
         Call::Tick(
             State {
@@ -210,13 +174,16 @@ impl Tremolo {
             untouched("out of a refused tick", 0.0, out)?;
             return untouched("phase of a refused tick", before.lfo_phase, state.lfo_phase);
         }
-        agree("out", out, rust_tick(&mut self.rust, before.lfo_phase, t)?)?;
+        self.rust.set_phases([before.lfo_phase]);
+        let [rust] = tick::in_rust(&mut self.rust, t)?;
+        agree("out", out, rust)?;
         self.ours = state;
         self.states_agree()
     }
 
     fn states_agree(&self) -> Result<(), String> {
-        agree("phase", self.ours.lfo_phase, self.rust.lfo_phase())?;
+        let [rust] = self.rust.phases();
+        agree("phase", self.ours.lfo_phase, rust)?;
         agree("rate", self.ours.sample_rate, self.rust.sample_rate())
     }
 }
@@ -225,65 +192,11 @@ impl Tremolo {
 fn silent_ours(state: &State, number: u32) -> Result<(), String> {
     let mut silent = JUNK as u32;
     number_agrees(ours::silent(state, &mut silent), number)?;
-    if silent == u32::from(number == 0) {
-        return Ok(());
-    }
-    Err(format!("silent answers {silent}"))
+    silent_agrees(silent, number == 0)
 }
 
-/// The Rust's tick from this phase. The sine that it asks for must be the one that a host would hand in.
-fn rust_tick(rust: &mut Unit, phase: f64, t: &Tick) -> Result<f64, String> {
-    rust.set_lfo_phase(phase);
-    rust.plant_frequency(t.frequency);
-    hand_sines(&[t.sine]);
-    let out = rust.tick(port(t, AUDIO), port(t, DEPTH), port(t, SHAPE));
-    let [angle] = asked_angles();
-    agree("angle of the sine", phase * TAU, angle)?;
-    Ok(out)
-}
-
-/// Arguments that a tick accepts. Each port is unset one time in five, and its number is then any. The mask's other bits,
-/// which no one may read, are set now and then.
-fn tick(random: &mut Random) -> Tick {
-    if random.one_in(16) {
-        return tick_at_ends(random);
-    }
-    let mut t = Tick {
-        set: if random.one_in(8) {
-            random.bits() as u32 & !PORTS
-        } else {
-            0
-        },
-        audio: random.audio(),
-        depth: random.control(),
-        shape: random.control(),
-        frequency: random.frequency(),
-        sine: random.sine(),
-    };
-    for (bit, value) in [
-        (AUDIO, &mut t.audio),
-        (DEPTH, &mut t.depth),
-        (SHAPE, &mut t.shape),
-    ] {
-        if random.one_in(5) {
-            *value = random.any();
-        } else {
-            t.set |= bit;
-        }
-    }
-    t
-}
-
-/// Controls and sine at the ends of their range: the audio is multiplied by exactly 0 or 1, which makes a NaN of an infinity.
-fn tick_at_ends(random: &mut Random) -> Tick {
-    Tick {
-        set: PORTS,
-        audio: random.extreme(),
-        depth: random.of(&[0.0, 1.0]),
-        shape: random.of(&[0.0, 1.0]),
-        frequency: random.of(&[0.0, 32.0]),
-        sine: random.of(&[-1.0, 1.0]),
-    }
+fn drawn(random: &mut Random) -> Tick {
+    tick::draw(random, Random::audio)
 }
 
 /// A state that the test refuses, by its phase, its rate or both.
@@ -304,27 +217,14 @@ fn wrong_state(state: State, random: &mut Random) -> State {
     }
 }
 
-/// A tick with some of its arguments wrong, several at once too, so that the order of the causes shows; now and then none.
+/// A tick with its state, some of its other arguments, or several of them wrong; now and then none.
 fn wrong_tick(state: State, random: &mut Random) -> Call {
-    let mut t = tick(random);
     let state = if random.one_in(4) {
         wrong_state(state, random)
     } else {
         state
     };
-    if random.one_in(4) {
-        t.depth = random.wrong_control();
-    }
-    if random.one_in(4) {
-        t.shape = random.wrong_control();
-    }
-    if random.one_in(4) {
-        t.frequency = random.wrong_frequency();
-    }
-    if random.one_in(4) {
-        t.sine = random.wrong_sine();
-    }
-    Call::Tick(state, t)
+    Call::Tick(state, tick::draw_wrong(random))
 }
 
 /// The words of a record: see `record`.
@@ -360,11 +260,12 @@ pub fn record(ticks: u64, seed: u64) -> Result<Vec<u64>, String> {
         if random.one_in(RESTART) {
             *unit = Unit::new(random.sample_rate());
         }
-        let t = tick(&mut random);
+        let t = drawn(&mut random);
+        let [phase] = unit.phases();
         let phase = match random.below(16) {
             0..=3 => random.phase(),
             4 => random.phase_near_wrap(t.frequency / unit.sample_rate()),
-            _ => unit.lfo_phase(),
+            _ => phase,
         };
         words.extend(recorded(unit, phase, &t)?);
     }
@@ -377,10 +278,12 @@ fn recorded(unit: &mut Unit, phase: f64, t: &Tick) -> Result<[u64; RECORD], Stri
         sample_rate: unit.sample_rate(),
     };
     number_agrees(0, Call::Tick(state, *t).number())?;
-    let out = rust_tick(unit, phase, t)?;
-    let [audio, depth, shape] = [t.audio, t.depth, t.shape].map(word);
-    let [frequency, sine] = [t.frequency, t.sine].map(word);
-    let [before, rate, after, out] = [phase, state.sample_rate, unit.lfo_phase(), out].map(word);
+    unit.set_phases([phase]);
+    let [out] = tick::in_rust(unit, t)?;
+    let ([after], [sine]) = (unit.phases(), t.sines);
+    let [audio, depth, shape] = t.ports.map(word);
+    let [frequency, sine] = [t.frequency, sine].map(word);
+    let [before, rate, after, out] = [phase, state.sample_rate, after, out].map(word);
     Ok([
         KIND,
         before,

@@ -1,3 +1,5 @@
 //! Inside the Rust's timefx.rs: one file for each effect.
 
+pub mod chorus;
 pub mod tremolo;
+pub mod vibrato;

@@ -1,0 +1,36 @@
+-- `Chorus::next` is the state after a tick, part by part. Assumes nothing.
+use mathlib.Core.Path.{refl}
+use lib.Ieee.{ofBits, ofInt, round}
+use Rattle.chorus.specs.Chorus.{nextPhases}
+use borrow.Author.Needs.{needs}
+use Rattle.chorus.proofs.Chorus.next.Statement.{statement}
+use Rattle.chorus.proofs.Chorus.next.Tie as tie
+
+next-place-requires : tie.Need-next-place-requires
+next-place-requires c κs = search needs
+
+advance-phase-requires : tie.Need-advance-phase-requires
+advance-phase-requires c κs = search needs
+
+advance-phase-requires-2 : tie.Need-advance-phase-requires-2
+advance-phase-requires-2 c κs = search needs
+
+advance-phase-requires-3 : tie.Need-advance-phase-requires-3
+advance-phase-requires-3 c κs = search needs
+
+returns : tie.Need-returns
+unfolding nextPhases ofBits ofInt round
+returns c = (
+  c .before .before .before .next-place .ensures,
+  ((λ i. record { phase0 = c .before .before .advance-phase .ensures i; phase1 = c .before .advance-phase2 .ensures i; phase2 = c .advance-phase3 .ensures i }), refl),
+)
+
+pub next-spec : {M : Type 1} → statement M
+next-spec =
+    tie.close
+    (tie.spec
+    next-place-requires
+    advance-phase-requires
+    advance-phase-requires-2
+    advance-phase-requires-3
+    returns)

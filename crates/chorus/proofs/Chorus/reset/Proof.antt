@@ -1,0 +1,63 @@
+-- `Chorus::reset` is the reset of `chorus`: causes 4 and 3, or a clearing and the fresh state. Assumes nothing.
+use mathlib.Core.Path.{sym, ap, _∙_}
+use Rattle.port.specs.Answer.{number, numberOf}
+use Rattle.port.proofs.Laws.{number-some}
+use Rattle.effect.specs.Run.{reset}
+use Rattle.effect.proofs.Contract.{refuses, accepts}
+use Rattle.chorus.specs.Chorus.{chorus}
+use borrow.Author.Needs.{needs}
+use Rattle.chorus.proofs.Chorus.reset.Statement.{statement}
+use Rattle.chorus.proofs.Chorus.reset.Tie as tie
+
+line-length-requires : tie.Need-line-length-requires
+line-length-requires c κs = search needs
+
+refusal-requires : tie.Need-refusal-requires
+refusal-requires c κs = search needs
+
+enum-known-refusal : tie.Need-enum-known-refusal
+enum-known-refusal c = search needs
+
+returns : tie.Need-returns
+returns c =
+    let a = c .before .before .before .before .before .before .args in
+    let cause = c .before .refusal2 .given .0 .0 in
+    refuses chorus reset (a .self) (a .mem .now) (number cause)
+    (sym (ap numberOf (c .before .refusal2 .given .1)) ∙ c .before .before .before .refusal .ensures)
+    (number-some cause)
+
+enum-told : tie.Need-enum-told
+enum-told c = search needs
+
+fresh-requires : tie.Need-fresh-requires
+fresh-requires c κs = search needs
+
+clearing-requires : tie.Need-clearing-requires
+clearing-requires c κs = search needs
+
+same-length : tie.Need-same-length
+same-length c = search needs
+
+returns-2 : tie.Need-returns-2
+returns-2 c =
+    let a = c .before .before .before .before .before .before .before .before .before .before .args in
+    let cleared = c .before .before .clearing .ensures in
+    accepts chorus reset (a .self) (a .mem .now)
+    (sym (c .before .before .before .before .before .before .before .refusal .ensures) ∙ ap numberOf (c .before .before .before .before .before .enum-told .given .1))
+    (cleared .0 ∙ c .before .before .before .before .fresh .ensures)
+    (cleared .1 .1)
+    (cleared .1 .0)
+
+pub reset-spec : {M : Type 1} → statement M
+reset-spec =
+    tie.close
+    (tie.spec
+    line-length-requires
+    refusal-requires
+    enum-known-refusal
+    returns
+    enum-told
+    fresh-requires
+    clearing-requires
+    same-length
+    returns-2)

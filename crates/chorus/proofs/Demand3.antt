@@ -1,0 +1,77 @@
+-- Demand 3 for two choruses, by the laws of their lines: each line is the recent past, and a voice's read is worked out from it. Assumes nothing but that
+-- the rates in force at the end of both runs are equal.
+use Prim.Native.Nat.{ℕ, _*_, _<_}
+use native.Mathlib.Omega.{arith}
+use mathlib.Core.Path.{_≡_, refl}
+use mathlib.Core.Bool.{true}
+use mathlib.Core.List.{List}
+use lib.Ieee.{Float}
+use Rattle.float64.specs.Number.{sineFits}
+use Rattle.common.specs.Line.{newestFirst, readLine}
+use Rattle.effect.specs.Run.{Run}
+use Rattle.effect.specs.Demand3.{Demand3, inForce}
+use Rattle.effect.specs.Covers.{Covers}
+use Rattle.effect.proofs.LineLaws.{LineLaws}
+use Rattle.effect.proofs.Lines.{read-of}
+use Rattle.effect.proofs.Demand3.{demand-3}
+use Rattle.effect.proofs.Covers.{covers}
+use Rattle.chorus.specs.declared.Chorus.{Chorus}
+use Rattle.chorus.specs.Chorus.{Tick, chorus, lines, fits, lineLength, tickNumber, depth, input, mix, distance, voice, mixed, samples, nextPhases, next, writes}
+use Rattle.chorus.proofs.Laws.{fits-parts, length-fits, tick-fits, depth-in, distance-parts}
+use Rattle.chorus.proofs.Demand1.{laws}
+
+-- ---- the laws of lines
+
+-- what a voice with this sine reads where its line, read newest to oldest, is l
+heard : Tick → Float → Float → List Float → Float
+heard t rate sine l = readLine l (distance rate (depth t) sine)
+
+voice-heard : (t : Tick) (s : Chorus) (m l : List Float) → fits s ≡ true → tickNumber t ≡ 0 → (i : ℕ) (sine : Float) → sineFits sine ≡ true
+    → newestFirst (i * lineLength (s .«sample_rate»)) (lineLength (s .«sample_rate»)) (s .«write_pos») m ≡ l
+    → voice i sine t s m ≡ heard t (s .«sample_rate») sine l
+unfolding voice heard
+voice-heard t s m l e n i sine k g =
+    let rate = s .«sample_rate» in
+    let L = lineLength rate in
+    let h = fits-parts s e .rate in
+    let p = distance-parts rate (depth t) sine h (depth-in (t .depth) (tick-fits t n .depth)) k in
+    let some = length-fits rate h .0 in
+    read-of i (i * L) L (s .«write_pos») m l (distance rate (depth t) sine) refl g (p .at-least) (omega (arith, p .at-most))
+
+plays : (t : Tick) (s : Chorus) (m l : List Float) → fits s ≡ true → tickNumber t ≡ 0
+    → ((i : ℕ) → i < 3 → newestFirst (i * lineLength (s .«sample_rate»)) (lineLength (s .«sample_rate»)) (s .«write_pos») m ≡ l)
+    → samples t s m
+    ≡ mixed (input t) (mix t) (heard t (s .«sample_rate») (t .sine0) l) (heard t (s .«sample_rate») (t .sine1) l) (heard t (s .«sample_rate») (t .sine2) l)
+unfolding samples
+plays t s m l e n g =
+    let f = tick-fits t n in
+    λ j. mixed
+    (input t)
+    (mix t)
+    (voice-heard t s m l e n 0 (t .sine0) (f .sine0) (g 0 (omega arith)) j)
+    (voice-heard t s m l e n 1 (t .sine1) (f .sine1) (g 1 (omega arith)) j)
+    (voice-heard t s m l e n 2 (t .sine2) (f .sine2) (g 2 (omega arith)) j)
+
+pub line-laws : LineLaws chorus lines
+unfolding next writes
+line-laws =
+    record {
+      some = omega arith;
+      fills = λ k. refl;
+      inside = λ s e. fits-parts s e .inside;
+      stores = λ t s m. refl;
+      next-position = λ t s m. refl;
+      advanced = λ t rate p. nextPhases (t .frequency) rate p;
+      next-phase = λ t s m. refl;
+      played = λ t rate p l. mixed (input t) (mix t) (heard t rate (t .sine0) l) (heard t rate (t .sine1) l) (heard t rate (t .sine2) l);
+      plays = λ t s m l e r n g. plays t s m l e n g;
+    }
+
+-- ---- the demand
+
+pub shown3 : (x y : Run chorus) → inForce chorus x ≡ inForce chorus y → Demand3 chorus lines x y
+shown3 = demand-3 chorus lines laws line-laws
+
+-- the later calls that it speaks of leave out none that document 01 allows
+pub covered : Covers chorus
+covered = covers chorus laws

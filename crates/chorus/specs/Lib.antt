@@ -1,0 +1,2 @@
+pub mod Chorus
+pub mod Bench

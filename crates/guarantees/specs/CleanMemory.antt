@@ -1,0 +1,11 @@
+-- Demand 1 of document 01: clean memory, for each effect. What `Demand1` says is in effect/specs/Demand1.antt: of any list of calls after an accepted start,
+-- refused ones included, whatever the memory held before. Definitions only. Assumes nothing.
+use Rattle.effect.specs.Demand1.{Demand1}
+use Rattle.chorus.specs.Chorus.{chorus}
+use Rattle.vibrato.specs.Vibrato.{vibrato}
+use Rattle.tremolo.specs.Tremolo.{tremolo}
+
+pub record CleanMemory : Type 0 where
+  pub choruses : Demand1 chorus
+  pub vibratos : Demand1 vibrato
+  pub tremolos : Demand1 tremolo

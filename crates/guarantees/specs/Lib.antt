@@ -1,0 +1,2 @@
+pub mod CleanMemory
+pub mod RecentPasts

@@ -1,0 +1,157 @@
+// The chorus's calls.
+ghost use Rattle.effect.specs.Run.{tick, retune, reset};
+ghost use Rattle.chorus.specs.Chorus as chorus;
+ghost use Rattle.room_effects.specs.LentChorus.{chorusOf, chorusUnit, ChorusStarts, ChorusDoes, ChorusTicks, ChorusAnswers};
+ghost use Rattle.port.specs.Answer.{answerReply, replySample};
+ghost use mathlib.Core.Path.{_≡_};
+ghost use lib.ListN.{getD};
+ghost use lib.Ieee.{nan};
+use chorus::Chorus;
+use port::Answer;
+ghost use Rattle.room_effects.specs.Ports.{portAt};
+use crate::ports::port_if;
+
+// A chorus's state from lent numbers, and back into them.
+fn chorus_of(pos: u64, phases: &[f64; 3], rate: f64) -> Chorus
+    ensures { λ r. ⌜ r ≡ chorusOf pos (now (phases .entry)) rate ⌝ }
+{
+    Chorus {
+        write_pos: pos,
+        lfo_phase0: phases[0],
+        lfo_phase1: phases[1],
+        lfo_phase2: phases[2],
+        sample_rate: rate,
+    }
+}
+
+fn put_chorus(state: Chorus, pos: &mut u64, phases: &mut [f64; 3])
+    ensures { λ _. ⌜ chorusOf (now (pos .exit)) (now (phases .exit)) (state .«sample_rate») ≡ state ⌝ }
+{
+    *pos = state.write_pos;
+    *phases = [state.lfo_phase0, state.lfo_phase1, state.lfo_phase2];
+}
+
+// The three samples of an answer, +0 on a refusal.
+fn put_samples(answer: Answer, out: &mut [f64; 3])
+    ensures { λ _. ⌜ getD (now (out .exit)) 0 nan ≡ replySample 0 (answerReply answer) ⌝ }
+    ensures { λ _. ⌜ getD (now (out .exit)) 1 nan ≡ replySample 1 (answerReply answer) ⌝ }
+    ensures { λ _. ⌜ getD (now (out .exit)) 2 nan ≡ replySample 2 (answerReply answer) ⌝ }
+{
+    *out = [answer.first(), answer.second(), answer.third()];
+}
+
+// Start of a chorus. A refused one writes the state of zeros too.
+#[no_mangle]
+pub extern "C" fn room_raw_chorus_start(
+    sample_rate: f64,
+    memory: &mut [f64],
+    pos: &mut u64,
+    phases: &mut [f64; 3],
+    rate: &mut f64,
+) -> u32
+    ensures { λ r. ⌜ ChorusStarts «sample_rate» (now (memory .entry)) (chorusUnit (now (pos .exit)) (now (phases .exit)) (now (rate .exit)) (now (memory .exit))) r ⌝ }
+{
+    let started = Chorus::new(sample_rate, memory);
+    let state = started.state;
+    put_chorus(state, pos, phases);
+    *rate = state.sample_rate;
+    let outcome = started.outcome;
+    outcome.number()
+}
+
+#[no_mangle]
+pub extern "C" fn room_raw_chorus_retune(
+    sample_rate: f64,
+    memory: &mut [f64],
+    pos: &mut u64,
+    phases: &mut [f64; 3],
+    rate: &mut f64,
+) -> u32
+    ensures { λ r. ⌜ ChorusDoes (retune «sample_rate») (chorusUnit (now (pos .entry)) (now (phases .entry)) (now (rate .entry)) (now (memory .entry))) (chorusUnit (now (pos .exit)) (now (phases .exit)) (now (rate .exit)) (now (memory .exit))) r ⌝ }
+{
+    let state = chorus_of(*pos, phases, *rate);
+    let cleared = state.set_sample_rate(sample_rate, memory);
+    let outcome = cleared.outcome;
+    let number = outcome.number();
+    if number != 0 {
+        return number;
+    }
+    let next = cleared.state;
+    put_chorus(next, pos, phases);
+    *rate = next.sample_rate;
+    0
+}
+
+#[no_mangle]
+pub extern "C" fn room_raw_chorus_reset(
+    memory: &mut [f64],
+    pos: &mut u64,
+    phases: &mut [f64; 3],
+    rate: f64,
+) -> u32
+    ensures { λ r. ⌜ ChorusDoes reset (chorusUnit (now (pos .entry)) (now (phases .entry)) rate (now (memory .entry))) (chorusUnit (now (pos .exit)) (now (phases .exit)) rate (now (memory .exit))) r ⌝ }
+{
+    let state = chorus_of(*pos, phases, rate);
+    let cleared = state.reset(memory);
+    let outcome = cleared.outcome;
+    let number = outcome.number();
+    if number != 0 {
+        return number;
+    }
+    put_chorus(cleared.state, pos, phases);
+    0
+}
+
+// A tick. The mask's bits say which ports are set: 1 audio, 2 depth, 4 mix.
+#[no_mangle]
+pub extern "C" fn room_raw_chorus_tick(
+    pos: &mut u64,
+    phases: &mut [f64; 3],
+    rate: f64,
+    memory: &mut [f64],
+    set: u32,
+    audio: f64,
+    depth: f64,
+    mix: f64,
+    frequency: f64,
+    sine0: f64,
+    sine1: f64,
+    sine2: f64,
+    out: &mut [f64; 3],
+) -> u32
+    ensures { λ r. ⌜ ChorusTicks (tick (chorus.ticked (portAt set 1 audio) (portAt set 2 depth) (portAt set 4 mix) frequency sine0 sine1 sine2)) (chorusUnit (now (pos .entry)) (now (phases .entry)) rate (now (memory .entry))) (chorusUnit (now (pos .exit)) (now (phases .exit)) rate (now (memory .exit))) (now (out .exit)) r ⌝ }
+{
+    let state = chorus_of(*pos, phases, rate);
+    let audio_set = set / 1 % 2 == 1;
+    let depth_set = set / 2 % 2 == 1;
+    let mix_set = set / 4 % 2 == 1;
+    let input = port_if(audio_set, audio);
+    let amount = port_if(depth_set, depth);
+    let wet = port_if(mix_set, mix);
+    let ticked = state.tick(memory, input, amount, wet, frequency, sine0, sine1, sine2);
+    let answer = ticked.answer;
+    let number = answer.number();
+    put_samples(answer, out);
+    if number != 0 {
+        return number;
+    }
+    put_chorus(ticked.state, pos, phases);
+    0
+}
+
+#[no_mangle]
+pub extern "C" fn room_raw_chorus_silent(
+    pos: u64,
+    phases: &[f64; 3],
+    rate: f64,
+    memory: &[f64],
+    out: &mut u32,
+) -> u32
+    ensures { λ r. ⌜ ChorusAnswers (chorusUnit pos (now (phases .entry)) rate (now (memory .entry))) (now (out .exit)) r ⌝ }
+{
+    let state = chorus_of(pos, phases, rate);
+    let silence = state.silent(memory);
+    let yes = silence.flag();
+    *out = yes;
+    silence.number()
+}

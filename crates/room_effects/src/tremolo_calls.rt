@@ -1,0 +1,86 @@
+// The tremolo's calls.
+ghost use Rattle.effect.specs.Run.{tick, reset};
+ghost use Rattle.tremolo.specs.Tremolo.{ticked};
+ghost use Rattle.room_effects.specs.Ports.{portAt};
+ghost use Rattle.room_effects.specs.LentTremolo.{TremoloStarts, TremoloDoes, TremoloTicks, TremoloAnswers};
+use crate::ports::port_if;
+use tremolo::Tremolo;
+
+// Start of a tremolo. A refused one writes the state of zeros too.
+#[no_mangle]
+pub extern "C" fn room_raw_tremolo_start(sample_rate: f64, phase: &mut f64, rate: &mut f64) -> u32
+    ensures { λ r. ⌜ TremoloStarts «sample_rate» (now (phase .exit)) (now (rate .exit)) r ⌝ }
+{
+    let started = Tremolo::new(sample_rate);
+    *phase = started.state.lfo_phase;
+    *rate = started.state.sample_rate;
+    let outcome = started.outcome;
+    outcome.number()
+}
+
+#[no_mangle]
+pub extern "C" fn room_raw_tremolo_reset(phase: &mut f64, rate: f64) -> u32
+    ensures { λ r. ⌜ TremoloDoes reset (now (phase .entry)) rate (now (phase .exit)) r ⌝ }
+{
+    let state = Tremolo {
+        lfo_phase: *phase,
+        sample_rate: rate,
+    };
+    let cleared = state.reset();
+    let outcome = cleared.outcome;
+    let number = outcome.number();
+    if number != 0 {
+        return number;
+    }
+    *phase = cleared.state.lfo_phase;
+    0
+}
+
+// A tick. The mask's bits say which ports are set: 1 audio, 2 depth, 4 shape.
+#[no_mangle]
+pub extern "C" fn room_raw_tremolo_tick(
+    phase: &mut f64,
+    rate: f64,
+    set: u32,
+    audio: f64,
+    depth: f64,
+    shape: f64,
+    frequency: f64,
+    sine: f64,
+    out: &mut f64,
+) -> u32
+    ensures { λ r. ⌜ TremoloTicks (tick (ticked (portAt set 1 audio) (portAt set 2 depth) (portAt set 4 shape) frequency sine)) (now (phase .entry)) rate (now (phase .exit)) (now (out .exit)) r ⌝ }
+{
+    let state = Tremolo {
+        lfo_phase: *phase,
+        sample_rate: rate,
+    };
+    let ticked = state.tick(
+        port_if(set / 1 % 2 == 1, audio),
+        port_if(set / 2 % 2 == 1, depth),
+        port_if(set / 4 % 2 == 1, shape),
+        frequency,
+        sine,
+    );
+    let answer = ticked.answer;
+    let number = answer.number();
+    *out = answer.first();
+    if number != 0 {
+        return number;
+    }
+    *phase = ticked.state.lfo_phase;
+    0
+}
+
+#[no_mangle]
+pub extern "C" fn room_raw_tremolo_silent(phase: f64, rate: f64, out: &mut u32) -> u32
+    ensures { λ r. ⌜ TremoloAnswers phase rate (now (out .exit)) r ⌝ }
+{
+    let state = Tremolo {
+        lfo_phase: phase,
+        sample_rate: rate,
+    };
+    let silence = state.silent();
+    *out = silence.flag();
+    silence.number()
+}

@@ -1,0 +1,140 @@
+// The vibrato's calls.
+ghost use Rattle.effect.specs.Run.{tick, retune, reset};
+ghost use Rattle.vibrato.specs.Vibrato as vib;
+ghost use Rattle.room_effects.specs.LentVibrato.{vibratoUnit, VibratoStarts, VibratoDoes, VibratoTicks, VibratoAnswers};
+ghost use mathlib.Core.Path.{_≡_};
+use vibrato::Vibrato;
+ghost use Rattle.room_effects.specs.Ports.{portAt};
+use crate::ports::port_if;
+
+// Start of a vibrato. A refused one writes the state of zeros too, and leaves the memory as it was.
+#[no_mangle]
+pub extern "C" fn room_raw_vibrato_start(
+    sample_rate: f64,
+    memory: &mut [f64],
+    pos: &mut u64,
+    phase: &mut f64,
+    rate: &mut f64,
+) -> u32
+    ensures { λ r. ⌜ VibratoStarts «sample_rate» (now (memory .entry)) (now (pos .exit)) (now (phase .exit)) (now (rate .exit)) (now (memory .exit)) r ⌝ }
+{
+    let begun = Vibrato::new(sample_rate, memory);
+    *pos = begun.state.write_pos;
+    *phase = begun.state.lfo_phase;
+    *rate = begun.state.sample_rate;
+    let outcome = begun.outcome;
+    outcome.number()
+}
+
+#[no_mangle]
+pub extern "C" fn room_raw_vibrato_retune(
+    sample_rate: f64,
+    memory: &mut [f64],
+    pos: &mut u64,
+    phase: &mut f64,
+    rate: &mut f64,
+) -> u32
+    ensures { λ r. ⌜ VibratoDoes (retune «sample_rate») (vibratoUnit (now (pos .entry)) (now (phase .entry)) (now (rate .entry)) (now (memory .entry))) (now (pos .exit)) (now (phase .exit)) (now (rate .exit)) (now (memory .exit)) r ⌝ }
+{
+    let state = Vibrato {
+        write_pos: *pos,
+        lfo_phase: *phase,
+        sample_rate: *rate,
+    };
+    let retuned = state.set_sample_rate(sample_rate, memory);
+    let outcome = retuned.outcome;
+    let number = outcome.number();
+    if number != 0 {
+        return number;
+    }
+    *pos = retuned.state.write_pos;
+    *phase = retuned.state.lfo_phase;
+    *rate = retuned.state.sample_rate;
+    0
+}
+
+#[no_mangle]
+pub extern "C" fn room_raw_vibrato_reset(
+    memory: &mut [f64],
+    pos: &mut u64,
+    phase: &mut f64,
+    rate: f64,
+) -> u32
+    ensures { λ r. ⌜ VibratoDoes reset (vibratoUnit (now (pos .entry)) (now (phase .entry)) rate (now (memory .entry))) (now (pos .exit)) (now (phase .exit)) rate (now (memory .exit)) r ⌝ }
+{
+    let state = Vibrato {
+        write_pos: *pos,
+        lfo_phase: *phase,
+        sample_rate: rate,
+    };
+    let emptied = state.reset(memory);
+    let outcome = emptied.outcome;
+    let number = outcome.number();
+    if number != 0 {
+        return number;
+    }
+    *pos = emptied.state.write_pos;
+    *phase = emptied.state.lfo_phase;
+    0
+}
+
+// A tick. The mask's bits say which ports are set: 1 audio, 2 depth, 4 mix.
+#[no_mangle]
+pub extern "C" fn room_raw_vibrato_tick(
+    pos: &mut u64,
+    phase: &mut f64,
+    rate: f64,
+    memory: &mut [f64],
+    set: u32,
+    audio: f64,
+    depth: f64,
+    mix: f64,
+    frequency: f64,
+    sine: f64,
+    out: &mut f64,
+) -> u32
+    ensures { λ r. ⌜ VibratoTicks (tick (vib.ticked (portAt set 1 audio) (portAt set 2 depth) (portAt set 4 mix) frequency sine)) (vibratoUnit (now (pos .entry)) (now (phase .entry)) rate (now (memory .entry))) (now (pos .exit)) (now (phase .exit)) (now (memory .exit)) (now (out .exit)) r ⌝ }
+{
+    let state = Vibrato {
+        write_pos: *pos,
+        lfo_phase: *phase,
+        sample_rate: rate,
+    };
+    let played = state.tick(
+        memory,
+        port_if(set / 1 % 2 == 1, audio),
+        port_if(set / 2 % 2 == 1, depth),
+        port_if(set / 4 % 2 == 1, mix),
+        frequency,
+        sine,
+    );
+    let answer = played.answer;
+    let number = answer.number();
+    *out = answer.first();
+    if number != 0 {
+        return number;
+    }
+    *pos = played.state.write_pos;
+    *phase = played.state.lfo_phase;
+    0
+}
+
+#[no_mangle]
+pub extern "C" fn room_raw_vibrato_silent(
+    write_pos: u64,
+    lfo_phase: f64,
+    sample_rate: f64,
+    memory: &[f64],
+    out: &mut u32,
+) -> u32
+    ensures { λ r. ⌜ VibratoAnswers (vibratoUnit «write_pos» «lfo_phase» «sample_rate» (now (memory .entry))) (now (out .exit)) r ⌝ }
+{
+    let state = Vibrato {
+        write_pos,
+        lfo_phase,
+        sample_rate,
+    };
+    let answered = state.silent(memory);
+    *out = answered.flag();
+    answered.number()
+}

@@ -1,0 +1,61 @@
+-- Demand 3 for the vibrato: two units whose lines are equal exactly where their recent pasts are, and then answer the same later ticks alike. Assumes nothing.
+use Prim.Native.Nat.{ℕ, _+_, _-_, _*_, _≤_, _<_}
+use native.Mathlib.Omega.{arith}
+use native.Mathlib.Nat.{one-mul, zero-mul}
+use mathlib.Core.Path.{_≡_, refl, sym, ap}
+use mathlib.Core.Bool.{true}
+use mathlib.Core.List.{List, [], _∷_}
+use lib.Ieee.{Float, binary64, div}
+use Rattle.common.specs.Signal.{blended, advanced}
+use Rattle.common.specs.Line.{newestFirst, readLine}
+use Rattle.float64.proofs.Parts.{parts-of}
+use Rattle.effect.specs.Run.{Run}
+use Rattle.effect.specs.Demand3.{Demand3, inForce}
+use Rattle.effect.specs.Covers.{Covers}
+use Rattle.effect.proofs.LineLaws.{LineLaws}
+use Rattle.effect.proofs.Lines.{read-of}
+use Rattle.effect.proofs.Demand3.{demand-3}
+use Rattle.effect.proofs.Covers.{covers}
+use Rattle.vibrato.specs.declared.Vibrato.{Vibrato}
+use Rattle.vibrato.specs.Vibrato.{Tick, vibrato, lines, fits, lineLength, tickNumber, input, depth, mix, distance, delayed, next, writes, sample}
+use Rattle.vibrato.proofs.Laws.{length-in, passed, handed}
+use Rattle.vibrato.proofs.Distance.{distance-in}
+use Rattle.vibrato.proofs.Demand1.{laws}
+
+-- what a tick at the rate answers where the line, read newest to oldest, is l
+abbrev heard : Tick → Float → List Float → Float
+heard t rate l = blended (input t) (readLine l (distance rate (depth t) (t .sine))) (mix t)
+
+plays : (t : Tick) (s : Vibrato) (m l : List Float) → fits s ≡ true → tickNumber t ≡ 0
+    → newestFirst (0 * lineLength (s .«sample_rate»)) (lineLength (s .«sample_rate»)) (s .«write_pos») m ≡ l
+    → sample t s m ≡ heard t (s .«sample_rate») l
+unfolding sample delayed
+plays t s m l f n e =
+    let rate = s .«sample_rate» in
+    let p = passed s f in
+    let h = handed t n in
+    let long = length-in rate (p .rate) in
+    let d = parts-of (lineLength rate - 1) (omega arith) (distance-in rate (t .depth) (t .sine) (p .rate) (h .depth) (h .sine)) in
+    ap (λ (x : Float). blended (input t) x (mix t))
+    (read-of 0 0 (lineLength rate) (s .«write_pos») m l (distance rate (depth t) (t .sine)) (zero-mul (lineLength rate)) e (d .at-least) (omega (arith, d .at-most)))
+
+pub line-laws : LineLaws vibrato lines
+unfolding next writes
+line-laws =
+    record {
+      some = omega arith;
+      fills = λ k. sym (one-mul (lineLength k));
+      inside = λ s e. passed s e .position;
+      stores = λ t s m. refl;
+      next-position = λ t s m. refl;
+      advanced = λ t rate phase. advanced phase (div binary64 (t .frequency) rate);
+      next-phase = λ t s m. refl;
+      played = λ t rate phase l. heard t rate l ∷ [];
+      plays = λ t s m l f r n e. ap (λ (x : Float). x ∷ []) (plays t s m l f n (e 0 (omega arith)));
+    }
+
+pub shown3 : (x y : Run vibrato) → inForce vibrato x ≡ inForce vibrato y → Demand3 vibrato lines x y
+shown3 = demand-3 vibrato lines laws line-laws
+
+pub covered : Covers vibrato
+covered = covers vibrato laws

@@ -1,0 +1,2 @@
+pub mod Vibrato
+pub mod Bench

@@ -1,0 +1,306 @@
+//! Effects with lines: ours, in memory that it is lent, beside the Rust's.
+//!
+//! Of the memory, a tick's own places are compared with the Rust's lines at once. All of it, spare places too, is held against
+//! what it should be at every clearing, at every refusal, at every 64th tick of a unit and at the end of the run.
+
+mod call;
+mod draw;
+mod memory;
+mod record;
+
+use crate::bits::{agree, untouched, JUNK};
+use crate::random::Random;
+use crate::run::{number_agrees, silent_agrees, Made, Pair};
+use crate::{table, tick};
+use call::{Call, Quiet, What};
+use memory::Memory;
+use quiver_oracle::{Effect as _, Lined as _};
+use room_effects::{Lined as _, State, Tick};
+
+pub use record::record;
+
+/// An effect whose N lines have one write position, and N phases; it answers N samples.
+pub trait Effect<const N: usize> {
+    const NAME: &'static str;
+
+    /// Document 01's number of the effect.
+    const KIND: u64;
+
+    /// The n of document 01's rule for a line's length.
+    const N_OF_LENGTH: f64;
+
+    /// How far each phase moves, as a multiple of frequency / rate: to draw phases by, not to compare them.
+    const STEPS: [f64; N];
+
+    type Ours: room_effects::Lined<N>;
+    type Rust: quiver_oracle::Lined<N>;
+}
+
+pub struct Lines<E: Effect<N>, const N: usize> {
+    state: State<N>,
+    memory: Memory,
+    rust: E::Rust,
+    ticks: u64,
+}
+
+fn junk_state<const N: usize>() -> State<N> {
+    State {
+        write_pos: JUNK as u64,
+        phases: [JUNK; N],
+        sample_rate: JUNK,
+    }
+}
+
+/// All of the memory is compared once in this many ticks of a unit.
+const WHOLE: u64 = 64;
+
+fn length<E: Effect<N>, const N: usize>(rate: f64) -> u64 {
+    table::length(E::N_OF_LENGTH, rate)
+}
+
+fn needed<E: Effect<N>, const N: usize>(rate: f64) -> usize {
+    (length::<E, N>(rate) as usize).saturating_mul(N)
+}
+
+impl<E: Effect<N>, const N: usize> Pair for Lines<E, N> {
+    const NAME: &'static str = E::NAME;
+    const REFUSALS: &'static [u32] = &[
+        table::SAMPLE_RATE,
+        table::MEMORY,
+        table::STATE,
+        table::CONTROL,
+        table::CURVE,
+    ];
+    type Call = Call<N>;
+
+    fn start(sample_rate: f64) -> Result<Self, String> {
+        let call = Call::start_in(needed::<E, N>(sample_rate), sample_rate, 0);
+        let mut unit = Self {
+            state: junk_state(),
+            memory: Memory::junk(0, 0),
+            rust: E::Rust::new(sample_rate),
+            ticks: 0,
+        };
+        unit.call(&call)?;
+        Ok(unit)
+    }
+
+    fn draw(&self, random: &mut Random) -> Call<N> {
+        self.drawn(random)
+    }
+
+    fn call(&mut self, call: &Call<N>) -> Result<Made, String> {
+        let number = call.number::<E>();
+        if let Some((place, value)) = call.planted {
+            self.plant(place, value);
+        }
+        match &call.what {
+            What::Start { rate, seed } => self.start_both(call.lent, *rate, *seed, number)?,
+            What::Retune(_) | What::Reset => self.clear_both(call, number)?,
+            What::Silent(None) => self.silent(call, number)?,
+            What::Silent(Some(quiet)) => silent_in_quiet::<E, N>(call, quiet, number)?,
+            What::Tick(t) => self.tick_both(call, t, number)?,
+        }
+        Ok(Made::of(number, matches!(call.what, What::Tick(_))))
+    }
+
+    fn finish(&self) -> Result<(), String> {
+        self.all_agrees()
+    }
+}
+
+impl<E: Effect<N>, const N: usize> Lines<E, N> {
+    fn length(&self) -> u64 {
+        length::<E, N>(self.state.sample_rate)
+    }
+
+    fn plant(&mut self, place: usize, value: f64) {
+        self.memory.plant(place, value);
+        let length = self.length() as usize;
+        let (line, at) = (place / length, place % length);
+        if let Some(line) = self.rust.lines_mut().into_iter().nth(line) {
+            line[at] = value;
+        }
+    }
+
+    /// A refused start writes a state of zeros, which the state test refuses, and leaves the memory; the unit goes on as it was.
+    fn start_both(&mut self, lent: usize, rate: f64, seed: u64, number: u32) -> Result<(), String> {
+        let mut memory = Memory::junk(lent, seed);
+        let mut state = junk_state();
+        number_agrees(E::Ours::start(&mut state, memory.lend(lent), rate), number)?;
+        if number != 0 {
+            state_untouched(&zero_state(), &state)?;
+            return memory.check();
+        }
+        memory.cleared(lent);
+        self.state = state;
+        self.memory = memory;
+        self.rust = E::Rust::new(rate);
+        self.all_agrees()
+    }
+
+    fn clear_both(&mut self, call: &Call<N>, number: u32) -> Result<(), String> {
+        let mut state = call.state;
+        let lent = self.memory.lend(call.lent);
+        let ours = match call.what {
+            What::Retune(rate) => E::Ours::retune(&mut state, lent, rate),
+            _ => E::Ours::reset(&mut state, lent),
+        };
+        number_agrees(ours, number)?;
+        if number != 0 {
+            return self.refused(&call.state, &state);
+        }
+        self.rust_at(&call.state);
+        match call.what {
+            What::Retune(rate) => self.rust.set_sample_rate(rate),
+            _ => self.rust.reset(),
+        }
+        self.memory.cleared(call.lent);
+        self.state = state;
+        self.all_agrees()
+    }
+
+    fn tick_both(&mut self, call: &Call<N>, t: &Tick<N>, number: u32) -> Result<(), String> {
+        if number == 0 {
+            self.rust_at(&call.state);
+        }
+        let mut state = call.state;
+        let mut out = [JUNK; N];
+        let lent = self.memory.lend(call.lent);
+        number_agrees(E::Ours::tick(&mut state, lent, t, &mut out), number)?;
+        if number != 0 {
+            out.iter()
+                .try_for_each(|out| untouched("out of a refused tick", 0.0, *out))?;
+            return self.refused(&call.state, &state);
+        }
+        for (ours, rust) in out.into_iter().zip(tick::in_rust(&mut self.rust, t)?) {
+            agree("out", ours, rust)?;
+        }
+        self.state = state;
+        self.written_agrees(call.state.write_pos as usize)?;
+        self.ticks += 1;
+        if self.ticks % WHOLE == 0 {
+            return self.all_agrees();
+        }
+        self.states_agree()
+    }
+
+    /// Silent: every place in use is +0 or −0.
+    fn silent(&mut self, call: &Call<N>, number: u32) -> Result<(), String> {
+        let memory = self.memory.shown(call.lent);
+        silent_ours::<E, N>(&call.state, memory, number)?;
+        self.memory.check()
+    }
+
+    /// The Rust's unit gets the state that ours is handed: at another rate, with lines that lie elsewhere in the memory.
+    fn rust_at(&mut self, state: &State<N>) {
+        if state.sample_rate.to_bits() != self.rust.sample_rate().to_bits() {
+            self.rust = E::Rust::new(state.sample_rate);
+            let length = length::<E, N>(state.sample_rate) as usize;
+            let places = self.memory.shown(self.memory.count()).chunks_exact(length);
+            for (line, places) in self.rust.lines_mut().into_iter().zip(places) {
+                line.copy_from_slice(places);
+            }
+        }
+        self.rust.set_write_pos(state.write_pos as usize);
+        self.rust.set_phases(state.phases);
+    }
+
+    /// A refused call leaves state and memory to the bit.
+    fn refused(&self, before: &State<N>, after: &State<N>) -> Result<(), String> {
+        state_untouched(before, after)?;
+        self.memory.check()
+    }
+
+    /// The place that a tick from this position has written in each line.
+    fn written_agrees(&mut self, write_pos: usize) -> Result<(), String> {
+        let length = self.length() as usize;
+        for (i, line) in self.rust.lines().into_iter().enumerate() {
+            self.memory
+                .written(i * length + write_pos, line[write_pos])?;
+        }
+        Ok(())
+    }
+
+    fn states_agree(&self) -> Result<(), String> {
+        for (ours, rust) in self.state.phases.into_iter().zip(self.rust.phases()) {
+            agree("phase", ours, rust)?;
+        }
+        same_count("position", self.state.write_pos, self.rust.write_pos())?;
+        agree("rate", self.state.sample_rate, self.rust.sample_rate())
+    }
+
+    /// State, every place of every line, and the places beyond them.
+    fn all_agrees(&self) -> Result<(), String> {
+        self.states_agree()?;
+        self.memory.check()?;
+        let length = self.length() as usize;
+        let lines = self.memory.shown(N * length).chunks_exact(length);
+        for (ours, rust) in lines.zip(self.rust.lines()) {
+            lines_agree(ours, rust)?;
+        }
+        Ok(())
+    }
+}
+
+fn lines_agree(ours: &[f64], rust: &[f64]) -> Result<(), String> {
+    same_count("length of a line", ours.len() as u64, rust.len())?;
+    for (i, (ours, rust)) in ours.iter().zip(rust).enumerate() {
+        agree("a line", *ours, *rust).map_err(|differs| format!("place {i} of {differs}"))?;
+    }
+    Ok(())
+}
+
+fn zero_state<const N: usize>() -> State<N> {
+    State {
+        write_pos: 0,
+        phases: [0.0; N],
+        sample_rate: 0.0,
+    }
+}
+
+fn state_untouched<const N: usize>(should: &State<N>, is: &State<N>) -> Result<(), String> {
+    for (should, is) in should.phases.iter().zip(is.phases) {
+        untouched("phase after a refusal", *should, is)?;
+    }
+    same_count(
+        "position after a refusal",
+        is.write_pos,
+        should.write_pos as usize,
+    )?;
+    untouched("rate after a refusal", should.sample_rate, is.sample_rate)
+}
+
+fn same_count(what: &str, ours: u64, rust: usize) -> Result<(), String> {
+    if ours == rust as u64 {
+        return Ok(());
+    }
+    Err(format!("{what} is {ours}, and should be {rust}"))
+}
+
+fn silent_in_quiet<E: Effect<N>, const N: usize>(
+    call: &Call<N>,
+    quiet: &Quiet,
+    number: u32,
+) -> Result<(), String> {
+    let mut random = Random::new(quiet.seed);
+    let mut memory: Vec<f64> = (0..call.lent).map(|_| random.of(&[0.0, -0.0])).collect();
+    if let Some(place) = memory.get_mut(quiet.place) {
+        *place = quiet.sound;
+    }
+    silent_ours::<E, N>(&call.state, &memory, number)
+}
+
+/// Document 01: yes when every place in use of the unit's lines is +0 or −0.
+fn silent_ours<E: Effect<N>, const N: usize>(
+    state: &State<N>,
+    memory: &[f64],
+    number: u32,
+) -> Result<(), String> {
+    let mut silent = JUNK as u32;
+    number_agrees(E::Ours::silent(state, memory, &mut silent), number)?;
+    let zeros = [0.0f64, -0.0].map(f64::to_bits);
+    let in_use = || memory[..needed::<E, N>(state.sample_rate)].iter();
+    let yes = number == 0 && in_use().all(|place| zeros.contains(&place.to_bits()));
+    silent_agrees(silent, yes)
+}

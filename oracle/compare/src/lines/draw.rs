@@ -1,0 +1,229 @@
+//! Calls for a unit with lines: mostly ticks, now and then one that must be refused.
+
+use super::call::{Call, Quiet, What};
+use super::{length, needed, Effect, Lines};
+use crate::random::Random;
+use crate::table;
+use crate::tick;
+use room_effects::{State, Tick};
+use std::array::from_fn;
+
+impl<E: Effect<N>, const N: usize> Lines<E, N> {
+    pub fn drawn(&self, random: &mut Random) -> Call<N> {
+        // Clearings are rarer than a line is long, so that most reads find what ticks have stored.
+        if random.one_in(2 * self.length()) {
+            return self.clearing(random);
+        }
+        let t = tick::draw(random, Random::mostly_ordinary_audio);
+        let state = match random.below(1024) {
+            0..=31 => return self.wrong(random),
+            32..=35 => return self.lent_enough(self.state, What::Silent(None), random),
+            36..=39 => return self.question_of_quiet(random),
+            40..=63 => self.at_any_state(random),
+            64..=71 => self.near_wrap(&t, random),
+            72..=73 => self.at_another_rate(random),
+            _ => self.state,
+        };
+        let call = self.lent_enough(state, What::Tick(t), random);
+        Call {
+            planted: random.one_in(64).then(|| self.planted(random)),
+            ..call
+        }
+    }
+
+    fn planted(&self, random: &mut Random) -> (usize, f64) {
+        let place = random.below(self.memory.count() as u64);
+        (place as usize, random.audio())
+    }
+
+    /// A call that is lent all the unit's memory or, now and then, no more of it than it needs.
+    fn lent_enough(&self, state: State<N>, what: What<N>, random: &mut Random) -> Call<N> {
+        let mut lent = self.memory.count();
+        if random.one_in(16) {
+            lent = lent.min(needed::<E, N>(rate_in_force(&state, &what)));
+        }
+        Call {
+            state,
+            planted: None,
+            lent,
+            what,
+        }
+    }
+
+    /// A start, a retune or a reset, accepted unless a retune wants more memory than there is.
+    fn clearing(&self, random: &mut Random) -> Call<N> {
+        let state = match random.below(4) {
+            0 => self.at_any_state(random),
+            1 => self.at_another_rate(random),
+            _ => self.state,
+        };
+        let what = match random.below(4) {
+            0 => return start::<E, N>(random.sample_rate(), random),
+            1..=2 => What::Retune(self.new_rate(random)),
+            _ => What::Reset,
+        };
+        self.lent_enough(state, what, random)
+    }
+
+    /// A rate to go to: the same, any, one that the memory suffices for, one at which it just does or just does not.
+    fn new_rate(&self, random: &mut Random) -> f64 {
+        match random.below(4) {
+            0 => self.state.sample_rate,
+            1 => random.sample_rate(),
+            2 => self.rate_that_fits(random),
+            _ => {
+                let length = (self.memory.count() / N) as u64 + random.below(2);
+                let rate = (length - 10) as f64 * 1_000.0 / E::N_OF_LENGTH;
+                random.of(&[rate, rate.next_up(), rate.next_down()])
+            }
+        }
+    }
+
+    fn rate_that_fits(&self, random: &mut Random) -> f64 {
+        let rate = random.sample_rate();
+        if needed::<E, N>(rate) <= self.memory.count() {
+            rate
+        } else {
+            random.within(8_000.0, self.state.sample_rate)
+        }
+    }
+
+    /// Some of the arguments wrong, several at once too, so that the order of the causes shows; now and then none.
+    fn wrong(&self, random: &mut Random) -> Call<N> {
+        let rate = if random.one_in(2) {
+            random.wrong_sample_rate()
+        } else {
+            self.new_rate(random)
+        };
+        let what = match random.below(8) {
+            0 => return wrong_start::<E, N>(rate, random),
+            1 => What::Retune(rate),
+            2 => What::Reset,
+            3 => What::Silent(None),
+            _ => What::Tick(tick::draw_wrong(random)),
+        };
+        let state = if random.one_in(3) {
+            self.wrong_state(random)
+        } else {
+            self.state
+        };
+        let mut lent = self.memory.count();
+        if random.one_in(3) {
+            lent = lent.min(short(needed::<E, N>(rate_in_force(&state, &what)), random));
+        }
+        Call {
+            state,
+            planted: None,
+            lent,
+            what,
+        }
+    }
+
+    /// A state that the test refuses, by its position, a phase, its rate or several of them.
+    fn wrong_state(&self, random: &mut Random) -> State<N> {
+        let mut state = self.state;
+        let wrong = 1 + random.below(7);
+        if wrong & 1 != 0 {
+            state.write_pos = random.wrong_position(self.length());
+        }
+        if wrong & 2 != 0 {
+            state.phases[random.below(N as u64) as usize] = random.wrong_phase();
+        }
+        if wrong & 4 != 0 {
+            state.sample_rate = random.wrong_sample_rate();
+        }
+        state
+    }
+
+    /// Another position and other phases.
+    fn at_any_state(&self, random: &mut Random) -> State<N> {
+        let last = self.length() - 1;
+        let any = random.below(last + 1);
+        State {
+            write_pos: random.of(&[0, last, any, any]),
+            phases: from_fn(|_| random.phase()),
+            ..self.state
+        }
+    }
+
+    /// Phases that the tick takes to 1, or just short of it or beyond.
+    fn near_wrap(&self, t: &Tick<N>, random: &mut Random) -> State<N> {
+        let step = |i: usize| t.frequency * E::STEPS[i] / self.state.sample_rate;
+        State {
+            phases: from_fn(|i| random.phase_near_wrap(step(i))),
+            ..self.state
+        }
+    }
+
+    /// The state of a unit with shorter lines, or with longer ones than the memory has, or now and then than the position fits.
+    fn at_another_rate(&self, random: &mut Random) -> State<N> {
+        let sample_rate = if random.one_in(4) {
+            random.sample_rate()
+        } else {
+            self.rate_that_fits(random)
+        };
+        let length = length::<E, N>(sample_rate);
+        State {
+            write_pos: random.below(length + length / 16),
+            sample_rate,
+            ..self.state
+        }
+    }
+
+    /// Whether a memory is silent that holds zeros but for one place: in use, spare, or not even lent.
+    fn question_of_quiet(&self, random: &mut Random) -> Call<N> {
+        let lent = self.memory.count();
+        let in_use = needed::<E, N>(self.state.sample_rate);
+        let any = random.below(lent as u64 + 1) as usize;
+        let quiet = Quiet {
+            seed: random.bits(),
+            place: random.of(&[any, any, in_use - 1, in_use, 0]),
+            sound: random.audio(),
+        };
+        Call {
+            state: self.state,
+            planted: None,
+            lent,
+            what: What::Silent(Some(quiet)),
+        }
+    }
+}
+
+/// The rate that the call's need of memory goes by.
+fn rate_in_force<const N: usize>(state: &State<N>, what: &What<N>) -> f64 {
+    match what {
+        What::Start { rate, .. } | What::Retune(rate) => *rate,
+        _ => state.sample_rate,
+    }
+}
+
+/// Too few places: one less than needed, none, or any number of them.
+fn short(needed: usize, random: &mut Random) -> usize {
+    let any = random.below(needed as u64) as usize;
+    random.of(&[needed - 1, needed - 1, 0, any])
+}
+
+/// A start in as much memory as it needs, in a little more, or in as much as some other rate needs.
+fn start<E: Effect<N>, const N: usize>(rate: f64, random: &mut Random) -> Call<N> {
+    let exact = needed::<E, N>(rate);
+    let spare = match random.below(3) {
+        0 => 0,
+        1 => random.below(20) as usize,
+        _ => needed::<E, N>(random.sample_rate()).saturating_sub(exact),
+    };
+    Call::start_in(exact + spare, rate, random.bits())
+}
+
+/// A start that may be refused by its rate, by its memory or by both.
+fn wrong_start<E: Effect<N>, const N: usize>(rate: f64, random: &mut Random) -> Call<N> {
+    let fits = if table::sample_rate(rate) {
+        random.sample_rate()
+    } else {
+        rate
+    };
+    let mut lent = needed::<E, N>(fits);
+    if random.one_in(2) {
+        lent = short(lent, random);
+    }
+    Call::start_in(lent, rate, random.bits())
+}
