@@ -1,12 +1,15 @@
-/* A plucked string, one second long, through the tremolo: how the calls of room_effects.h go together.
-   The host computes the curve numbers, here a steady frequency and a sine at the state's phase. */
+/* A plucked string, one second long, through each effect: how the calls of room_effects.h go together.
+   The host computes the curve numbers, here a steady frequency and sines at the state's phases. */
 #include "room_effects.h"
 
 #include <math.h>
 #include <stdio.h>
+#include <stdlib.h>
 
 #define RATE 44100
 #define TAU 6.283185307179586
+#define VIBRATO_PLACES 892
+#define CHORUS_PLACES 4263
 
 static double plucked(int i)
 {
@@ -14,28 +17,91 @@ static double plucked(int i)
     return 5.0 * exp(-3.0 * t) * sin(TAU * 196.0 * t);
 }
 
-static uint32_t play(double depth, double shape)
+/* A row of the table: the level of what was played. */
+static void print_row(const char *name, double peak, double sum, int places)
+{
+    printf("%-10s peak %.4f  RMS %.4f  places lent %d\n", name, peak, sqrt(sum / RATE), places);
+}
+
+static uint32_t play_tremolo(void)
 {
     room_tremolo unit;
+    double y[1];
     double peak = 0.0;
     double sum = 0.0;
     uint32_t refused = room_tremolo_start(&unit, RATE);
     for (int i = 0; i < RATE && refused == 0; i++) {
         double sine = sin(unit.lfo_phase * TAU);
-        double y[1];
-        refused = room_tremolo_tick(&unit, room_set(plucked(i)), room_set(depth), room_set(shape), 5.0, sine, y);
+        refused = room_tremolo_tick(&unit, room_set(plucked(i)), room_set(1.0), room_unset(), 5.0, sine, y);
         peak = fmax(peak, fabs(y[0]));
         sum += y[0] * y[0];
     }
-    if (refused != 0)
-        printf("refused: %u\n", (unsigned)refused);
-    else
-        printf("depth %.2f  shape %.2f  peak %.4f  RMS %.4f\n", depth, shape, peak, sqrt(sum / RATE));
+    print_row("tremolo", peak, sum, 0);
     return refused;
+}
+
+static uint32_t play_vibrato(double *places)
+{
+    room_vibrato unit;
+    double y[1];
+    double peak = 0.0;
+    double sum = 0.0;
+    uint32_t refused = room_vibrato_start(&unit, places, VIBRATO_PLACES, RATE);
+    for (int i = 0; i < RATE && refused == 0; i++) {
+        double sine = sin(unit.lfo_phase * TAU);
+        refused = room_vibrato_tick(&unit, places, VIBRATO_PLACES, room_set(plucked(i)), room_unset(), room_unset(), 5.0, sine, y);
+        peak = fmax(peak, fabs(y[0]));
+        sum += y[0] * y[0];
+    }
+    print_row("vibrato", peak, sum, VIBRATO_PLACES);
+    return refused;
+}
+
+static uint32_t play_chorus(double *places)
+{
+    room_chorus unit;
+    double y[3];
+    double sines[3];
+    double peak = 0.0;
+    double sum = 0.0;
+    uint32_t refused = room_chorus_start(&unit, places, CHORUS_PLACES, RATE);
+    for (int i = 0; i < RATE && refused == 0; i++) {
+        for (int v = 0; v < 3; v++)
+            sines[v] = sin(unit.lfo_phases[v] * TAU);
+        refused = room_chorus_tick(&unit, places, CHORUS_PLACES, room_set(plucked(i)), room_unset(), room_unset(), 0.8, sines, y);
+        peak = fmax(peak, fabs(y[0]));
+        sum += y[0] * y[0];
+    }
+    print_row("chorus", peak, sum, CHORUS_PLACES);
+    return refused;
+}
+
+/* What the unit is for: after a song and a reset the next take is +0 in every sample. */
+static uint32_t next_hirer(double *places)
+{
+    room_vibrato unit;
+    double y[1] = {0.0};
+    int sounding = 0;
+    uint32_t refused = room_vibrato_start(&unit, places, VIBRATO_PLACES, RATE);
+    for (int i = 0; i < RATE && refused == 0; i++)
+        refused = room_vibrato_tick(&unit, places, VIBRATO_PLACES, room_set(plucked(i)), room_unset(), room_unset(), 5.0, 0.0, y);
+    if (refused == 0)
+        refused = room_vibrato_reset(&unit, places, VIBRATO_PLACES);
+    for (int i = 0; i < RATE && refused == 0; i++) {
+        refused = room_vibrato_tick(&unit, places, VIBRATO_PLACES, room_unset(), room_unset(), room_unset(), 5.0, 0.0, y);
+        sounding += y[0] != 0.0 || signbit(y[0]) != 0;
+    }
+    printf("after a song and a reset: %d of %d samples are not +0\n", sounding, RATE);
+    return refused + (uint32_t)sounding;
 }
 
 int main(void)
 {
-    puts("tremolo at 5 Hz over one second of a plucked string");
-    return play(0.0, 0.0) || play(0.5, 0.0) || play(1.0, 0.0) || play(1.0, 1.0);
+    double *places = malloc(CHORUS_PLACES * sizeof *places);
+    if (places == NULL)
+        return 1;
+    puts("one second of a plucked string through each effect");
+    uint32_t wrong = play_tremolo() + play_vibrato(places) + play_chorus(places) + next_hirer(places);
+    free(places);
+    return wrong != 0;
 }
