@@ -1,7 +1,6 @@
 -- Demand 1 for the chorus, by the laws of its parts. Assumes nothing.
-use Prim.Native.Nat.{ℕ, _*_}
 use native.Mathlib.Omega.{arith}
-use mathlib.Core.Path.{_≡_, refl, _∙_}
+use mathlib.Core.Path.{_≡_, refl}
 use mathlib.Core.Bool.{true, false}
 use lib.Ieee.{Float, binary64, le, lt, ofInt, round}
 use lib.Ieee as Ieee
@@ -15,7 +14,7 @@ use Rattle.effect.specs.Demand1.{Demand1}
 use Rattle.effect.proofs.Demand1.{demand-1}
 use Rattle.chorus.specs.declared.Chorus.{Chorus}
 use Rattle.chorus.specs.Chorus.{Tick, Phases, chorus, fits, lineLength, places, phasesOf, startPhases, cleared, blank, tickNumber, nextPhases, next, writes}
-use Rattle.chorus.proofs.Laws.{Fits, fits-parts, fit, length-fits, TickFits, tick-fits}
+use Rattle.chorus.proofs.Laws.{fits-parts, fit, length-fits, tick-fits}
 
 -- ---- the laws
 

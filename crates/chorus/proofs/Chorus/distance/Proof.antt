@@ -1,7 +1,7 @@
 -- `Chorus::distance` is the clamped sweep: the clamp in two halves. Assumes nothing.
-use mathlib.Core.Path.{_≡_, _∙_}
-use lib.Ieee.{Float, binary64, add, mul, ofBits, ofInt, round}
-use Rattle.float64.specs.Number.{half, atLeast, atMost, whole}
+use mathlib.Core.Path.{_∙_}
+use lib.Ieee.{binary64, add, mul, ofBits, ofInt, round}
+use Rattle.float64.specs.Number.{half, atMost}
 use Rattle.chorus.proofs.Laws.{clamped-halves}
 use borrow.Author.Needs.{needs}
 use Rattle.chorus.proofs.Chorus.distance.Statement.{statement}

@@ -1,10 +1,7 @@
 -- `Chorus::line_length` is `lineLength` at an accepted rate, where the quick whole part serves, and 0 at another. Assumes nothing.
 use native.Mathlib.Omega.{arith}
-use mathlib.Core.Path.{_≡_, sym, _∙_, ap}
-use mathlib.Core.Bool.{true}
-use lib.Ieee.{Float, add, ofBits, ofInt}
-use Rattle.float64.specs.Number.{rateFits}
-use Rattle.float64.proofs.Lengths.{length-32}
+use mathlib.Core.Path.{sym, _∙_}
+use lib.Ieee.{add, ofBits, ofInt}
 use Rattle.chorus.specs.Chorus.{lineLength}
 use Rattle.chorus.proofs.Laws.{samples-small, length-fits}
 use borrow.Author.Needs.{needs}

@@ -1,5 +1,4 @@
 -- `Chorus::mixed` is the definition of that name. Assumes nothing.
-use mathlib.Core.Path.{_≡_}
 use mathlib.Core.List.{[], _∷_}
 use lib.Ieee.{ofBits, ofInt, round}
 use Rattle.port.specs.Answer.{played}

@@ -1,13 +1,9 @@
 -- `Chorus::rate_refusal` is the table's row of a start: causes 1 and 3. Assumes nothing.
 use native.Mathlib.Omega.{arith}
-use mathlib.Core.Path.{_≡_, sym, _∙_, ap}
-use mathlib.Core.Bool.{true}
+use mathlib.Core.Path.{sym, _∙_, ap}
 use Prim.Native.Nat.{ℕ, _*_}
 use borrow.Author.Tests.{not-true, not-false}
-use Rattle.float64.specs.Number.{rateFits}
 use Rattle.effect.specs.Run.{memoryNumber}
-use Rattle.effect.proofs.Contract.{start-settings, start-memory}
-use Rattle.chorus.specs.Chorus.{chorus}
 use Rattle.chorus.proofs.Laws.{length-fits, length-is}
 use borrow.Author.Needs.{needs}
 use Rattle.chorus.proofs.Chorus.rate_refusal.Statement.{statement}

@@ -1,6 +1,6 @@
 -- `Chorus::refusal` is the row that reset and silent have, and that a tick starts with: causes 4 and 3. Assumes nothing.
 use native.Mathlib.Omega.{arith}
-use mathlib.Core.Path.{_≡_, sym, _∙_, ap}
+use mathlib.Core.Path.{sym, _∙_, ap}
 use Prim.Native.Nat.{ℕ, _*_}
 use borrow.Author.Tests.{not-true, not-false}
 use Rattle.effect.specs.Run.{reset, memoryNumber}

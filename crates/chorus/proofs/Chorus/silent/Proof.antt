@@ -10,7 +10,7 @@ use mathlib.Core.Bool.{Bool, true, false}
 use Rattle.effect.specs.Contract.{Does}
 use Rattle.port.specs.Answer as answer
 use Rattle.common.specs.Line.{allZero}
-use Rattle.effect.specs.Run.{reset, ask}
+use Rattle.effect.specs.Run.{ask}
 use Rattle.effect.proofs.Table.{Accepted, accepted, enough}
 use Rattle.effect.proofs.Contract.{refuses, accepts}
 use Rattle.chorus.specs.Chorus.{chorus, lineLength, places}

@@ -1,5 +1,6 @@
 -- `Chorus::state_fits` is `fits`: a refused rate has no places, so that no position fits. Assumes nothing.
-use mathlib.Core.Path.{_≡_, sym, _∙_, ap}
+use native.Mathlib.Omega.{arith}
+use mathlib.Core.Path.{_∙_}
 use mathlib.Core.Bool.{_&&_}
 use Rattle.chorus.proofs.Laws.{outside, inside}
 use borrow.Author.Needs.{needs}
@@ -7,7 +8,7 @@ use Rattle.chorus.proofs.Chorus.state_fits.Statement.{statement}
 use Rattle.chorus.proofs.Chorus.state_fits.Tie as tie
 
 returns : tie.Need-returns
-returns c = outside (c .before .before .args .self) (c .before .before .args .n) (c .before .before .pre) (c .if1 .taken)
+returns c = outside (c .before .before .args .self) (c .before .before .args .n) (c .before .before .pre) (omega (arith, c .if1 .taken))
 
 phase-fits-requires : tie.Need-phase-fits-requires
 phase-fits-requires c κs = search needs
@@ -22,7 +23,7 @@ returns-2 : tie.Need-returns-2
 returns-2 c =
     let a = c .before .before .before .before .before .args in
     (λ i. c .before .before .phase-fits .ensures i && (c .before .phase-fits2 .ensures i && c .phase-fits3 .ensures i))
-    ∙ inside (a .self) (a .n) (c .before .before .before .before .before .pre) (c .before .before .before .if1 .left)
+    ∙ inside (a .self) (a .n) (c .before .before .before .before .before .pre) (omega (arith, c .before .before .before .if1 .left))
 
 pub state-fits-spec : {M : Type 1} → statement M
 state-fits-spec =

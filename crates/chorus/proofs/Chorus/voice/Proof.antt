@@ -1,11 +1,9 @@
 -- `Chorus::voice` reads its line at the clamped sweep, which lies in the line since the sweep is a number. Assumes nothing.
 use Prim.Native.Nat.{_-_}
 use native.Mathlib.Omega.{arith}
-use mathlib.Core.Path.{_≡_, _∙_, ap, subst, sym}
-use mathlib.Core.Bool.{true}
+use mathlib.Core.Path.{_∙_, ap}
 use lib.ListN.{length}
 use lib.Ieee.{Float}
-use Rattle.float64.specs.Number.{whole, inRange}
 use Rattle.float64.proofs.Ranges.{in-range}
 use Rattle.float64.proofs.Parts.{clamp-whole-in}
 use Rattle.common.specs.Line.{lineAt, readAt}
