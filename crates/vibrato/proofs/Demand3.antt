@@ -1,5 +1,6 @@
--- Demand 3 for the vibrato: two units whose lines are equal exactly where their recent pasts are, and then answer the same later ticks alike. Assumes nothing.
-use Prim.Native.Nat.{ℕ, _+_, _-_, _*_, _≤_, _<_}
+-- Demand 3 for the vibrato: the lines of two units are equal exactly where their recent pasts are, and units with equal lines and phases answer the same later
+-- ticks alike; and the later calls it speaks of leave out none that document 01 allows. Assumes nothing.
+use Prim.Native.Nat.{_-_, _*_}
 use native.Mathlib.Omega.{arith}
 use native.Mathlib.Nat.{one-mul, zero-mul}
 use mathlib.Core.Path.{_≡_, refl, sym, ap}

@@ -2,8 +2,7 @@
 use Prim.Native.Nat.{ℕ, _-_, _^_, _≤_}
 use native.Mathlib.Omega.{arith}
 use mathlib.Core.Path.{_≡_, refl}
-use mathlib.Core.Bool.{true, false, not}
-use lib.Dec.{T}
+use mathlib.Core.Bool.{true, false}
 use lib.Ieee.{Float, binary64, add, mul, div, neg, fits, isNan, le, lt, ofInt, round}
 use Rattle.float64.specs.Number.{plusZero, whole, fraction, half, isNumber, inRange, rateFits, sineFits, clampOf}
 use borrow.Author.Tests.{not-false}

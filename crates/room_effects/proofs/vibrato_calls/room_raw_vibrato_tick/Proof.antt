@@ -1,7 +1,5 @@
 -- `room_raw_vibrato_tick` is `Vibrato::tick` with the ports of the mask, its position and phase written back where it is accepted. Assumes nothing.
-use mathlib.Core.Path.{_≡_, ap, sym, _∙_, subst}
-use mathlib.Core.List.{List}
-use lib.Ieee.{Float}
+use mathlib.Core.Path.{ap, sym, _∙_, subst}
 use borrow.Author.Needs.{needs}
 use Rattle.port.specs.Answer.{answerReply, replySample}
 use Rattle.effect.specs.Run.{tick, Device}

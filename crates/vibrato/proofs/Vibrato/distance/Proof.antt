@@ -1,7 +1,7 @@
 -- `Vibrato::distance` is the definition of that name: raising to 1 and then lowering to the line's last place is the clamp. Assumes nothing.
 use Prim.Native.Nat.{_-_, _≤_}
 use native.Mathlib.Omega.{arith}
-use lib.Ieee.{binary64, mul, ofBits, ofInt, round}
+use lib.Ieee.{mul, ofBits, ofInt, round}
 use borrow.Author.Needs.{needs}
 use Rattle.float64.specs.Number.{whole}
 use Rattle.float64.proofs.Clamped.{clamp-halves}

@@ -8,7 +8,7 @@ use borrow.Author.Tests.{not-true, not-false}
 use Rattle.float64.specs.Number.{rateFits}
 use Rattle.float64.proofs.Lengths.{length-20}
 use Rattle.vibrato.specs.Vibrato.{lineLength}
-use Rattle.vibrato.proofs.Laws.{length-known, length-refused, samples-small}
+use Rattle.vibrato.proofs.Laws.{length-refused, samples-small}
 use Rattle.vibrato.proofs.Vibrato.line_length.Statement.{statement}
 use Rattle.vibrato.proofs.Vibrato.line_length.Tie as tie
 

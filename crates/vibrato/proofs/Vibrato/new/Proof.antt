@@ -1,5 +1,5 @@
 -- `Vibrato::new` is the start of `vibrato`: cause 1 or 3, or the fresh state and +0 in every place. Assumes nothing.
-use mathlib.Core.Path.{_≡_, sym, ap, _∙_}
+use mathlib.Core.Path.{sym, ap, _∙_}
 use lib.Ieee.{ofBits}
 use borrow.Author.Needs.{needs}
 use Rattle.port.specs.Answer.{number, numberOf}

@@ -1,5 +1,5 @@
 -- `Vibrato::reset` is the reset of `vibrato`: cause 4 or 3, or the fresh state and +0 in every place. Assumes nothing.
-use mathlib.Core.Path.{_≡_, sym, ap, _∙_}
+use mathlib.Core.Path.{sym, ap, _∙_}
 use borrow.Author.Needs.{needs}
 use Rattle.port.specs.Answer.{number, numberOf}
 use Rattle.port.proofs.Laws.{number-some}

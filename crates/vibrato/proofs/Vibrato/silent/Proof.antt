@@ -1,5 +1,5 @@
 -- `Vibrato::silent` is the question of `vibrato`: cause 4 or 3, or whether the places in use are zeros. Assumes nothing.
-use Prim.Native.Nat.{ℕ, _≤_}
+use Prim.Native.Nat.{ℕ}
 use native.Mathlib.Omega.{arith}
 use mathlib.Core.Path.{_≡_, refl, sym, ap, _∙_}
 use mathlib.Core.Bool.{Bool}
