@@ -4,3 +4,4 @@ pub mod Ring
 pub mod Reading
 pub mod Phases
 pub mod Bench
+pub mod Sweep

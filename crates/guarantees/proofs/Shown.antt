@@ -3,6 +3,7 @@ use Rattle.effect.proofs.Covers.{covers}
 use Rattle.chorus.specs.Chorus.{chorus}
 use Rattle.chorus.proofs.Demand1 as chorus1
 use Rattle.chorus.proofs.Demand3 as chorus3
+use Rattle.flanger.proofs.Demand1 as flanger1
 use Rattle.vibrato.specs.Vibrato.{vibrato}
 use Rattle.vibrato.proofs.Demand1 as vibrato1
 use Rattle.vibrato.proofs.Demand3 as vibrato3
@@ -11,7 +12,7 @@ use Rattle.guarantees.specs.CleanMemory.{CleanMemory}
 use Rattle.guarantees.specs.RecentPasts.{RecentPasts}
 
 pub clean-memory : CleanMemory
-clean-memory = record { choruses = chorus1.shown; vibratos = vibrato1.shown; tremolos = tremolo1.shown }
+clean-memory = record { choruses = chorus1.shown; flangers = flanger1.shown; vibratos = vibrato1.shown; tremolos = tremolo1.shown }
 
 pub recent-pasts : RecentPasts
 recent-pasts =

@@ -2,10 +2,12 @@
 -- refused ones included, whatever the memory held before. Definitions only. Assumes nothing.
 use Rattle.effect.specs.Demand1.{Demand1}
 use Rattle.chorus.specs.Chorus.{chorus}
+use Rattle.flanger.specs.Flanger.{flanger}
 use Rattle.vibrato.specs.Vibrato.{vibrato}
 use Rattle.tremolo.specs.Tremolo.{tremolo}
 
 pub record CleanMemory : Type 0 where
   pub choruses : Demand1 chorus
+  pub flangers : Demand1 flanger
   pub vibratos : Demand1 vibrato
   pub tremolos : Demand1 tremolo

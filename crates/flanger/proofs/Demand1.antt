@@ -1,0 +1,65 @@
+-- Demand 1 for the flanger, by the laws of its parts. Assumes nothing.
+use native.Mathlib.Omega.{arith}
+use mathlib.Core.Path.{_≡_, refl}
+use mathlib.Core.Bool.{true, false}
+use mathlib.Core.List.{List}
+use lib.Ieee.{Float, le, lt, ofInt}
+use lib.Ieee as Ieee
+use Rattle.float64.specs.Number.{plusZero, rateFits, phaseFits, inRange, inUnit}
+use Rattle.common.proofs.Phases.{phase-stays}
+use Rattle.common.proofs.Ring.{next-lt}
+use Rattle.effect.proofs.Table.{none-1}
+use Rattle.effect.proofs.Laws.{Laws, Below}
+use Rattle.effect.specs.Demand1.{Demand1}
+use Rattle.effect.proofs.Demand1.{demand-1}
+use Rattle.flanger.specs.declared.Flanger.{Flanger}
+use Rattle.flanger.specs.Flanger.{Tick, flanger, fits, lineLength, places, cleared, blank, tickNumber, next, writes}
+use Rattle.flanger.proofs.Laws.{fits-parts, fit, length-fits, tick-fits}
+
+-- ---- the laws
+
+blank-refused : fits blank ≡ false
+unfolding fits inRange le ofInt Ieee.fits
+blank-refused = refl
+
+zero-phase : phaseFits plusZero ≡ true
+unfolding inUnit le lt ofInt Ieee.fits
+zero-phase = refl
+
+-- a clearing leaves a state that passes, with every phase that does
+cleared-fits : (phase rate : Float) → rateFits rate ≡ true → phaseFits phase ≡ true → fits (cleared phase rate) ≡ true
+cleared-fits phase rate h p = fit (cleared phase rate) (record { rate = h; inside = omega (arith, length-fits rate h .0); phase = p })
+
+next-fits : (t : Tick) (s : Flanger) → fits s ≡ true → tickNumber t ≡ 0 → fits (next t s) ≡ true
+unfolding next
+next-fits t s e n =
+    let f = fits-parts s e in
+    let rate = s .«sample_rate» in
+    fit (next t s)
+    (record {
+      rate = f .rate;
+      inside = next-lt (lineLength rate) (s .«write_pos») (f .inside);
+      phase = phase-stays (s .«lfo_phase») (t .frequency) rate (f .phase) (tick-fits t n .frequency) (f .rate);
+    })
+
+inside : (t : Tick) (s : Flanger) (m : List Float) → fits s ≡ true → Below (places (s .«sample_rate»)) (writes t s m)
+unfolding writes
+inside t s m e = let f = fits-parts s e .inside in (omega arith, (omega arith, tt))
+
+pub laws : Laws flanger
+unfolding next
+laws =
+    record {
+      blank-refused = blank-refused;
+      settings-fit = λ s e. rw (fits-parts s e .rate);
+      fresh-settings = λ k. refl;
+      retuned-settings = λ k s. refl;
+      next-settings = λ t s m. refl;
+      fresh-fits = λ k e. cleared-fits plusZero k (none-1 (rateFits k) e) zero-phase;
+      retuned-fits = λ k s e f. cleared-fits (s .«lfo_phase») k (none-1 (rateFits k) e) (fits-parts s f .phase);
+      next-fits = λ t s m e r n. next-fits t s e n;
+      inside = λ t s m e. inside t s m e;
+    }
+
+pub shown : Demand1 flanger
+shown = demand-1 flanger laws

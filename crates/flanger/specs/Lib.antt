@@ -1,0 +1,2 @@
+pub mod Flanger
+pub mod Bench

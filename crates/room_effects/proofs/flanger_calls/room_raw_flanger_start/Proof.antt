@@ -1,0 +1,23 @@
+-- `room_raw_flanger_start` writes the state that `Flanger::new` gives, and returns its number. Assumes nothing.
+use mathlib.Core.Path.{_∙_, ap}
+use borrow.Author.Needs.{needs}
+use Rattle.port.specs.Answer.{replyNumber}
+use Rattle.room_effects.proofs.flanger_calls.room_raw_flanger_start.Statement.{statement}
+use Rattle.room_effects.proofs.flanger_calls.room_raw_flanger_start.Tie as tie
+
+new-requires : tie.Need-new-requires
+new-requires c κs = search needs
+
+number-requires : tie.Need-number-requires
+number-requires c κs = search needs
+
+same-length : tie.Need-same-length
+same-length c = search needs
+
+returns : tie.Need-returns
+returns c =
+    let started = c .before .before .before .new .ensures in
+    record { state = started .state; memory = started .memory; number = c .number .ensures ∙ ap replyNumber (started .answer) }
+
+pub room-raw-flanger-start-spec : {M : Type 1} → statement M
+room-raw-flanger-start-spec = tie.close (tie.spec new-requires number-requires same-length returns)

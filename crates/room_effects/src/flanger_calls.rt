@@ -1,0 +1,138 @@
+// The flanger's calls.
+ghost use Rattle.effect.specs.Run.{tick, retune, reset};
+ghost use Rattle.flanger.specs.Flanger as flan;
+ghost use Rattle.room_effects.specs.LentFlanger.{flangerUnit, FlangerStarts, FlangerDoes, FlangerTicks, FlangerAnswers};
+ghost use Rattle.room_effects.specs.Ports.{portAt};
+use crate::ports::port_if;
+use flanger::Flanger;
+
+// Start of a flanger. A refused one writes the state of zeros too, and leaves the memory as it was.
+#[no_mangle]
+pub extern "C" fn room_raw_flanger_start(
+    sample_rate: f64,
+    memory: &mut [f64],
+    pos: &mut u64,
+    phase: &mut f64,
+    rate: &mut f64,
+) -> u32
+    ensures { λ r. ⌜ FlangerStarts «sample_rate» (now (memory .entry)) (flangerUnit (now (pos .exit)) (now (phase .exit)) (now (rate .exit)) (now (memory .exit))) r ⌝ }
+{
+    let started = Flanger::new(sample_rate, memory);
+    *pos = started.state.write_pos;
+    *phase = started.state.lfo_phase;
+    *rate = started.state.sample_rate;
+    let outcome = started.outcome;
+    outcome.number()
+}
+
+#[no_mangle]
+pub extern "C" fn room_raw_flanger_retune(
+    sample_rate: f64,
+    memory: &mut [f64],
+    pos: &mut u64,
+    phase: &mut f64,
+    rate: &mut f64,
+) -> u32
+    ensures { λ r. ⌜ FlangerDoes (retune «sample_rate») (flangerUnit (now (pos .entry)) (now (phase .entry)) (now (rate .entry)) (now (memory .entry))) (flangerUnit (now (pos .exit)) (now (phase .exit)) (now (rate .exit)) (now (memory .exit))) r ⌝ }
+{
+    let state = Flanger {
+        write_pos: *pos,
+        lfo_phase: *phase,
+        sample_rate: *rate,
+    };
+    let cleared = state.set_sample_rate(sample_rate, memory);
+    let outcome = cleared.outcome;
+    let number = outcome.number();
+    if number != 0 {
+        return number;
+    }
+    *pos = cleared.state.write_pos;
+    *phase = cleared.state.lfo_phase;
+    *rate = cleared.state.sample_rate;
+    0
+}
+
+#[no_mangle]
+pub extern "C" fn room_raw_flanger_reset(
+    memory: &mut [f64],
+    pos: &mut u64,
+    phase: &mut f64,
+    rate: f64,
+) -> u32
+    ensures { λ r. ⌜ FlangerDoes reset (flangerUnit (now (pos .entry)) (now (phase .entry)) rate (now (memory .entry))) (flangerUnit (now (pos .exit)) (now (phase .exit)) rate (now (memory .exit))) r ⌝ }
+{
+    let state = Flanger {
+        write_pos: *pos,
+        lfo_phase: *phase,
+        sample_rate: rate,
+    };
+    let cleared = state.reset(memory);
+    let outcome = cleared.outcome;
+    let number = outcome.number();
+    if number != 0 {
+        return number;
+    }
+    *pos = cleared.state.write_pos;
+    *phase = cleared.state.lfo_phase;
+    0
+}
+
+// A tick. The mask's bits say which ports are set: 1 audio, 2 depth, 4 feedback, 8 mix.
+#[no_mangle]
+pub extern "C" fn room_raw_flanger_tick(
+    pos: &mut u64,
+    phase: &mut f64,
+    rate: f64,
+    memory: &mut [f64],
+    set: u32,
+    audio: f64,
+    depth: f64,
+    feedback: f64,
+    mix: f64,
+    frequency: f64,
+    sine0: f64,
+    sine1: f64,
+    out: &mut [f64; 3],
+) -> u32
+    ensures { λ r. ⌜ FlangerTicks (tick (flan.ticked (portAt set 1 audio) (portAt set 2 depth) (portAt set 4 feedback) (portAt set 8 mix) frequency sine0 sine1)) (flangerUnit (now (pos .entry)) (now (phase .entry)) rate (now (memory .entry))) (flangerUnit (now (pos .exit)) (now (phase .exit)) rate (now (memory .exit))) (now (out .exit)) r ⌝ }
+{
+    let state = Flanger {
+        write_pos: *pos,
+        lfo_phase: *phase,
+        sample_rate: rate,
+    };
+    let input = port_if(set / 1 % 2 == 1, audio);
+    let amount = port_if(set / 2 % 2 == 1, depth);
+    let back = port_if(set / 4 % 2 == 1, feedback);
+    let wet = port_if(set / 8 % 2 == 1, mix);
+    let ticked = state.tick(memory, input, amount, back, wet, frequency, sine0, sine1);
+    let answer = ticked.answer;
+    let number = answer.number();
+    *out = [answer.first(), answer.second(), answer.third()];
+    if number != 0 {
+        return number;
+    }
+    *pos = ticked.state.write_pos;
+    *phase = ticked.state.lfo_phase;
+    0
+}
+
+#[no_mangle]
+pub extern "C" fn room_raw_flanger_silent(
+    pos: u64,
+    phase: f64,
+    rate: f64,
+    memory: &[f64],
+    out: &mut u32,
+) -> u32
+    ensures { λ r. ⌜ FlangerAnswers (flangerUnit pos phase rate (now (memory .entry))) (now (out .exit)) r ⌝ }
+{
+    let state = Flanger {
+        write_pos: pos,
+        lfo_phase: phase,
+        sample_rate: rate,
+    };
+    let silence = state.silent(memory);
+    *out = silence.flag();
+    silence.number()
+}
