@@ -2,8 +2,7 @@
 -- with unset ports as one with all ports set. Assumes nothing.
 use Prim.Native.Nat.{ℕ, _+_, _-_, _*_, _≤_, _<_}
 use native.Mathlib.Omega.{arith}
-use mathlib.Core.Path.{_≡_, refl, sym, ap, _∙_}
-use mathlib.Core.Logic.{_≢_}
+use mathlib.Core.Path.{_≡_, refl, ap, _∙_}
 use mathlib.Core.Bool.{Bool, true, false, _&&_, _||_, cond}
 use mathlib.Core.List.{List}
 use lib.Dec.{T, ltb}
@@ -11,28 +10,27 @@ use lib.ListN.{length, take, drop, set, length-drop}
 use lib.Seq.{length-take-le}
 use lib.Ieee.{Float, binary64, add, mul, div, neg, le, lt, isNan, ofInt, round}
 use lib.Ieee as Ieee
-use borrow.Author.Tests.{not-false, ltb-true, lt-ltb, le-ltb}
-use Rattle.float64.specs.Number.{plusZero, whole, half, isNumber, rateFits, phaseFits, frequencyFits, sineFits, clampOf, atLeast, atMost}
+use borrow.Author.Tests.{ltb-true, lt-ltb, le-ltb}
+use Rattle.float64.specs.Number.{plusZero, whole, half, isNumber, rateFits, phaseFits, frequencyFits, sineFits, clampOf}
 use Rattle.float64.proofs.Tests.{both}
-use Rattle.float64.proofs.Order.{le-lt-lt, le-transitive, le→not-lt}
-use Rattle.float64.proofs.Interval.{In, hi-fits, widen, point, add-in, mul-in, div-in, scale-in}
+use Rattle.float64.proofs.Order.{le-lt-lt}
+use Rattle.float64.proofs.Interval.{In, widen, point, add-in, mul-in, div-in, scale-in}
 use Rattle.float64.proofs.Ranges.{rate-in, sine-in, in-number}
-use Rattle.float64.proofs.Clamped.{clamp-in, clamp-halves}
 use Rattle.float64.proofs.Parts.{Parts, parts-of, clamp-whole-in}
 use Rattle.float64.proofs.Lengths.{length-32}
 use Rattle.port.specs.declared.Port.{Port}
-use Rattle.port.specs.declared.Port.the-variants.{Set, Unset}
+use Rattle.port.specs.declared.Port.the-variants.{Set}
 use Rattle.port.specs.Port.{valueOr, isNanSet}
 use Rattle.port.specs.Answer.{Reply, played}
 use Rattle.common.specs.Signal.{sanitized}
 use Rattle.common.specs.Line.{nextPlace, lineAt, readAt}
 use Rattle.common.proofs.Ring.{part-line}
-use Rattle.effect.specs.Effect.{Effect, laid}
+use Rattle.common.proofs.Sweep.{control-in}
+use Rattle.effect.specs.Effect.{laid}
 use Rattle.effect.specs.Lines.{inEach}
-use Rattle.effect.specs.Run.{tick, reset, first, memoryNumber, numberIn}
+use Rattle.effect.specs.Run.{tick, numberIn}
 use Rattle.effect.specs.Contract.{Does}
 use Rattle.effect.proofs.Contract.{accepts}
-use Rattle.effect.proofs.Table.{first-some}
 use Rattle.chorus.specs.declared.Chorus.{Chorus}
 use Rattle.chorus.specs.Chorus.{Tick, ticked, chorus, lineLength, phasesOf, nextPhases, fits, tickNumber, input, depth, mix, distance, voice, mixed, samples, next, writes}
 
@@ -103,15 +101,7 @@ module _ (s : Chorus) where
         go true k = rw (lt-ltb (s .«write_pos») (lineLength (s .«sample_rate»)) (omega arith))
         go false k = absurd (omega arith)
 
--- ---- the table's row of a tick: causes 4 and 3, which it shares with reset and silent, stand before 5 and 6
-
-pub unit-refused : (E : Effect) (n : ℕ) (s : E .State) (t : E .Tick) {k : ℕ} → k ≡ numberIn E reset n s → k ≢ 0 → k ≡ numberIn E (tick t) n s
-unit-refused E n s t {k} e some = go (E .fits s) e
-  where
-    go : (b : Bool) → k ≡ cond b (memoryNumber (E .places (E .settings s)) n) 4
-        → k ≡ cond b (first (memoryNumber (E .places (E .settings s)) n) (E .tickNumber t (E .settings s))) 4
-    go true f = rw (← f) (sym (first-some k (E .tickNumber t (E .settings s)) some))
-    go false f = f
+-- ---- an accepted tick's controls and curve numbers
 
 pub record TickFits (t : Tick) : Type 0 where
   pub depth : isNanSet (t .depth) ≡ false
@@ -137,20 +127,10 @@ tick-fits t e =
 
 -- ---- distances
 
--- the clamp to 1 to n − 1 in two halves
-pub clamped-halves : (x : Float) (n : ℕ) → 2 ≤ n → n ≤ 16777217 → atMost (atLeast x (whole 1)) (whole (n - 1)) ≡ clampOf x (whole 1) (whole (n - 1))
-unfolding isNumber Ieee.fits isNan ofInt
-clamped-halves x n a b =
-    let i = clamp-whole-in (n - 1) (omega arith) (whole 1) (omega arith) refl in
-    let y = clampOf (whole 1) (whole 1) (whole (n - 1)) in
-    let t = hi-fits binary64 (whole 1) (whole (n - 1)) (i .ends-ok) in
-    clamp-halves x (whole 1) (whole (n - 1)) (le→not-lt binary64 (whole 1) (whole (n - 1)) tt t (le-transitive binary64 (whole 1) y (whole (n - 1)) tt (i .fit) t (i .lower) (i .upper)))
-
 -- a depth that passes the test, clamped, lies from 0 to 1
 pub depth-in : (p : Port) → isNanSet p ≡ false → In binary64 plusZero (whole 1) (clampOf (valueOr p half) plusZero (whole 1))
-unfolding isNumber Ieee.fits isNan le ofInt round
-depth-in (Set x) e = clamp-in x tt tt (not-false (isNumber x) e)
-depth-in Unset e = clamp-in half tt tt refl
+unfolding isNumber Ieee.fits isNan round
+depth-in p e = control-in p half e refl
 
 module _ (rate depth sine : Float) (h : rateFits rate ≡ true) (i : In binary64 plusZero (whole 1) depth) (k : sineFits sine ≡ true) where
   -- the distance before the clamp

@@ -1,23 +1,18 @@
 -- The whole part of a float from 1 to below 2 ^ 53 by its bit pattern: the exponent field says how far to shift the pattern's digits, with the
 -- leading one put back, and the shifted digits are `toUnsigned 64 x`. Assumes nothing.
 use mathlib.Core.Path.{_≡_, refl, sym, ap, _∙_, subst}
-use mathlib.Core.Logic.{_⊎_, inl, inr}
-use mathlib.Core.Bool.{Bool, true, false, not, _&&_, _||_, cond}
+use mathlib.Core.Bool.{Bool, true, false, not, _||_, cond}
 use Prim.Native.Nat.{ℕ, zero, suc, _+_, _-_, _*_, _/_, _%_, _^_, _≤_, _<_, min}
-use native.Mathlib.Nat.{le-trans, le-of-eq, lt-of-lt-of-le, lt-of-le-of-lt, lt-of-not-le, lt-irrefl, mul-comm, mul-assoc, mul-right-comm, mul-le-mul-right, mul-lt-mul-of-pos-right, le-of-mul-le-mul-right, lt-of-mul-lt-mul-right, le-add-right, le-of-lt, mul-one, one-mul, mod-lt, mod-eq-of-lt, div-eq-of-lt, div-lt-iff-lt-mul, le-div-iff-mul-le, div-le-of-le-mul}
+use native.Mathlib.Nat.{le-trans, le-of-eq, lt-of-lt-of-le, lt-of-le-of-lt, lt-of-not-le, lt-irrefl, mul-comm, mul-assoc, mul-right-comm, mul-le-mul-right, mul-lt-mul-of-pos-right, le-of-mul-le-mul-right, lt-of-mul-lt-mul-right, le-add-right, mul-one, one-mul, mod-lt, mod-eq-of-lt, div-lt-iff-lt-mul}
 use native.Mathlib.Omega.{arith}
-use lib.IntN.{ℤ, pos, negsuc, negℤ, _+ℤ_, _-ℤ_}
-use lib.Dec.{T, leb, ltb, eqb, ltb→lt, lt→ltb, nltb→le, nleb→lt, eqb→eq, T-not, lit≤}
-use lib.Pow.{pow-add, pow-pos, pow-mono, shl-lt, shl-shr, shr-shr, shl-exact}
+use lib.IntN.{pos}
+use lib.Dec.{T, leb, eqb, ltb→lt, nleb→lt, lit≤}
+use lib.Pow.{pow-add, pow-pos, pow-mono, shl-lt, shl-shr, shr-shr}
 use lib.Bits.{bitAnd, bitOr, and-mask, or-shifted-r}
-use lib.Ieee.{Float, nan, inf, fin, binary32, binary64, up, down, odd, fits, isNan, ofFields, ofBits, toBits, neg, lt, eq, le, toUnsigned, toSigned}
-use lib.Ieee.Fits.{eq→eqb, down-pos, and-i, and-l, and-r, fits-widens}
+use lib.Ieee.{Float, nan, inf, fin, binary64, up, down, odd, fits, isNan, ofFields, ofBits, toBits, lt, eq, le, toUnsigned}
 use lib.Ieee.Bits.{ofBits-toBits}
 use lib.Ieee.Exact.{HasValue, odd-sign}
 use lib.Ieee.Nearest.{div-same}
-use mir.Syntax.{w64}
-use mir.Val.{SFits, toZ, ofZ}
-use mir.ValLaws.{toZ-pos, toZ-ofZ}
 use lib.Ieee.Positive.{num, den, positive, den-pos, value→cross, between, le→cross}
 
 -- the float 1.0

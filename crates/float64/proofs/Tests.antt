@@ -1,11 +1,10 @@
 -- What the whole part of a float is outside the range of a u64, and the test for a NaN. Assumes nothing.
-use Prim.Native.Nat.{ℕ, _+_, _-_, _*_, _/_, _^_, _≤_, _<_, min}
-use mathlib.Core.Path.{_≡_, refl, sym, subst, ap, _∙_}
+use Prim.Native.Nat.{_+_, _-_, _*_, _/_, _≤_, _<_}
+use mathlib.Core.Path.{_≡_, refl, sym, subst, _∙_}
 use mathlib.Core.Bool.{Bool, true, false, not, _&&_}
 use native.Mathlib.Omega.{arith}
-use native.Mathlib.Nat.{le-div-iff-mul-le, min-eq-right, mul-one, one-mul}
-use lib.IntN.{pos, ℤ}
-use lib.Dec.{T, eqb, ltb, eqb-refl}
+use native.Mathlib.Nat.{le-div-iff-mul-le, min-eq-right}
+use lib.Dec.{T}
 use borrow.Author.Tests.{lt-ltb, ltb-false, eq-eqb}
 use lib.Ieee as Ieee
 use lib.Ieee.{Float, fin, inf, nan, binary64, up, down}

@@ -1,5 +1,4 @@
 -- Ports and refusals by their cases. Assumes nothing.
-use Prim.Native.Nat.{ℕ}
 use mathlib.Core.Path.{_≡_, refl, sym, ap, _∙_}
 use mathlib.Core.Bool.{Bool, true, not}
 use mathlib.Core.Logic.{_≢_}

@@ -4,7 +4,7 @@ use mathlib.Core.Path.{_≡_, refl, sym, ap, _∙_}
 use mathlib.Core.Logic.{_≢_}
 use mathlib.Core.List.{List, []}
 use lib.Ieee.{Float}
-use Rattle.port.specs.Answer.{Reply, refused, replyNumber}
+use Rattle.port.specs.Answer.{Reply, replyNumber}
 use Rattle.effect.specs.Run.{tick, retune, reset, ask, CallOf, Device, ifNone, numberAt, moved, step}
 use Rattle.effect.specs.Contract.{Does}
 use Rattle.tremolo.specs.declared.Tremolo.{Tremolo}

@@ -5,7 +5,7 @@ use mathlib.Core.Path.{_≡_}
 use mathlib.Core.List.{[]}
 use lib.Ieee.{Float}
 use Rattle.port.specs.Answer.{replyNumber, replySample, replySilent}
-use Rattle.effect.specs.Run.{CallOf, Device, reset, ask, start, startReply, step, reply}
+use Rattle.effect.specs.Run.{CallOf, Device, ask, start, startReply, step, reply}
 use Rattle.tremolo.specs.declared.Tremolo.{Tremolo}
 use Rattle.tremolo.specs.Tremolo.{tremolo}
 

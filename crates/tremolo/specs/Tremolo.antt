@@ -2,13 +2,13 @@
 -- Definitions only. Assumes nothing.
 use Prim.Native.Nat.{ℕ}
 use mathlib.Core.Bool.{Bool, true, _&&_, _||_, cond}
-use mathlib.Core.List.{List, [], _∷_}
+use mathlib.Core.List.{[], _∷_}
 use lib.Ieee.{Float, binary64, add, sub, mul, div}
 use Rattle.float64.specs.Number.{plusZero, whole, half, rateFits, phaseFits, frequencyFits, sineFits, clampOf, absolute}
 use Rattle.port.specs.declared.Port.{Port}
 use Rattle.port.specs.Port.{valueOr, isNanSet}
 use Rattle.common.specs.Signal.{advanced, causeNumber}
-use Rattle.effect.specs.Effect.{Effect, Write}
+use Rattle.effect.specs.Effect.{Effect}
 use Rattle.tremolo.specs.declared.Tremolo.{Tremolo}
 
 -- what a tick is handed: its ports, and the curve numbers frequency and sine

@@ -1,34 +1,19 @@
 -- The distance of an accepted tick lies from 1 to L − 1, rounding included, for every accepted rate, every depth port that is not NaN and every accepted sine. Assumes nothing.
-use Prim.Native.Nat.{ℕ, _-_, _^_, _≤_}
+use Prim.Native.Nat.{ℕ, _-_}
 use native.Mathlib.Omega.{arith}
 use mathlib.Core.Path.{_≡_, refl}
 use mathlib.Core.Bool.{true, false}
 use lib.Ieee.{Float, binary64, add, mul, div, neg, fits, isNan, le, lt, ofInt, round}
 use Rattle.float64.specs.Number.{plusZero, whole, fraction, half, isNumber, inRange, rateFits, sineFits, clampOf}
-use borrow.Author.Tests.{not-false}
-use Rattle.float64.proofs.Order.{le-transitive, le→not-lt}
-use Rattle.float64.proofs.Interval.{In, point, hi-fits, add-in, mul-in, div-in, scale-in}
+use Rattle.float64.proofs.Interval.{In, point, add-in, mul-in, div-in, scale-in}
 use Rattle.float64.proofs.Ranges.{in-number, in-range, rate-in, sine-in}
 use Rattle.float64.proofs.Clamped.{clamp-in}
 use Rattle.float64.proofs.Parts.{clamp-whole-in}
 use Rattle.port.specs.declared.Port.{Port}
-use Rattle.port.specs.declared.Port.the-variants.{Set, Unset}
 use Rattle.port.specs.Port.{valueOr, isNanSet}
+use Rattle.common.proofs.Sweep.{value-number}
 use Rattle.vibrato.specs.Vibrato.{lineLength, distance}
 use Rattle.vibrato.proofs.Laws.{length-in}
-
--- the last place of a line is not below 1
-pub last-above : (M : ℕ) → M ≤ 2 ^ 24 → 1 ≤ M → lt (whole M) (whole 1) ≡ false
-unfolding fits isNumber isNan ofInt
-last-above M h k =
-    let i = clamp-whole-in M h (whole 1) k refl in
-    let u = hi-fits binary64 (whole 1) (whole M) (i .ends-ok) in
-    le→not-lt binary64 (whole 1) (whole M) tt u (le-transitive binary64 (whole 1) _ (whole M) tt (i .fit) u (i .lower) (i .upper))
-
--- a control that is not NaN, and so a number, or a default that is one
-pub value-number : (p : Port) (d : Float) → isNanSet p ≡ false → isNumber d ≡ true → isNumber (valueOr p d) ≡ true
-value-number (Set x) d h k = not-false (isNumber x) h
-value-number Unset d h k = k
 
 -- (10 + sine × (depth × 10 × 0.9)) × rate / 1000
 abbrev swept : Float → Float → Float → Float

@@ -1,6 +1,5 @@
 -- The proved bench case of the vibrato: 892 places at 44,100. Definitions only. Assumes nothing.
 use mathlib.Core.Path.{_≡_}
-use Prim.Native.Nat.{ℕ}
 use Rattle.float64.specs.Number.{whole}
 use Rattle.vibrato.specs.Vibrato.{vibrato}
 

@@ -1,11 +1,10 @@
 -- `common::clear` fills the memory with +0: the loop's invariant is that i places are +0 and the rest is as it was. Assumes nothing.
-use mathlib.Core.Path.{_≡_, refl, sym, ap, _∙_}
+use mathlib.Core.Path.{_≡_, refl}
 use mathlib.Core.List.{_++_}
-use Prim.Native.Nat.{ℕ, _≤_, _-_}
+use Prim.Native.Nat.{_≤_, _-_}
 use native.Mathlib.Omega.{arith}
-use native.Mathlib.Nat.{le-antisymm}
-use lib.ListN.{length, set, replicate, drop, length-set}
-use borrow.Author.Needs.{needs, scaled-fits}
+use lib.ListN.{length, replicate, drop, length-set}
+use borrow.Author.Needs.{needs}
 use Rattle.float64.specs.Number.{plusZero}
 use Rattle.common.proofs.Fill.{fill-more, fill-all}
 use Rattle.common.proofs.clear.Statement.{statement}

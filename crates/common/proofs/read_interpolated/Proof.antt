@@ -1,5 +1,5 @@
 -- `common::read_interpolated` is `readAt` of the line: a distance from 1 to L − 1 has its whole part there, so both places lie in the line. Assumes nothing.
-use Prim.Native.Nat.{ℕ, _+_, _-_, _≤_, _<_}
+use Prim.Native.Nat.{ℕ, _-_, _≤_, _<_}
 use native.Mathlib.Omega.{arith}
 use mathlib.Core.Path.{_≡_, sym, subst}
 use lib.ListN.{length}

@@ -1,5 +1,4 @@
 -- `common::sanitize_audio` is `sanitized`: only a finite x lies between the infinities. Assumes nothing.
-use mathlib.Core.Path.{sym}
 use lib.Ieee.{ofBits, neg, div}
 use Rattle.common.proofs.Finite.{between, not-below, not-above}
 use Rattle.common.proofs.sanitize_audio.Statement.{statement}

@@ -1,6 +1,5 @@
 -- `float64::is_nan`: a NaN, and nothing else, differs from itself; an f64 fits binary64. Assumes nothing.
-use mathlib.Core.Path.{_≡_, _∙_, sym}
-use mathlib.Core.Bool.{Bool, true, false, not}
+use mathlib.Core.Path.{_∙_, sym}
 use lib.Ieee.{isNan}
 use Rattle.float64.specs.Number.{isNumber}
 use Rattle.float64.proofs.Tests.{nan-test, not-not}

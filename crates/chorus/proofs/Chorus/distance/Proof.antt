@@ -2,7 +2,9 @@
 use mathlib.Core.Path.{_∙_}
 use lib.Ieee.{binary64, add, mul, ofBits, ofInt, round}
 use Rattle.float64.specs.Number.{half, atMost}
-use Rattle.chorus.proofs.Laws.{clamped-halves}
+use native.Mathlib.Omega.{arith}
+use Prim.Native.Nat.{_-_}
+use Rattle.common.proofs.Sweep.{clamped-halves}
 use borrow.Author.Needs.{needs}
 use Rattle.chorus.proofs.Chorus.distance.Statement.{statement}
 use Rattle.chorus.proofs.Chorus.distance.Tie as tie
@@ -32,7 +34,7 @@ returns c =
     let x = add binary64 (s .args .base) (mul binary64 (add binary64 (mul binary64 (s .args .sine) half) half) (s .args .swing)) in
     c .at-most .ensures
     ∙ (λ i. atMost (c .before .before .at-least .ensures i) (c .before .nearest-u64-to-f64 .ensures i))
-    ∙ clamped-halves x (s .args .n) (s .pre .0) (s .pre .1)
+    ∙ clamped-halves x (s .args .n - 1) (omega arith) (omega arith)
 
 pub distance-spec : {M : Type 1} → statement M
 distance-spec =

@@ -15,8 +15,9 @@ use Rattle.common.specs.Signal.{causeNumber}
 use Rattle.effect.specs.Run.{tick, reset, numberIn}
 use Rattle.effect.proofs.Table.{Accepted, accepted, enough}
 use Rattle.effect.proofs.Contract.{refuses, tick-number}
+use Rattle.effect.proofs.Rows.{unit-refused}
 use Rattle.chorus.specs.Chorus.{chorus, places, Tick, ticked, tickNumber}
-use Rattle.chorus.proofs.Laws.{unit-refused, fits-parts, length-fits, length-is, allSet, set-does}
+use Rattle.chorus.proofs.Laws.{fits-parts, length-fits, length-is, allSet, set-does}
 use borrow.Author.Needs.{needs}
 use Rattle.chorus.proofs.Chorus.tick.Statement.{statement}
 use Rattle.chorus.proofs.Chorus.tick.Tie as tie

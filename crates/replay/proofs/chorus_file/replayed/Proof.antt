@@ -1,7 +1,6 @@
 -- `replay::chorus_file::replayed`: the invariant is that no more calls differ than were replayed, a million at the most. Assumes nothing.
 use Prim.Native.Nat.{_≤_, _-_}
 use mathlib.Core.Path.{_≡_}
-use native.Mathlib.Omega.{arith}
 use lib.ListN.{length}
 use borrow.Author.Needs.{needs}
 use Rattle.replay.proofs.chorus_file.replayed.Statement.{statement}

@@ -1,5 +1,5 @@
 -- `room_raw_tremolo_tick` is `Tremolo::tick` with the ports of the mask, its phase written back where it is accepted. Assumes nothing.
-use mathlib.Core.Path.{_≡_, ap, sym, _∙_, subst}
+use mathlib.Core.Path.{ap, sym, _∙_, subst}
 use mathlib.Core.List.{[]}
 use borrow.Author.Needs.{needs}
 use Rattle.port.specs.Answer.{answerReply, replyNumber, replySample}

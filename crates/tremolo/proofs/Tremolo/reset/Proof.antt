@@ -1,5 +1,5 @@
 -- `Tremolo::reset` is the reset of `tremolo`: cause 4 or the fresh state. Assumes nothing.
-use mathlib.Core.Path.{_≡_, refl, sym, _∙_}
+use mathlib.Core.Path.{refl, sym, _∙_}
 use mathlib.Core.List.{[]}
 use native.Mathlib.Omega.{arith}
 use lib.Ieee.{ofBits}

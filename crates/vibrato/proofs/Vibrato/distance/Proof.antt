@@ -7,7 +7,7 @@ use Rattle.float64.specs.Number.{whole}
 use Rattle.float64.proofs.Clamped.{clamp-halves}
 use Rattle.vibrato.specs.Vibrato.{distance}
 use Rattle.vibrato.proofs.Laws.{length-in}
-use Rattle.vibrato.proofs.Distance.{last-above}
+use Rattle.common.proofs.Sweep.{last-above}
 use Rattle.vibrato.proofs.Vibrato.distance.Statement.{statement}
 use Rattle.vibrato.proofs.Vibrato.distance.Tie as tie
 
