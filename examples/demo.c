@@ -10,6 +10,7 @@
 #define TAU 6.283185307179586
 #define VIBRATO_PLACES 892
 #define CHORUS_PLACES 4263
+#define FLANGER_PLACES 902
 
 static double plucked(int i)
 {
@@ -76,6 +77,25 @@ static uint32_t play_chorus(double *places)
     return refused;
 }
 
+static uint32_t play_flanger(double *places)
+{
+    room_flanger unit;
+    double y[3];
+    double sines[2];
+    double peak = 0.0;
+    double sum = 0.0;
+    uint32_t refused = room_flanger_start(&unit, places, FLANGER_PLACES, RATE);
+    for (int i = 0; i < RATE && refused == 0; i++) {
+        sines[0] = sin(unit.lfo_phase * TAU);
+        sines[1] = sin((unit.lfo_phase + 0.25) * TAU); /* a spread of one half */
+        refused = room_flanger_tick(&unit, places, FLANGER_PLACES, room_set(plucked(i)), room_unset(), room_set(0.6), room_unset(), 0.3, sines, y);
+        peak = fmax(peak, fabs(y[0]));
+        sum += y[0] * y[0];
+    }
+    print_row("flanger", peak, sum, FLANGER_PLACES);
+    return refused;
+}
+
 /* What the unit is for: after a song and a reset the next take is +0 in every sample. */
 static uint32_t next_hirer(double *places)
 {
@@ -101,7 +121,7 @@ int main(void)
     if (places == NULL)
         return 1;
     puts("one second of a plucked string through each effect");
-    uint32_t wrong = play_tremolo() + play_vibrato(places) + play_chorus(places) + next_hirer(places);
+    uint32_t wrong = play_tremolo() + play_vibrato(places) + play_chorus(places) + play_flanger(places) + next_hirer(places);
     free(places);
     return wrong != 0;
 }

@@ -58,7 +58,7 @@
  * Curve numbers
  *
  * The host computes them before the tick: a frequency in Hz from its rate control, and the sine of 2 pi times the phase that
- * the state holds before the tick.
+ * the state holds before the tick. (The flanger's second sine is of a phase further on: see there.)
  */
 #ifndef ROOM_EFFECTS_H
 #define ROOM_EFFECTS_H
@@ -93,7 +93,7 @@ static inline uint32_t room_set_bit(room_port port, uint32_t bit)
     return port.set != 0 ? bit : 0u;
 }
 
-/* The mask of three ports: 1, 2 and 4 in the order in which a tick takes them. */
+/* The mask of a tick's first three ports: 1, 2 and 4 in the order in which it takes them. */
 static inline uint32_t room_set_mask(room_port first, room_port second, room_port third)
 {
     return room_set_bit(first, 1u) | room_set_bit(second, 2u) | room_set_bit(third, 4u);
@@ -103,8 +103,8 @@ static inline uint32_t room_set_mask(room_port first, room_port second, room_por
  * What the library exports. The functions further down are what a host calls; they put a struct together from these.
  * A state comes as its fields, a number that may change by its address; ports come as a mask of those that are set and
  * their numbers; memory comes as the address of its first place and the count of places. Numbers returned, and what is
- * written on a refusal, are as said above. Masks: 1 is the tick's first port, 2 the second, 4 the third; other bits are not
- * read. A silent's `out` gets 1 for yes, else 0; 0 on a refusal.
+ * written on a refusal, are as said above. Masks: 1 is the tick's first port, 2 the second, 4 the third, 8 the fourth; bits
+ * beyond its ports are not read. A silent's `out` gets 1 for yes, else 0; 0 on a refusal.
  */
 #ifdef __cplusplus
 extern "C" {
@@ -136,6 +136,17 @@ uint32_t room_raw_chorus_tick(uint64_t *pos, double phases[3], double rate, doub
                               double sine2, double out[3]);
 uint32_t room_raw_chorus_silent(uint64_t pos, const double phases[3], double rate, const double *memory, uint64_t places,
                                 uint32_t *out);
+
+uint32_t room_raw_flanger_start(double sample_rate, double *memory, uint64_t places, uint64_t *pos, double *phase,
+                                double *rate);
+uint32_t room_raw_flanger_retune(double sample_rate, double *memory, uint64_t places, uint64_t *pos, double *phase,
+                                 double *rate);
+uint32_t room_raw_flanger_reset(double *memory, uint64_t places, uint64_t *pos, double *phase, double rate);
+uint32_t room_raw_flanger_tick(uint64_t *pos, double *phase, double rate, double *memory, uint64_t places, uint32_t set,
+                               double audio, double depth, double feedback, double mix, double frequency, double sine0,
+                               double sine1, double out[3]);
+uint32_t room_raw_flanger_silent(uint64_t pos, double phase, double rate, const double *memory, uint64_t places,
+                                 uint32_t *out);
 
 #ifdef __cplusplus
 }
@@ -280,6 +291,60 @@ static inline uint32_t room_chorus_silent(const room_chorus *state, const double
     uint32_t yes = 0u;
     const uint32_t number =
         room_raw_chorus_silent(state->write_pos, state->lfo_phases, state->sample_rate, memory, places, &yes);
+    *silent = yes != 0u;
+    return number;
+}
+
+/* The flanger. Two lines, n = 10: at 44,100 it needs 2 x 451 places, at 8,000 2 x 90, at 192,000 2 x 1,930. */
+
+typedef struct room_flanger {
+    uint64_t write_pos; /* below L; one for the two lines */
+    double lfo_phase;   /* at least 0 and below 1 */
+    double sample_rate; /* 8,000 to 192,000 */
+} room_flanger;
+
+/* A flanger at this rate: position 0, phase +0, +0 in every place. Refusals: 1, 3. */
+static inline uint32_t room_flanger_start(room_flanger *state, double *memory, uint64_t places, double sample_rate)
+{
+    return room_raw_flanger_start(sample_rate, memory, places, &state->write_pos, &state->lfo_phase, &state->sample_rate);
+}
+
+/* The same rate or another: position 0, +0 in every place; the phase stays. Refusals: 4, 1, 3. */
+static inline uint32_t room_flanger_retune(room_flanger *state, double *memory, uint64_t places, double sample_rate)
+{
+    return room_raw_flanger_retune(sample_rate, memory, places, &state->write_pos, &state->lfo_phase, &state->sample_rate);
+}
+
+/* Position 0, phase +0, +0 in every place; the rate stays. Refusals: 4, 3. */
+static inline uint32_t room_flanger_reset(room_flanger *state, double *memory, uint64_t places)
+{
+    return room_raw_flanger_reset(memory, places, &state->write_pos, &state->lfo_phase, state->sample_rate);
+}
+
+/*
+ * Three samples, mono, left and right: `audio` blended with what its lines play, left with the first, right with the second,
+ * each read 1 to 10 ms back; mono is left. Audio that is NaN or infinite counts as +0. Each line stores the audio plus what
+ * it played itself times the feedback; with huge audio that may overflow. The phase moves on by frequency / rate.
+ * depth: 0 to 1, how far the reads move; 0.5 if unset. feedback: -0.95 to 0.95; 0 if unset. mix: 0 dry to 1 wet; 0.5 if
+ * unset. Audio is 0 if unset. sines[0] is the sine of the phase, sines[1] that of the phase plus half the spread, which is the
+ * host's: 0 to 1, 0 to sweep both lines alike.
+ * Refusals: 4, 3, 5, 6.
+ */
+static inline uint32_t room_flanger_tick(room_flanger *state, double *memory, uint64_t places, room_port audio,
+                                         room_port depth, room_port feedback, room_port mix, double frequency,
+                                         const double sines[2], double out[3])
+{
+    return room_raw_flanger_tick(&state->write_pos, &state->lfo_phase, state->sample_rate, memory, places,
+                                 room_set_mask(audio, depth, feedback) | room_set_bit(mix, 8u), audio.value, depth.value,
+                                 feedback.value, mix.value, frequency, sines[0], sines[1], out);
+}
+
+/* Whether the unit is silent: every place of its lines is +0 or -0. On a refusal *silent is 0. Refusals: 4, 3. */
+static inline uint32_t room_flanger_silent(const room_flanger *state, const double *memory, uint64_t places, int *silent)
+{
+    uint32_t yes = 0u;
+    const uint32_t number =
+        room_raw_flanger_silent(state->write_pos, state->lfo_phase, state->sample_rate, memory, places, &yes);
     *silent = yes != 0u;
     return number;
 }

@@ -1,9 +1,10 @@
 //! The chorus's row.
 
+use crate::inputs::Input;
 use crate::lines::Lined;
 use libm::timing::first_sine_next;
 use quiver_oracle::chorus::Unit;
-use quiver_oracle::Effect as _;
+use room_effects::MOST_PORTS;
 
 pub struct Chorus;
 
@@ -27,7 +28,12 @@ impl Lined<3> for Chorus {
     type Rust = Unit;
 
     #[inline(always)]
-    fn rust_tick(unit: &mut Unit, [audio, depth, mix]: [f64; 3]) -> [f64; 3] {
+    fn hand(unit: &mut Unit, input: &Input) {
+        input.hand::<3>(unit);
+    }
+
+    #[inline(always)]
+    fn rust_tick(unit: &mut Unit, [audio, depth, mix, _]: [f64; MOST_PORTS]) -> [f64; 3] {
         let mut out = [0.0; 3];
         quiver_chorus_tick(unit, audio, depth, mix, &mut out);
         out

@@ -2,38 +2,32 @@
 
 use libm::timing::set_sines;
 use quiver_oracle::Effect;
-use room_effects::{Tick, PORTS};
-use std::array::from_fn;
+use room_effects::{Tick, MOST, MOST_PORTS};
 
 pub struct Input {
-    /// Audio and two controls; what each control is depends on the effect.
-    pub ports: [f64; 3],
+    /// Audio and three controls; what each control is, and whether there is a third, depends on the effect.
+    pub ports: [f64; MOST_PORTS],
     pub frequency: f64,
-    pub sines: [f64; 3],
+    pub sines: [f64; MOST],
 }
 
 impl Input {
     /// Leaves the curve numbers where the Rust's tick takes them.
     #[inline(always)]
-    pub fn hand<const N: usize>(&self, rust: &mut impl Effect<N>) {
+    pub fn hand<const SINES: usize>(&self, rust: &mut impl Effect) {
         rust.plant_frequency(self.frequency);
-        set_sines::<N>(self.first_sines());
+        set_sines::<SINES>(std::array::from_fn(|i| self.sines[i]));
     }
 
     /// The arguments of our tick, every port set.
     #[inline(always)]
-    pub fn tick<const N: usize>(&self) -> Tick<N> {
+    pub fn tick(&self) -> Tick {
         Tick {
-            set: PORTS,
+            set: (1 << MOST_PORTS) - 1,
             ports: self.ports,
             frequency: self.frequency,
-            sines: self.first_sines(),
+            sines: self.sines,
         }
-    }
-
-    #[inline(always)]
-    fn first_sines<const N: usize>(&self) -> [f64; N] {
-        from_fn(|i| self.sines[i])
     }
 }
 
@@ -48,10 +42,13 @@ pub fn inputs() -> Vec<Input> {
             .wrapping_add(1_442_695_040_888_963_407);
         low + (state >> 11) as f64 / (1u64 << 53) as f64 * (high - low)
     };
-    let mut input = |_| Input {
-        ports: [within(-5.0, 5.0), within(0.0, 1.0), within(0.0, 1.0)],
-        frequency: within(0.1, 20.0),
-        sines: [(); 3].map(|()| within(-1.0, 1.0)),
+    let mut input = |_| {
+        let [first, second, third] = [(); 3].map(|()| within(0.0, 1.0));
+        Input {
+            ports: [within(-5.0, 5.0), first, second, third],
+            frequency: within(0.1, 20.0),
+            sines: [(); 3].map(|()| within(-1.0, 1.0)),
+        }
     };
     (0..COUNT).map(&mut input).collect()
 }

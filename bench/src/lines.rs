@@ -3,21 +3,24 @@
 use crate::inputs::Input;
 use crate::{Effect, SAMPLE_RATE};
 use quiver_oracle::{Effect as _, Lined as _};
-use room_effects::{Lined as _, State};
+use room_effects::{Lined as _, State, MOST, MOST_PORTS};
 
-/// An effect with N lines.
+/// An effect with lines that answers N samples.
 pub trait Lined<const N: usize> {
     const NAME: &'static str;
-    type Ours: room_effects::Lined<N>;
-    type Rust: quiver_oracle::Lined<N>;
+    type Ours: room_effects::Lined;
+    type Rust: quiver_oracle::Lined;
+
+    /// Leave a tick's curve numbers where the Rust's tick takes them.
+    fn hand(unit: &mut Self::Rust, input: &Input);
 
     /// The Rust's tick as a called function.
-    fn rust_tick(unit: &mut Self::Rust, ports: [f64; 3]) -> [f64; N];
+    fn rust_tick(unit: &mut Self::Rust, ports: [f64; MOST_PORTS]) -> [f64; N];
 }
 
 pub struct Row<E: Lined<N>, const N: usize> {
     rust: E::Rust,
-    ours: State<N>,
+    ours: State,
     memory: Vec<f64>,
 }
 
@@ -29,7 +32,7 @@ impl<E: Lined<N>, const N: usize> Effect<N> for Row<E, N> {
         let mut memory = rust.lines().concat();
         let mut ours = State {
             write_pos: 0,
-            phases: [0.0; N],
+            phases: [0.0; MOST],
             sample_rate: 0.0,
         };
         assert_eq!(E::Ours::start(&mut ours, &mut memory, SAMPLE_RATE), 0);
@@ -38,7 +41,7 @@ impl<E: Lined<N>, const N: usize> Effect<N> for Row<E, N> {
 
     #[inline(always)]
     fn hand(&mut self, input: &Input) {
-        input.hand(&mut self.rust);
+        E::hand(&mut self.rust, input);
     }
 
     #[inline(always)]
@@ -48,8 +51,8 @@ impl<E: Lined<N>, const N: usize> Effect<N> for Row<E, N> {
 
     #[inline(always)]
     fn ours(&mut self, input: &Input) -> [f64; N] {
-        let mut out = [0.0; N];
+        let mut out = [0.0; MOST];
         E::Ours::tick(&mut self.ours, &mut self.memory, &input.tick(), &mut out);
-        out
+        std::array::from_fn(|i| out[i])
     }
 }

@@ -6,7 +6,9 @@
 //! How it is taken:
 //! - Both are called functions: ours is in the static library, the Rust's tick stands behind `inline(never)`. The Rust's is
 //!   `tick_generic` with the cheapest frames (every port set, nothing to test) and in the release profile (fat LTO), so
-//!   nothing between the call and its tick is left.
+//!   nothing between the call and its tick is left. The flanger's is `tick`, which reads its ports from quiver's map and
+//!   answers in one: it looks up nine, each found at once since they lie in order. That is part of its row, and so is writing
+//!   and reading the slots before and after, without a look-up.
 //! - Curve numbers are handed to both, to each in its own way. Ours gets them as arguments. For the Rust the driver leaves them
 //!   in memory before the call: the frequency in the memo, under the key that the tick will ask for, and the sines where the shim
 //!   of libm takes each by one load. "Rust, curves still" is the Rust without these stores, its curve numbers the same in every
@@ -17,12 +19,14 @@
 //!   how noisy the machine was. "Driver" is a tick that copies its audio: what the loop and a call cost alone.
 
 mod chorus;
+mod flanger;
 mod inputs;
 mod lines;
 mod tremolo;
 mod vibrato;
 
 use chorus::Chorus;
+use flanger::Flanger;
 use inputs::{inputs, Input};
 use lines::Row;
 use std::hint::black_box;
@@ -62,10 +66,12 @@ fn main() {
             time::<Tremolo, 1>();
             time::<Row<Vibrato, 1>, 1>();
             time::<Row<Chorus, 3>, 3>();
+            time::<Row<Flanger, 3>, 3>();
         }
         ["count", "tremolo", side, ticks] => count::<Tremolo, 1>(side, ticks),
         ["count", "vibrato", side, ticks] => count::<Row<Vibrato, 1>, 1>(side, ticks),
         ["count", "chorus", side, ticks] => count::<Row<Chorus, 3>, 3>(side, ticks),
+        ["count", "flanger", side, ticks] => count::<Row<Flanger, 3>, 3>(side, ticks),
         _ => panic!("bench time, or bench count EFFECT SIDE TICKS"),
     }
 }

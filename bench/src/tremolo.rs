@@ -38,12 +38,12 @@ impl Effect<1> for Tremolo {
 
     #[inline(always)]
     fn hand(&mut self, input: &Input) {
-        input.hand(&mut self.rust);
+        input.hand::<1>(&mut self.rust);
     }
 
     #[inline(always)]
     fn rust(&mut self, input: &Input) -> [f64; 1] {
-        let [audio, depth, shape] = input.ports;
+        let [audio, depth, shape, _] = input.ports;
         [quiver_tremolo_tick(&mut self.rust, audio, depth, shape)]
     }
 

@@ -1,9 +1,10 @@
 //! The vibrato's row.
 
+use crate::inputs::Input;
 use crate::lines::Lined;
 use libm::timing::first_sine_next;
 use quiver_oracle::vibrato::Unit;
-use quiver_oracle::Effect as _;
+use room_effects::MOST_PORTS;
 
 pub struct Vibrato;
 
@@ -22,7 +23,12 @@ impl Lined<1> for Vibrato {
     type Rust = Unit;
 
     #[inline(always)]
-    fn rust_tick(unit: &mut Unit, [audio, depth, mix]: [f64; 3]) -> [f64; 1] {
+    fn hand(unit: &mut Unit, input: &Input) {
+        input.hand::<1>(unit);
+    }
+
+    #[inline(always)]
+    fn rust_tick(unit: &mut Unit, [audio, depth, mix, _]: [f64; MOST_PORTS]) -> [f64; 1] {
         [quiver_vibrato_tick(unit, audio, depth, mix)]
     }
 }

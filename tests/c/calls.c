@@ -142,6 +142,7 @@ int main(void)
     test("tremolo", tremolo);
     test("vibrato", vibrato);
     test("chorus", chorus);
+    test("flanger", flanger);
     printf("%u passed, %u failed\n", passed, failed);
     return failed != 0;
 }

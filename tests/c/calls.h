@@ -53,5 +53,6 @@ struct numbers not_read(void);
 void tremolo(void);
 void vibrato(void);
 void chorus(void);
+void flanger(void);
 
 #endif

@@ -31,10 +31,14 @@ static uint32_t tick(struct unit *unit, double *lent, uint64_t places, const str
 
 /* Lengths: 8,000 stands first. */
 static const struct lined effect = {
-    .voices = 3,
+    .lines = 3,
+    .phases = 3,
+    .sines = 3,
+    .samples = 3,
     .start_phases = {0.0, 0.33, 0.67},
     .retune_keeps_phases = 1,
     .input_rule = 1,
+    .feeds_back = 0,
     .lengths = {{8000.0, 266}, {44100.0, 1421}, {192000.0, 6154}, {11025.0, 362}, {22050.0, 715}, {48000.0, 1546}},
     .start = start,
     .retune = retune,

@@ -57,7 +57,7 @@ static struct unit junk_unit(void)
 
 static int unit_is(const struct lined *e, const struct unit *is, struct unit should)
 {
-    return is->write_pos == should.write_pos && all_same(is->phases, should.phases, e->voices) &&
+    return is->write_pos == should.write_pos && all_same(is->phases, should.phases, e->phases) &&
            same(is->sample_rate, should.sample_rate);
 }
 
@@ -66,6 +66,7 @@ struct tick tick_of(double audio, double depth, double mix, double frequency, do
     struct tick t;
     t.audio = room_set(audio);
     t.depth = room_set(depth);
+    t.feedback = room_set(0.0);
     t.mix = room_set(mix);
     t.frequency = frequency;
     t.sines[0] = t.sines[1] = t.sines[2] = sine;
@@ -80,7 +81,7 @@ static unsigned length_of(const struct lined *e)
 
 static unsigned needed(const struct lined *e)
 {
-    return e->voices * length_of(e);
+    return e->lines * length_of(e);
 }
 
 void tick_plays(const struct lined *e, uint64_t write_pos, struct tick t, const double samples[MOST], const char *what,
@@ -90,7 +91,7 @@ void tick_plays(const struct lined *e, uint64_t write_pos, struct tick t, const 
     double out[MOST] = {JUNK, JUNK, JUNK};
     unsigned k;
     check(e->tick(&unit, memory, needed(e), &t, out) == 0, what, i);
-    for (k = 0; k < e->voices; k++) {
+    for (k = 0; k < e->samples; k++) {
         check(plays(out[k], samples[k]), what, i);
     }
 }
@@ -143,7 +144,7 @@ static void tick_refused(const struct lined *e, struct unit before, uint64_t pla
     fill();
     check(e->tick(&unit, memory, places, &t, out) == number, what, i);
     check(unit_is(e, &unit, before) && memory_kept(), what, i);
-    check(all_same(out, no_phases, e->voices), "a refused tick plays +0", i);
+    check(all_same(out, no_phases, e->samples), "a refused tick plays +0", i);
 }
 
 /* A tick with nothing wrong in it, and one with every control and curve number wrong. */
@@ -154,7 +155,9 @@ static struct tick good_tick(void)
 
 static struct tick wrong_tick(void)
 {
-    return tick_of(4.0, (double)NAN, ODD_NAN, 33.0, 2.0);
+    struct tick t = tick_of(4.0, (double)NAN, ODD_NAN, 33.0, 2.0);
+    t.feedback = room_set(ODD_NAN);
+    return t;
 }
 
 /* Start */
@@ -185,7 +188,7 @@ static void starts(const struct lined *e)
     unsigned i;
     for (i = 0; i < COUNT(e->lengths); i++) {
         const double rate = e->lengths[i].rate;
-        const unsigned places = e->voices * e->lengths[i].length;
+        const unsigned places = e->lines * e->lengths[i].length;
         start_accepted(e, rate, places, i);
         start_accepted(e, rate, places + 17u, 100u + i);
         start_refused(e, rate, places - 1u, 3, 200u + i);
@@ -218,7 +221,7 @@ static void retunes(const struct lined *e)
     unsigned i;
     for (i = 0; i < COUNT(e->lengths); i++) {
         const double rate = e->lengths[i].rate;
-        const unsigned places = e->voices * e->lengths[i].length;
+        const unsigned places = e->lines * e->lengths[i].length;
         struct unit high = unit_at(6u);
         high.sample_rate = 192000.0;
         retune_accepted(e, unit, places, rate, i);
@@ -275,7 +278,7 @@ static void questions(const struct lined *e)
     }
     silent_is(e, 1, "-0 is silent too", 0);
     for (i = 0; i < COUNT(sounds); i++) {
-        for (k = 0; k < 2u * e->voices; k++) {
+        for (k = 0; k < 2u * e->lines; k++) {
             /* The first and the last place of each line. */
             const unsigned place = k / 2u * length_of(e) + k % 2u * (length_of(e) - 1u);
             memory[place] = sounds[i];
@@ -317,9 +320,9 @@ static void states_refused(const struct lined *e)
     for (i = 0; i < COUNT(positions); i++) {
         state_refused(e, unit_at(positions[i]), i);
     }
-    for (i = 0; i < phases.count * e->voices; i++) {
+    for (i = 0; i < phases.count * e->phases; i++) {
         struct unit unit = unit_at(3u);
-        unit.phases[i % e->voices] = phases.list[i / e->voices];
+        unit.phases[i % e->phases] = phases.list[i / e->phases];
         state_refused(e, unit, 100u + i);
     }
     for (i = 0; i < rates.count; i++) {
@@ -336,22 +339,32 @@ static void states_accepted(const struct lined *e)
     const struct numbers phases = phases_accepted();
     const struct tick t = good_tick();
     unsigned i;
-    for (i = 0; i < phases.count * e->voices; i++) {
+    for (i = 0; i < phases.count * e->phases; i++) {
         struct unit unit = unit_at(length_of(e) - 1u);
         double out[MOST];
         int silent = 7;
-        unit.phases[i % e->voices] = phases.list[i / e->voices];
+        unit.phases[i % e->phases] = phases.list[i / e->phases];
         fill();
         check(e->silent(&unit, memory, needed(e), &silent) == 0, "silent accepts the state", i);
         check(e->tick(&unit, memory, needed(e), &t, out) == 0, "tick accepts the state", i);
-        unit.phases[i % e->voices] = phases.list[i / e->voices];
+        unit.phases[i % e->phases] = phases.list[i / e->phases];
         check(e->reset(&unit, memory, needed(e)) == 0, "reset accepts the state", i);
-        unit.phases[i % e->voices] = phases.list[i / e->voices];
+        unit.phases[i % e->phases] = phases.list[i / e->phases];
         check(e->retune(&unit, memory, needed(e), 8000.0) == 0, "retune accepts the state", i);
     }
 }
 
 /* Ticks */
+
+/* Puts odd numbers into every place but, where lines feed back, -0 into theirs: with a feedback of 0 they add nothing. */
+static void fill_to_store(const struct lined *e)
+{
+    unsigned i;
+    fill();
+    for (i = 0; e->feeds_back && i < needed(e); i++) {
+        memory[i] = kept[i] = -0.0;
+    }
+}
 
 /* Runs the tick from this position, lent so many places: all that it writes is the audio, in one place of each line. */
 static void tick_stores(const struct lined *e, uint64_t write_pos, unsigned places, struct tick t, double stored, unsigned i)
@@ -359,9 +372,9 @@ static void tick_stores(const struct lined *e, uint64_t write_pos, unsigned plac
     struct unit unit = unit_at(write_pos);
     double out[MOST];
     unsigned k;
-    fill();
+    fill_to_store(e);
     check(e->tick(&unit, memory, places, &t, out) == 0, "tick is accepted", i);
-    for (k = 0; k < e->voices; k++) {
+    for (k = 0; k < e->lines; k++) {
         const unsigned place = k * length_of(e) + (unsigned)write_pos;
         check(plays(memory[place], stored), "a tick stores its audio at the position", i);
         memory[place] = kept[place];
@@ -373,7 +386,7 @@ static void tick_stores(const struct lined *e, uint64_t write_pos, unsigned plac
 
 static void stores(const struct lined *e)
 {
-    const uint64_t positions[] = {0, 1, 100, length_of(e) - 2u, length_of(e) - 1u};
+    const uint64_t positions[] = {0, 1, length_of(e) / 2u, length_of(e) - 2u, length_of(e) - 1u};
     const double audio[] = {4.0, 0.0, -0.0, SMALLEST, -DBL_MAX};
     const double wild[] = {(double)NAN, ODD_NAN, (double)INFINITY, -(double)INFINITY};
     struct tick t = tick_of(JUNK, 0.5, 0.5, 1.0, 0.25);
@@ -406,12 +419,19 @@ static void ticks_refused(const struct lined *e)
     tick_refused(e, unit, ROOM, tick_of(nan_, nan_, 0.5, 1.0, 0.0), 5, "NaN audio does not hide it", 0);
     tick_refused(e, unit, ROOM, wrong_tick(), 5, "5 before 6", 0);
     tick_refused(e, unit, ROOM, tick_of(4.0, nan_, 0.5, 33.0, 0.0), 5, "5 before 6, by the frequency", 0);
+    if (e->feeds_back) {
+        struct tick t = good_tick();
+        t.feedback = room_set(ODD_NAN);
+        tick_refused(e, unit, ROOM, t, 5, "feedback of NaN is refused with 5", 0);
+        t.sines[0] = 2.0;
+        tick_refused(e, unit, ROOM, t, 5, "5 before 6, by the feedback", 0);
+    }
     for (i = 0; i < frequencies.count; i++) {
         tick_refused(e, unit, ROOM, tick_of(4.0, 0.5, 0.5, frequencies.list[i], 0.0), 6, "frequency is refused with 6", i);
     }
-    for (i = 0; i < sines.count * e->voices; i++) {
+    for (i = 0; i < sines.count * e->sines; i++) {
         struct tick t = good_tick();
-        t.sines[i % e->voices] = sines.list[i / e->voices];
+        t.sines[i % e->sines] = sines.list[i / e->sines];
         tick_refused(e, unit, ROOM, t, 6, "sine is refused with 6", i);
         t.mix = room_set(ODD_NAN);
         tick_refused(e, unit, ROOM, t, 5, "5 before 6, by a sine", i);
@@ -427,8 +447,28 @@ static void ticks_accepted(const struct lined *e)
     for (i = 0; i < COUNT(frequencies); i++) {
         struct tick t = tick_of(4.0, (double)NAN, ODD_NAN, frequencies[i], sines[i]);
         t.depth.set = 0;
+        t.feedback = room_set(ODD_NAN);
+        t.feedback.set = 0;
         t.mix.set = 0;
         tick_stores(e, 7u, needed(e), t, 4.0, 500u + i);
+    }
+}
+
+/* Where there is one phase, it moves on by frequency / rate. */
+static void phase_moves(const struct lined *e)
+{
+    const struct {
+        double phase, frequency, next;
+    } moves[] = {
+        {0.25, -0.0, 0.25},
+        {0.25, 31.25, 0.25390625},
+        {0.99609375, 31.25, 0.0}, /* to 1 and so to 0 */
+        {0.998046875, 31.25, 0.001953125}, /* beyond 1 */
+    };
+    unsigned i;
+    for (i = 0; i < COUNT(moves); i++) {
+        const double next[MOST] = {moves[i].next, 0.0, 0.0};
+        tick_moves(e, moves[i].phase, moves[i].frequency, next, "the phase moves on and goes round", i);
     }
 }
 
@@ -443,4 +483,7 @@ void lines(const struct lined *e)
     stores(e);
     ticks_refused(e);
     ticks_accepted(e);
+    if (e->phases == 1u) {
+        phase_moves(e);
+    }
 }

@@ -13,8 +13,9 @@ struct unit {
     double sample_rate;
 };
 
+/* Feedback is the flanger's alone. */
 struct tick {
-    room_port audio, depth, mix;
+    room_port audio, depth, feedback, mix;
     double frequency, sines[MOST];
 };
 
@@ -25,10 +26,11 @@ struct length {
 };
 
 struct lined {
-    unsigned voices; /* how many lines; and phases, sines and samples */
+    unsigned lines, phases, sines, samples; /* how many */
     double start_phases[MOST];
     int retune_keeps_phases;
     int input_rule; /* whether audio that is not finite counts as +0 */
+    int feeds_back; /* whether its tick reads the feedback */
     struct length lengths[6];
     uint32_t (*start)(struct unit *unit, double *memory, uint64_t places, double sample_rate);
     uint32_t (*retune)(struct unit *unit, double *memory, uint64_t places, double sample_rate);
@@ -60,6 +62,24 @@ struct lined {
         return room_##E##_silent(&state, lent, places, yes);                                                            \
     }
 
+/* `state_of` and `put` of an effect with one phase. */
+#define ONE_PHASE_STATE(E)                                                                                              \
+    static room_##E state_of(const struct unit *unit)                                                                   \
+    {                                                                                                                   \
+        room_##E state;                                                                                                 \
+        state.write_pos = unit->write_pos;                                                                              \
+        state.lfo_phase = unit->phases[0];                                                                              \
+        state.sample_rate = unit->sample_rate;                                                                          \
+        return state;                                                                                                   \
+    }                                                                                                                   \
+    static uint32_t put(struct unit *unit, const room_##E *state, uint32_t number)                                      \
+    {                                                                                                                   \
+        unit->write_pos = state->write_pos;                                                                             \
+        unit->phases[0] = state->lfo_phase;                                                                             \
+        unit->sample_rate = state->sample_rate;                                                                         \
+        return number;                                                                                                  \
+    }
+
 /* The memory of all these tests: the most that a unit needs, 3 x 6,154 places, and some more. */
 #define ROOM 18500u
 extern double memory[ROOM];
@@ -73,7 +93,7 @@ int memory_kept(void);
 /* A state at 8,000 with this position, its phases 0.25, 0.5 and 0.75. */
 struct unit unit_at(uint64_t write_pos);
 
-/* A tick with every port set and all sines the same. */
+/* A tick with every port set, feedback to 0, and all sines the same. */
 struct tick tick_of(double audio, double depth, double mix, double frequency, double sine);
 
 /* Runs the tick from this position at 8,000, in the memory as it is: the samples, a NaN standing for any. */

@@ -1,23 +1,7 @@
 /* The vibrato. */
 #include "lines.h"
 
-static room_vibrato state_of(const struct unit *unit)
-{
-    room_vibrato state;
-    state.write_pos = unit->write_pos;
-    state.lfo_phase = unit->phases[0];
-    state.sample_rate = unit->sample_rate;
-    return state;
-}
-
-static uint32_t put(struct unit *unit, const room_vibrato *state, uint32_t number)
-{
-    unit->write_pos = state->write_pos;
-    unit->phases[0] = state->lfo_phase;
-    unit->sample_rate = state->sample_rate;
-    return number;
-}
-
+ONE_PHASE_STATE(vibrato)
 LINED_CALLS(vibrato)
 
 static uint32_t tick(struct unit *unit, double *lent, uint64_t places, const struct tick *t, double out[MOST])
@@ -29,10 +13,14 @@ static uint32_t tick(struct unit *unit, double *lent, uint64_t places, const str
 
 /* Lengths: 8,000 stands first. */
 static const struct lined effect = {
-    .voices = 1,
+    .lines = 1,
+    .phases = 1,
+    .sines = 1,
+    .samples = 1,
     .start_phases = {0.0, 0.0, 0.0},
     .retune_keeps_phases = 0,
     .input_rule = 0,
+    .feeds_back = 0,
     .lengths = {{8000.0, 170}, {44100.0, 892}, {192000.0, 3850}, {11025.0, 230}, {22050.0, 451}, {48000.0, 970}},
     .start = start,
     .retune = retune,
@@ -130,20 +118,6 @@ static void unset_ports(void)
     }
 }
 
-static void moves(double phase, double frequency, double next, const char *what, unsigned i)
-{
-    const double phases[MOST] = {next, 0.0, 0.0};
-    tick_moves(&effect, phase, frequency, phases, what, i);
-}
-
-static void phase_moves(void)
-{
-    moves(0.25, -0.0, 0.25, "frequency -0 leaves the phase", 0);
-    moves(0.25, 31.25, 0.25390625, "the phase moves on by frequency / rate", 1);
-    moves(0.99609375, 31.25, 0.0, "a phase that gets to 1 goes to 0", 2);
-    moves(0.998046875, 31.25, 0.001953125, "a phase beyond 1 loses 1", 3);
-}
-
 /* From a start, at depth 0, a sound comes back after 80 ticks, and once; then the line is silent. */
 static void echo(void)
 {
@@ -181,7 +155,6 @@ void vibrato(void)
     mixes();
     controls();
     unset_ports();
-    phase_moves();
     echo();
     mask();
 }

@@ -1,5 +1,6 @@
 // Replays stored answers of the Rust and compares them, with no Rust at hand. A file of data/ for each effect; its format is said where it is read.
 mod chorus_file;
+mod flanger_file;
 mod tremolo_file;
 mod vibrato_file;
 mod words;
@@ -53,8 +54,21 @@ fn replay_chorus() {
     libc::close(fd);
 }
 
+fn replay_flanger() {
+    let path = b"flanger.bin";
+    let fd = os::open_read(path);
+    if fd < 0 {
+        os::fail(path);
+        return;
+    }
+    let mut mem = [0.0f64; 300];
+    report(b"flanger: ", flanger_file::replayed(fd, &mut mem));
+    libc::close(fd);
+}
+
 fn main() {
     replay_tremolo();
     replay_vibrato();
     replay_chorus();
+    replay_flanger();
 }

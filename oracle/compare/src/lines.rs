@@ -11,16 +11,17 @@ mod record;
 use crate::bits::{agree, untouched, JUNK};
 use crate::random::Random;
 use crate::run::{number_agrees, silent_agrees, Made, Pair};
-use crate::{table, tick};
+use crate::table;
+use crate::tick::Form;
 use call::{Call, Quiet, What};
 use memory::Memory;
 use quiver_oracle::{Effect as _, Lined as _};
-use room_effects::{Lined as _, State, Tick};
+use room_effects::{Lined as _, State, Tick, MOST};
 
 pub use record::record;
 
-/// An effect whose N lines have one write position, and N phases; it answers N samples.
-pub trait Effect<const N: usize> {
+/// An effect whose lines have one write position.
+pub trait Effect {
     const NAME: &'static str;
 
     /// Document 01's number of the effect.
@@ -29,24 +30,33 @@ pub trait Effect<const N: usize> {
     /// The n of document 01's rule for a line's length.
     const N_OF_LENGTH: f64;
 
-    /// How far each phase moves, as a multiple of frequency / rate: to draw phases by, not to compare them.
-    const STEPS: [f64; N];
+    const LINES: usize;
 
-    type Ours: room_effects::Lined<N>;
-    type Rust: quiver_oracle::Lined<N>;
+    const SAMPLES: usize;
+
+    const FORM: Form;
+
+    /// How far each phase moves, as a multiple of frequency / rate: to draw phases by, not to compare them.
+    const STEPS: &'static [f64];
+
+    /// Whether what a line plays goes back into it. What is not ordinary would then stay, and spread until all is NaN.
+    const FEEDS_BACK: bool = false;
+
+    type Ours: room_effects::Lined;
+    type Rust: quiver_oracle::Lined;
 }
 
-pub struct Lines<E: Effect<N>, const N: usize> {
-    state: State<N>,
+pub struct Lines<E: Effect> {
+    state: State,
     memory: Memory,
     rust: E::Rust,
     ticks: u64,
 }
 
-fn junk_state<const N: usize>() -> State<N> {
+fn junk_state() -> State {
     State {
         write_pos: JUNK as u64,
-        phases: [JUNK; N],
+        phases: [JUNK; MOST],
         sample_rate: JUNK,
     }
 }
@@ -54,15 +64,15 @@ fn junk_state<const N: usize>() -> State<N> {
 /// All of the memory is compared once in this many ticks of a unit.
 const WHOLE: u64 = 64;
 
-fn length<E: Effect<N>, const N: usize>(rate: f64) -> u64 {
+fn length<E: Effect>(rate: f64) -> u64 {
     table::length(E::N_OF_LENGTH, rate)
 }
 
-fn needed<E: Effect<N>, const N: usize>(rate: f64) -> usize {
-    (length::<E, N>(rate) as usize).saturating_mul(N)
+fn needed<E: Effect>(rate: f64) -> usize {
+    (length::<E>(rate) as usize).saturating_mul(E::LINES)
 }
 
-impl<E: Effect<N>, const N: usize> Pair for Lines<E, N> {
+impl<E: Effect> Pair for Lines<E> {
     const NAME: &'static str = E::NAME;
     const REFUSALS: &'static [u32] = &[
         table::SAMPLE_RATE,
@@ -71,10 +81,10 @@ impl<E: Effect<N>, const N: usize> Pair for Lines<E, N> {
         table::CONTROL,
         table::CURVE,
     ];
-    type Call = Call<N>;
+    type Call = Call;
 
     fn start(sample_rate: f64) -> Result<Self, String> {
-        let call = Call::start_in(needed::<E, N>(sample_rate), sample_rate, 0);
+        let call = Call::start_in(needed::<E>(sample_rate), sample_rate, 0);
         let mut unit = Self {
             state: junk_state(),
             memory: Memory::junk(0, 0),
@@ -85,11 +95,11 @@ impl<E: Effect<N>, const N: usize> Pair for Lines<E, N> {
         Ok(unit)
     }
 
-    fn draw(&self, random: &mut Random) -> Call<N> {
+    fn draw(&self, random: &mut Random) -> Call {
         self.drawn(random)
     }
 
-    fn call(&mut self, call: &Call<N>) -> Result<Made, String> {
+    fn call(&mut self, call: &Call) -> Result<Made, String> {
         let number = call.number::<E>();
         if let Some((place, value)) = call.planted {
             self.plant(place, value);
@@ -98,10 +108,14 @@ impl<E: Effect<N>, const N: usize> Pair for Lines<E, N> {
             What::Start { rate, seed } => self.start_both(call.lent, *rate, *seed, number)?,
             What::Retune(_) | What::Reset => self.clear_both(call, number)?,
             What::Silent(None) => self.silent(call, number)?,
-            What::Silent(Some(quiet)) => silent_in_quiet::<E, N>(call, quiet, number)?,
+            What::Silent(Some(quiet)) => silent_in_quiet::<E>(call, quiet, number)?,
             What::Tick(t) => self.tick_both(call, t, number)?,
         }
         Ok(Made::of(number, matches!(call.what, What::Tick(_))))
+    }
+
+    fn shown(call: &Call) -> String {
+        call.shown::<E>()
     }
 
     fn finish(&self) -> Result<(), String> {
@@ -109,16 +123,16 @@ impl<E: Effect<N>, const N: usize> Pair for Lines<E, N> {
     }
 }
 
-impl<E: Effect<N>, const N: usize> Lines<E, N> {
+impl<E: Effect> Lines<E> {
     fn length(&self) -> u64 {
-        length::<E, N>(self.state.sample_rate)
+        length::<E>(self.state.sample_rate)
     }
 
     fn plant(&mut self, place: usize, value: f64) {
         self.memory.plant(place, value);
         let length = self.length() as usize;
         let (line, at) = (place / length, place % length);
-        if let Some(line) = self.rust.lines_mut().into_iter().nth(line) {
+        if let Some(line) = self.rust.lines_mut().get_mut(line) {
             line[at] = value;
         }
     }
@@ -129,7 +143,7 @@ impl<E: Effect<N>, const N: usize> Lines<E, N> {
         let mut state = junk_state();
         number_agrees(E::Ours::start(&mut state, memory.lend(lent), rate), number)?;
         if number != 0 {
-            state_untouched(&zero_state(), &state)?;
+            state_untouched::<E>(&zero_state(), &state)?;
             return memory.check();
         }
         memory.cleared(lent);
@@ -139,7 +153,7 @@ impl<E: Effect<N>, const N: usize> Lines<E, N> {
         self.all_agrees()
     }
 
-    fn clear_both(&mut self, call: &Call<N>, number: u32) -> Result<(), String> {
+    fn clear_both(&mut self, call: &Call, number: u32) -> Result<(), String> {
         let mut state = call.state;
         let lent = self.memory.lend(call.lent);
         let ours = match call.what {
@@ -160,20 +174,22 @@ impl<E: Effect<N>, const N: usize> Lines<E, N> {
         self.all_agrees()
     }
 
-    fn tick_both(&mut self, call: &Call<N>, t: &Tick<N>, number: u32) -> Result<(), String> {
+    fn tick_both(&mut self, call: &Call, t: &Tick, number: u32) -> Result<(), String> {
         if number == 0 {
             self.rust_at(&call.state);
         }
         let mut state = call.state;
-        let mut out = [JUNK; N];
+        let mut out = [JUNK; MOST];
         let lent = self.memory.lend(call.lent);
         number_agrees(E::Ours::tick(&mut state, lent, t, &mut out), number)?;
         if number != 0 {
-            out.iter()
+            out[..E::SAMPLES]
+                .iter()
                 .try_for_each(|out| untouched("out of a refused tick", 0.0, *out))?;
             return self.refused(&call.state, &state);
         }
-        for (ours, rust) in out.into_iter().zip(tick::in_rust(&mut self.rust, t)?) {
+        let rust = E::FORM.in_rust(&mut self.rust, t)?;
+        for (ours, rust) in out.into_iter().zip(rust).take(E::SAMPLES) {
             agree("out", ours, rust)?;
         }
         self.state = state;
@@ -186,36 +202,37 @@ impl<E: Effect<N>, const N: usize> Lines<E, N> {
     }
 
     /// Silent: every place in use is +0 or −0.
-    fn silent(&mut self, call: &Call<N>, number: u32) -> Result<(), String> {
+    fn silent(&mut self, call: &Call, number: u32) -> Result<(), String> {
         let memory = self.memory.shown(call.lent);
-        silent_ours::<E, N>(&call.state, memory, number)?;
+        silent_ours::<E>(&call.state, memory, number)?;
         self.memory.check()
     }
 
     /// The Rust's unit gets the state that ours is handed: at another rate, with lines that lie elsewhere in the memory.
-    fn rust_at(&mut self, state: &State<N>) {
+    fn rust_at(&mut self, state: &State) {
         if state.sample_rate.to_bits() != self.rust.sample_rate().to_bits() {
             self.rust = E::Rust::new(state.sample_rate);
-            let length = length::<E, N>(state.sample_rate) as usize;
+            let length = length::<E>(state.sample_rate) as usize;
             let places = self.memory.shown(self.memory.count()).chunks_exact(length);
-            for (line, places) in self.rust.lines_mut().into_iter().zip(places) {
+            for (line, places) in self.rust.lines_mut().iter_mut().zip(places) {
                 line.copy_from_slice(places);
             }
         }
         self.rust.set_write_pos(state.write_pos as usize);
-        self.rust.set_phases(state.phases);
+        let phases = self.rust.phases_mut();
+        phases.copy_from_slice(&state.phases[..phases.len()]);
     }
 
     /// A refused call leaves state and memory to the bit.
-    fn refused(&self, before: &State<N>, after: &State<N>) -> Result<(), String> {
-        state_untouched(before, after)?;
+    fn refused(&self, before: &State, after: &State) -> Result<(), String> {
+        state_untouched::<E>(before, after)?;
         self.memory.check()
     }
 
     /// The place that a tick from this position has written in each line.
     fn written_agrees(&mut self, write_pos: usize) -> Result<(), String> {
         let length = self.length() as usize;
-        for (i, line) in self.rust.lines().into_iter().enumerate() {
+        for (i, line) in self.rust.lines().iter().enumerate() {
             self.memory
                 .written(i * length + write_pos, line[write_pos])?;
         }
@@ -224,7 +241,7 @@ impl<E: Effect<N>, const N: usize> Lines<E, N> {
 
     fn states_agree(&self) -> Result<(), String> {
         for (ours, rust) in self.state.phases.into_iter().zip(self.rust.phases()) {
-            agree("phase", ours, rust)?;
+            agree("phase", ours, *rust)?;
         }
         same_count("position", self.state.write_pos, self.rust.write_pos())?;
         agree("rate", self.state.sample_rate, self.rust.sample_rate())
@@ -235,7 +252,7 @@ impl<E: Effect<N>, const N: usize> Lines<E, N> {
         self.states_agree()?;
         self.memory.check()?;
         let length = self.length() as usize;
-        let lines = self.memory.shown(N * length).chunks_exact(length);
+        let lines = self.memory.shown(E::LINES * length).chunks_exact(length);
         for (ours, rust) in lines.zip(self.rust.lines()) {
             lines_agree(ours, rust)?;
         }
@@ -251,16 +268,17 @@ fn lines_agree(ours: &[f64], rust: &[f64]) -> Result<(), String> {
     Ok(())
 }
 
-fn zero_state<const N: usize>() -> State<N> {
+fn zero_state() -> State {
     State {
         write_pos: 0,
-        phases: [0.0; N],
+        phases: [0.0; MOST],
         sample_rate: 0.0,
     }
 }
 
-fn state_untouched<const N: usize>(should: &State<N>, is: &State<N>) -> Result<(), String> {
-    for (should, is) in should.phases.iter().zip(is.phases) {
+fn state_untouched<E: Effect>(should: &State, is: &State) -> Result<(), String> {
+    let own = should.phases.iter().zip(is.phases).take(E::STEPS.len());
+    for (should, is) in own {
         untouched("phase after a refusal", *should, is)?;
     }
     same_count(
@@ -278,29 +296,21 @@ fn same_count(what: &str, ours: u64, rust: usize) -> Result<(), String> {
     Err(format!("{what} is {ours}, and should be {rust}"))
 }
 
-fn silent_in_quiet<E: Effect<N>, const N: usize>(
-    call: &Call<N>,
-    quiet: &Quiet,
-    number: u32,
-) -> Result<(), String> {
+fn silent_in_quiet<E: Effect>(call: &Call, quiet: &Quiet, number: u32) -> Result<(), String> {
     let mut random = Random::new(quiet.seed);
     let mut memory: Vec<f64> = (0..call.lent).map(|_| random.of(&[0.0, -0.0])).collect();
     if let Some(place) = memory.get_mut(quiet.place) {
         *place = quiet.sound;
     }
-    silent_ours::<E, N>(&call.state, &memory, number)
+    silent_ours::<E>(&call.state, &memory, number)
 }
 
 /// Document 01: yes when every place in use of the unit's lines is +0 or −0.
-fn silent_ours<E: Effect<N>, const N: usize>(
-    state: &State<N>,
-    memory: &[f64],
-    number: u32,
-) -> Result<(), String> {
+fn silent_ours<E: Effect>(state: &State, memory: &[f64], number: u32) -> Result<(), String> {
     let mut silent = JUNK as u32;
     number_agrees(E::Ours::silent(state, memory, &mut silent), number)?;
     let zeros = [0.0f64, -0.0].map(f64::to_bits);
-    let in_use = || memory[..needed::<E, N>(state.sample_rate)].iter();
+    let in_use = || memory[..needed::<E>(state.sample_rate)].iter();
     let yes = number == 0 && in_use().all(|place| zeros.contains(&place.to_bits()));
     silent_agrees(silent, yes)
 }

@@ -7,6 +7,7 @@
 
 mod bits;
 mod chorus;
+mod flanger;
 mod lines;
 mod random;
 mod run;
@@ -26,7 +27,7 @@ struct Effect {
     record: fn(ticks: u64, seed: u64) -> Result<Vec<u64>, String>,
 }
 
-const EFFECTS: [Effect; 3] = [
+const EFFECTS: [Effect; 4] = [
     Effect {
         name: "tremolo",
         run: run::run::<tremolo::Tremolo>,
@@ -34,13 +35,18 @@ const EFFECTS: [Effect; 3] = [
     },
     Effect {
         name: "vibrato",
-        run: run::run::<Lines<vibrato::Vibrato, 1>>,
-        record: lines::record::<vibrato::Vibrato, 1>,
+        run: run::run::<Lines<vibrato::Vibrato>>,
+        record: lines::record::<vibrato::Vibrato>,
     },
     Effect {
         name: "chorus",
-        run: run::run::<Lines<chorus::Chorus, 3>>,
-        record: lines::record::<chorus::Chorus, 3>,
+        run: run::run::<Lines<chorus::Chorus>>,
+        record: lines::record::<chorus::Chorus>,
+    },
+    Effect {
+        name: "flanger",
+        run: run::run::<Lines<flanger::Flanger>>,
+        record: lines::record::<flanger::Flanger>,
     },
 ];
 

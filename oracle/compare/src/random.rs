@@ -88,8 +88,12 @@ impl Random {
                 self.signed(x)
             }
             5 => self.any(),
-            _ => self.within(-5.0, 5.0),
+            _ => self.ordinary_audio(),
         }
+    }
+
+    pub fn ordinary_audio(&mut self) -> f64 {
+        self.within(-5.0, 5.0)
     }
 
     /// Mostly ordinary audio: a line full of the other kind would play little but NaN.
@@ -97,7 +101,7 @@ impl Random {
         if self.one_in(4) {
             self.audio()
         } else {
-            self.within(-5.0, 5.0)
+            self.ordinary_audio()
         }
     }
 
@@ -118,6 +122,19 @@ impl Random {
             }
             6 => self.within(-0.5, 1.5),
             _ => self.within(0.0, 1.0),
+        }
+    }
+
+    /// A feedback that is no NaN, in and around −0.95 to 0.95.
+    pub fn feedback(&mut self) -> f64 {
+        match self.below(8) {
+            0 => {
+                let end = self.of(&[0.95, 0.95f64.next_down(), 0.95f64.next_up(), 1.0]);
+                self.signed(end)
+            }
+            1 => self.control(),
+            2 => -self.control(),
+            _ => self.within(-1.0, 1.0),
         }
     }
 

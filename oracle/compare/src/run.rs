@@ -2,7 +2,6 @@
 
 use crate::random::{Random, COMMON_RATES};
 use crate::table::NUMBERS;
-use std::fmt::Display;
 
 /// One unit of an effect on both sides, in lockstep.
 pub trait Pair: Sized {
@@ -11,8 +10,8 @@ pub trait Pair: Sized {
     /// The table's numbers that this effect's calls can give.
     const REFUSALS: &'static [u32];
 
-    /// A call with its arguments, the state handed to it among them. It shows them in hex.
-    type Call: Display;
+    /// A call with its arguments, the state handed to it among them.
+    type Call;
 
     /// An accepted start at this rate.
     fn start(sample_rate: f64) -> Result<Self, String>;
@@ -22,6 +21,9 @@ pub trait Pair: Sized {
 
     /// Make the call on both sides and compare what it returns and leaves; a message where they differ.
     fn call(&mut self, call: &Self::Call) -> Result<Made, String>;
+
+    /// The call with its arguments, in hex.
+    fn shown(call: &Self::Call) -> String;
 
     /// The end of the run: compare what `call` compares only now and then.
     fn finish(&self) -> Result<(), String> {
@@ -92,7 +94,10 @@ pub fn run<P: Pair>(ticks: u64, seed: u64) -> Result<String, String> {
         let call = units[at].draw(&mut random);
         match units[at].call(&call) {
             Ok(made) => tally.count(made),
-            Err(message) => return Err(format!("after {} ticks, {call}\n{message}", tally.ticks)),
+            Err(message) => {
+                let call = P::shown(&call);
+                return Err(format!("after {} ticks, {call}\n{message}", tally.ticks));
+            }
         }
     }
     units.iter().try_for_each(P::finish)?;

@@ -3,15 +3,18 @@
 use crate::bits::{agree, shown, untouched, word, JUNK};
 use crate::random::{Random, COMMON_RATES};
 use crate::run::{number_agrees, silent_agrees, Made, Pair};
-use crate::{table, tick};
+use crate::table;
+use crate::tick::{Control, Form, AS_IT_IS, DEPTH};
 use quiver_oracle::tremolo::Unit;
 use quiver_oracle::Effect;
 use room_effects::tremolo as ours;
 use room_effects::tremolo::State;
-use room_effects::PORTS;
-use std::fmt;
+use room_effects::Tick;
 
-type Tick = room_effects::Tick<1>;
+const FORM: Form = Form {
+    controls: &[DEPTH, Control::unit("shape")],
+    sines: &[(0, AS_IT_IS)],
+};
 
 pub struct Tremolo {
     ours: State,
@@ -35,7 +38,7 @@ impl Call {
                 table::first(&[(table::STATE, misfits(state))])
             }
             Call::Tick(state, t) => {
-                let [control, curve] = tick::causes(t);
+                let [control, curve] = FORM.causes(t);
                 table::first(&[(table::STATE, misfits(state)), control, curve])
             }
         }
@@ -44,18 +47,6 @@ impl Call {
 
 fn misfits(state: &State) -> bool {
     table::sample_rate(state.sample_rate) || table::phase(state.lfo_phase)
-}
-
-impl fmt::Display for Call {
-    fn fmt(&self, f: &mut fmt::Formatter) -> fmt::Result {
-        let of = |state: &State| shown(&[("phase", state.lfo_phase), ("rate", state.sample_rate)]);
-        match self {
-            Call::Start(rate) => write!(f, "start:\n  {}", shown(&[("rate", *rate)])),
-            Call::Reset(state) => write!(f, "reset:\n  {}", of(state)),
-            Call::Silent(state) => write!(f, "silent:\n  {}", of(state)),
-            Call::Tick(state, t) => write!(f, "tick:\n  {}\n  {}", of(state), tick::listed(t)),
-        }
-    }
 }
 
 impl Pair for Tremolo {
@@ -107,6 +98,16 @@ impl Pair for Tremolo {
             Call::Tick(state, t) => self.tick_both(*state, t, number)?,
         }
         Ok(Made::of(number, matches!(call, Call::Tick(..))))
+    }
+
+    fn shown(call: &Call) -> String {
+        let of = |state: &State| shown(&[("phase", state.lfo_phase), ("rate", state.sample_rate)]);
+        match call {
+            Call::Start(rate) => format!("start:\n  {}", shown(&[("rate", *rate)])),
+            Call::Reset(state) => format!("reset:\n  {}", of(state)),
+            Call::Silent(state) => format!("silent:\n  {}", of(state)),
+            Call::Tick(state, t) => format!("tick:\n  {}\n  {}", of(state), FORM.listed(t)),
+        }
     }
 }
 
@@ -174,16 +175,15 @@ impl Tremolo {
             untouched("out of a refused tick", 0.0, out)?;
             return untouched("phase of a refused tick", before.lfo_phase, state.lfo_phase);
         }
-        self.rust.set_phases([before.lfo_phase]);
-        let [rust] = tick::in_rust(&mut self.rust, t)?;
+        self.rust.phases_mut()[0] = before.lfo_phase;
+        let [rust, ..] = FORM.in_rust(&mut self.rust, t)?;
         agree("out", out, rust)?;
         self.ours = state;
         self.states_agree()
     }
 
     fn states_agree(&self) -> Result<(), String> {
-        let [rust] = self.rust.phases();
-        agree("phase", self.ours.lfo_phase, rust)?;
+        agree("phase", self.ours.lfo_phase, self.rust.phases()[0])?;
         agree("rate", self.ours.sample_rate, self.rust.sample_rate())
     }
 }
@@ -196,7 +196,7 @@ fn silent_ours(state: &State, number: u32) -> Result<(), String> {
 }
 
 fn drawn(random: &mut Random) -> Tick {
-    tick::draw(random, Random::audio)
+    FORM.draw(random, Random::audio)
 }
 
 /// A state that the test refuses, by its phase, its rate or both.
@@ -224,7 +224,7 @@ fn wrong_tick(state: State, random: &mut Random) -> Call {
     } else {
         state
     };
-    Call::Tick(state, tick::draw_wrong(random))
+    Call::Tick(state, FORM.draw_wrong(random))
 }
 
 /// The words of a record: see `record`.
@@ -261,11 +261,10 @@ pub fn record(ticks: u64, seed: u64) -> Result<Vec<u64>, String> {
             *unit = Unit::new(random.sample_rate());
         }
         let t = drawn(&mut random);
-        let [phase] = unit.phases();
         let phase = match random.below(16) {
             0..=3 => random.phase(),
             4 => random.phase_near_wrap(t.frequency / unit.sample_rate()),
-            _ => phase,
+            _ => unit.phases()[0],
         };
         words.extend(recorded(unit, phase, &t)?);
     }
@@ -278,17 +277,17 @@ fn recorded(unit: &mut Unit, phase: f64, t: &Tick) -> Result<[u64; RECORD], Stri
         sample_rate: unit.sample_rate(),
     };
     number_agrees(0, Call::Tick(state, *t).number())?;
-    unit.set_phases([phase]);
-    let [out] = tick::in_rust(unit, t)?;
-    let ([after], [sine]) = (unit.phases(), t.sines);
-    let [audio, depth, shape] = t.ports.map(word);
-    let [frequency, sine] = [t.frequency, sine].map(word);
-    let [before, rate, after, out] = [phase, state.sample_rate, after, out].map(word);
+    unit.phases_mut()[0] = phase;
+    let [out, ..] = FORM.in_rust(unit, t)?;
+    let [audio, depth, shape, _] = t.ports.map(word);
+    let [frequency, sine] = [t.frequency, t.sines[0]].map(word);
+    let [before, rate] = [phase, state.sample_rate].map(word);
+    let [after, out] = [unit.phases()[0], out].map(word);
     Ok([
         KIND,
         before,
         rate,
-        u64::from(t.set & PORTS),
+        u64::from(t.set & FORM.all_set()),
         audio,
         depth,
         shape,

@@ -3,56 +3,48 @@
 /// What the rate port carries in every tick here: the memo's key. The frequency is planted, so any number does.
 pub(crate) const RATE: f64 = 0.3;
 
-/// A unit of an effect that takes audio, a rate and two controls, and that has N phases and answers N samples.
-pub trait Effect<const N: usize>: Sized {
+/// No effect has more ports beside the rate, or answers more samples. Of a list this long, an effect's own come first.
+pub const MOST_PORTS: usize = 4;
+pub const MOST_SAMPLES: usize = 3;
+
+/// A unit of an effect.
+pub trait Effect: Sized {
     fn new(sample_rate: f64) -> Self;
 
     fn reset(&mut self);
 
     fn sample_rate(&self) -> f64;
 
-    fn phases(&self) -> [f64; N];
+    fn phases(&self) -> &[f64];
 
-    fn set_phases(&mut self, phases: [f64; N]);
+    fn phases_mut(&mut self) -> &mut [f64];
 
     /// The frequency of the ticks to come.
     fn plant_frequency(&mut self, frequency: f64);
 
-    /// A tick with ports set or unset: audio and the two controls.
-    fn tick(&mut self, ports: [Option<f64>; 3]) -> [f64; N];
-
-    /// A tick with every port set, by the cheapest frame.
-    fn tick_plain(&mut self, ports: [f64; 3]) -> [f64; N];
+    /// A tick with ports set or unset: audio and the controls. A sample that the tick leaves out is NaN.
+    fn tick(&mut self, ports: [Option<f64>; MOST_PORTS]) -> [f64; MOST_SAMPLES];
 }
 
-/// A unit of an effect with N lines, which one write position goes round.
-pub trait Lined<const N: usize>: Effect<N> {
+/// A unit of an effect with lines, which one write position goes round.
+pub trait Lined: Effect {
     fn set_sample_rate(&mut self, sample_rate: f64);
 
     fn write_pos(&self) -> usize;
 
     fn set_write_pos(&mut self, write_pos: usize);
 
-    fn lines(&self) -> [&[f64]; N];
+    fn lines(&self) -> &[Vec<f64>];
 
-    fn lines_mut(&mut self) -> [&mut [f64]; N];
+    fn lines_mut(&mut self) -> &mut [Vec<f64>];
 }
 
-/// `Effect<N>` for a unit that wraps the Rust's effect. Where its phases lie is what the effects differ in.
+/// `Effect` for a unit that wraps the Rust's effect. The effects differ in where their phases lie, and in `tick_ports`.
 macro_rules! effect {
-    ($unit:ident($effect:ident), $n:literal, $($phases:tt)*) => {
-        impl $unit {
-            #[inline(always)]
-            fn tick_frame(&mut self, inputs: &impl $crate::port::InputFrame) -> [f64; $n] {
-                let mut outputs = $crate::frames::Samples::<$n>::blank();
-                self.0.tick_generic(inputs, &mut outputs);
-                outputs.0
-            }
-        }
-
-        impl $crate::effect::Effect<$n> for $unit {
+    ($unit:ident($effect:ident $(, $more:expr)?), $($phases:tt)*) => {
+        impl $crate::effect::Effect for $unit {
             fn new(sample_rate: f64) -> Self {
-                Self($effect::new(sample_rate))
+                Self($effect::new(sample_rate) $(, $more)?)
             }
 
             fn reset(&mut self) {
@@ -69,15 +61,8 @@ macro_rules! effect {
                 $crate::modules::common::inside::plant(memo, [$crate::effect::RATE], frequency);
             }
 
-            fn tick(&mut self, [audio, first, second]: [Option<f64>; 3]) -> [f64; $n] {
-                let rate = Some($crate::effect::RATE);
-                self.tick_frame(&$crate::frames::Ports([audio, rate, first, second]))
-            }
-
-            #[inline(always)]
-            fn tick_plain(&mut self, [audio, first, second]: [f64; 3]) -> [f64; $n] {
-                let rate = $crate::effect::RATE;
-                self.tick_frame(&$crate::frames::Plain([audio, rate, first, second]))
+            fn tick(&mut self, ports: [Option<f64>; $crate::MOST_PORTS]) -> [f64; $crate::MOST_SAMPLES] {
+                self.tick_ports(ports)
             }
 
             $($phases)*
@@ -85,3 +70,37 @@ macro_rules! effect {
     };
 }
 pub(crate) use effect;
+
+/// The ticks of a unit whose reference is `tick_generic`, with audio and two controls.
+macro_rules! ticks_by_frames {
+    ($unit:ident, $samples:literal) => {
+        impl $unit {
+            #[inline(always)]
+            fn tick_frame<const M: usize>(
+                &mut self,
+                inputs: &impl $crate::port::InputFrame,
+            ) -> [f64; M] {
+                let mut outputs = $crate::frames::Samples::blank();
+                self.0.tick_generic(inputs, &mut outputs);
+                outputs.0
+            }
+
+            fn tick_ports(
+                &mut self,
+                ports: [Option<f64>; $crate::MOST_PORTS],
+            ) -> [f64; $crate::MOST_SAMPLES] {
+                let [audio, first, second, _] = ports;
+                let rate = Some($crate::effect::RATE);
+                self.tick_frame(&$crate::frames::Ports([audio, rate, first, second]))
+            }
+
+            /// A tick with every port set, by the cheapest frame.
+            #[inline(always)]
+            pub fn tick_plain(&mut self, [audio, first, second]: [f64; 3]) -> [f64; $samples] {
+                let rate = $crate::effect::RATE;
+                self.tick_frame(&$crate::frames::Plain([audio, rate, first, second]))
+            }
+        }
+    };
+}
+pub(crate) use ticks_by_frames;

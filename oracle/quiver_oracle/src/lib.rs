@@ -1,4 +1,4 @@
-//! quiver's five files as published (build.rs puts them in), with a way in for tests: `tremolo`, `vibrato`, `chorus`.
+//! quiver's five files as published (build.rs puts them in), with a way in for tests: `tremolo`, `vibrato`, `chorus`, `flanger`.
 //! Private fields are read and written by child modules of the Rust's own, in `inside/`.
 
 // Of quiver's text: parts that we don't use, features that we don't declare.
@@ -19,5 +19,5 @@ use shims::StdMap;
 pub mod port;
 include!(concat!(env!("OUT_DIR"), "/quiver.rs"));
 
-pub use effect::{Effect, Lined};
-pub use modules::timefx::inside::{chorus, tremolo, vibrato};
+pub use effect::{Effect, Lined, MOST_PORTS, MOST_SAMPLES};
+pub use modules::timefx::inside::{chorus, flanger, tremolo, vibrato};

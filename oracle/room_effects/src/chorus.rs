@@ -31,14 +31,13 @@ extern "C" {
 
 lined! {
     Chorus,
-    3,
     room_raw_chorus_start,
     room_raw_chorus_retune,
     room_raw_chorus_reset,
 
     #[inline(always)]
-    fn tick(state: &mut State<3>, memory: &mut [f64], t: &Tick<3>, out: &mut [f64; 3]) -> u32 {
-        let [audio, depth, mix] = t.ports;
+    fn tick(state: &mut State, memory: &mut [f64], t: &Tick, out: &mut [f64; 3]) -> u32 {
+        let [audio, depth, mix, _] = t.ports;
         let [sine0, sine1, sine2] = t.sines;
         unsafe {
             room_raw_chorus_tick(
@@ -60,7 +59,7 @@ lined! {
         }
     }
 
-    fn silent(state: &State<3>, memory: &[f64], out: &mut u32) -> u32 {
+    fn silent(state: &State, memory: &[f64], out: &mut u32) -> u32 {
         unsafe {
             room_raw_chorus_silent(
                 state.write_pos,

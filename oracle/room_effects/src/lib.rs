@@ -4,20 +4,22 @@
 mod lined;
 
 pub mod chorus;
+pub mod flanger;
 pub mod tremolo;
 pub mod vibrato;
 
 pub use lined::{Lined, State};
 
-/// A tick's arguments: which ports are set, their numbers, the curve numbers with one sine for each phase.
-/// Port i is set where bit i of the mask is 1: audio, depth, and then the tremolo's shape or the others' mix.
-#[derive(Clone, Copy, Debug)]
-pub struct Tick<const N: usize> {
-    pub set: u32,
-    pub ports: [f64; 3],
-    pub frequency: f64,
-    pub sines: [f64; N],
-}
+/// No effect has more phases, sines or samples, or more ports. Of a list this long, an effect's own come first.
+pub const MOST: usize = 3;
+pub const MOST_PORTS: usize = 4;
 
-/// The mask with every port set.
-pub const PORTS: u32 = 7;
+/// A tick's arguments: which ports are set, their numbers in the order of the exported function, the curve numbers.
+/// Port i is set where bit i of the mask is 1; port 0 is the audio.
+#[derive(Clone, Copy, Debug)]
+pub struct Tick {
+    pub set: u32,
+    pub ports: [f64; MOST_PORTS],
+    pub frequency: f64,
+    pub sines: [f64; MOST],
+}

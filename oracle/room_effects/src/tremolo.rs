@@ -42,9 +42,9 @@ pub fn silent(state: &State, out: &mut u32) -> u32 {
 }
 
 #[inline(always)]
-pub fn tick(state: &mut State, t: &Tick<1>, out: &mut f64) -> u32 {
-    let [audio, depth, shape] = t.ports;
-    let [sine] = t.sines;
+pub fn tick(state: &mut State, t: &Tick, out: &mut f64) -> u32 {
+    let [audio, depth, shape, _] = t.ports;
+    let [sine, ..] = t.sines;
     unsafe {
         room_raw_tremolo_tick(
             &mut state.lfo_phase,

@@ -1,6 +1,6 @@
 //! The vibrato.
 
-use crate::{Lined, State, Tick};
+use crate::{Lined, State, Tick, MOST};
 
 extern "C" {
     fn room_raw_vibrato_tick(
@@ -29,15 +29,14 @@ extern "C" {
 
 lined! {
     Vibrato,
-    1,
     room_raw_vibrato_start,
     room_raw_vibrato_retune,
     room_raw_vibrato_reset,
 
     #[inline(always)]
-    fn tick(state: &mut State<1>, memory: &mut [f64], t: &Tick<1>, out: &mut [f64; 1]) -> u32 {
-        let [audio, depth, mix] = t.ports;
-        let [sine] = t.sines;
+    fn tick(state: &mut State, memory: &mut [f64], t: &Tick, out: &mut [f64; MOST]) -> u32 {
+        let [audio, depth, mix, _] = t.ports;
+        let [sine, ..] = t.sines;
         unsafe {
             room_raw_vibrato_tick(
                 &mut state.write_pos,
@@ -56,7 +55,7 @@ lined! {
         }
     }
 
-    fn silent(state: &State<1>, memory: &[f64], out: &mut u32) -> u32 {
+    fn silent(state: &State, memory: &[f64], out: &mut u32) -> u32 {
         unsafe {
             room_raw_vibrato_silent(
                 state.write_pos,

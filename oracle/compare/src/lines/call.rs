@@ -2,21 +2,20 @@
 
 use super::{junk_state, length, Effect};
 use crate::bits::shown;
-use crate::{table, tick};
+use crate::table;
 use room_effects::{State, Tick};
-use std::fmt;
 
-pub struct Call<const N: usize> {
+pub struct Call {
     /// What the call is handed: the unit's own, another one that fits, or one that must be refused. For a start of no account.
-    pub state: State<N>,
+    pub state: State,
     /// What the host writes to a place of the unit's memory before the call: a line may hold any float.
     pub planted: Option<(usize, f64)>,
     /// How many places it is lent.
     pub lent: usize,
-    pub what: What<N>,
+    pub what: What,
 }
 
-pub enum What<const N: usize> {
+pub enum What {
     /// In memory of its own, which holds junk by the seed.
     Start {
         rate: f64,
@@ -26,7 +25,7 @@ pub enum What<const N: usize> {
     Reset,
     /// Of the unit's memory or of one that hardly sounds.
     Silent(Option<Quiet>),
-    Tick(Tick<N>),
+    Tick(Tick),
 }
 
 /// A memory of +0 and −0 by the seed, but for one place.
@@ -36,7 +35,7 @@ pub struct Quiet {
     pub sound: f64,
 }
 
-impl<const N: usize> Call<N> {
+impl Call {
     /// A start in a memory of its own, of `lent` places.
     pub fn start_in(lent: usize, rate: f64, seed: u64) -> Self {
         Self {
@@ -48,12 +47,12 @@ impl<const N: usize> Call<N> {
     }
 
     /// Document 01's order: start 1, 3; retune 4, 1, 3; reset and silent 4, 3; tick 4, 3, 5, 6.
-    pub fn number<E: Effect<N>>(&self) -> u32 {
-        let state = (table::STATE, misfits::<E, N>(&self.state));
+    pub fn number<E: Effect>(&self) -> u32 {
+        let state = (table::STATE, misfits::<E>(&self.state));
         let sample_rate = |rate: f64| (table::SAMPLE_RATE, table::sample_rate(rate));
         let memory = |rate: f64| {
-            let length = length::<E, N>(rate);
-            let short = table::memory(self.lent as u64, N as u64, length);
+            let length = length::<E>(rate);
+            let short = table::memory(self.lent as u64, E::LINES as u64, length);
             (table::MEMORY, short)
         };
         let memory_now = memory(self.state.sample_rate);
@@ -62,49 +61,46 @@ impl<const N: usize> Call<N> {
             What::Retune(rate) => table::first(&[state, sample_rate(*rate), memory(*rate)]),
             What::Reset | What::Silent(_) => table::first(&[state, memory_now]),
             What::Tick(t) => {
-                let [control, curve] = tick::causes(t);
+                let [control, curve] = E::FORM.causes(t);
                 table::first(&[state, memory_now, control, curve])
             }
         }
     }
-}
 
-fn misfits<E: Effect<N>, const N: usize>(state: &State<N>) -> bool {
-    table::sample_rate(state.sample_rate)
-        || table::position(state.write_pos, length::<E, N>(state.sample_rate))
-        || state.phases.into_iter().any(table::phase)
-}
-
-impl<const N: usize> fmt::Display for Call<N> {
-    fn fmt(&self, f: &mut fmt::Formatter) -> fmt::Result {
-        match &self.what {
+    pub fn shown<E: Effect>(&self) -> String {
+        let mut lines = match &self.what {
             What::Start { rate, seed } => {
-                write!(f, "start, junk {seed}:\n  {}", shown(&[("rate", *rate)]))?
+                format!("start, junk {seed}:\n  {}", shown(&[("rate", *rate)]))
             }
-            What::Retune(rate) => write!(f, "retune:\n  {}", shown(&[("new rate", *rate)]))?,
-            What::Reset => write!(f, "reset:")?,
-            What::Silent(None) => write!(f, "silent:")?,
-            What::Silent(Some(Quiet { seed, place, sound })) => write!(
-                f,
+            What::Retune(rate) => format!("retune:\n  {}", shown(&[("new rate", *rate)])),
+            What::Reset => "reset:".into(),
+            What::Silent(None) => "silent:".into(),
+            What::Silent(Some(Quiet { seed, place, sound })) => format!(
                 "silent, zeros {seed}, place {place}:\n  {}",
                 shown(&[("sound", *sound)])
-            )?,
-            What::Tick(t) => write!(f, "tick:\n  {}", tick::listed(t))?,
-        }
+            ),
+            What::Tick(t) => format!("tick:\n  {}", E::FORM.listed(t)),
+        };
         if let Some((place, value)) = self.planted {
-            write!(f, "\n  place {place} {}", shown(&[("planted", value)]))?;
+            lines += &format!("\n  place {place} {}", shown(&[("planted", value)]));
         }
         let State {
             write_pos,
             phases,
             sample_rate,
         } = self.state;
-        let phases = shown(&phases.map(|phase| ("phase", phase)));
+        let phases = shown(&phases.map(|phase| ("phase", phase))[..E::STEPS.len()]);
         let rate = shown(&[("rate", sample_rate)]);
         let lent = self.lent;
-        write!(
-            f,
-            "\n  position {write_pos}\n  {phases}\n  {rate}\n  {lent} places"
-        )
+        lines + &format!("\n  position {write_pos}\n  {phases}\n  {rate}\n  {lent} places")
     }
+}
+
+fn misfits<E: Effect>(state: &State) -> bool {
+    table::sample_rate(state.sample_rate)
+        || table::position(state.write_pos, length::<E>(state.sample_rate))
+        || state.phases[..E::STEPS.len()]
+            .iter()
+            .copied()
+            .any(table::phase)
 }

@@ -4,17 +4,15 @@ use super::call::{Call, Quiet, What};
 use super::{length, needed, Effect, Lines};
 use crate::random::Random;
 use crate::table;
-use crate::tick;
 use room_effects::{State, Tick};
-use std::array::from_fn;
 
-impl<E: Effect<N>, const N: usize> Lines<E, N> {
-    pub fn drawn(&self, random: &mut Random) -> Call<N> {
+impl<E: Effect> Lines<E> {
+    pub fn drawn(&self, random: &mut Random) -> Call {
         // Clearings are rarer than a line is long, so that most reads find what ticks have stored.
         if random.one_in(2 * self.length()) {
             return self.clearing(random);
         }
-        let t = tick::draw(random, Random::mostly_ordinary_audio);
+        let t = tick::<E>(random);
         let state = match random.below(1024) {
             0..=31 => return self.wrong(random),
             32..=35 => return self.lent_enough(self.state, What::Silent(None), random),
@@ -26,21 +24,36 @@ impl<E: Effect<N>, const N: usize> Lines<E, N> {
         };
         let call = self.lent_enough(state, What::Tick(t), random);
         Call {
-            planted: random.one_in(64).then(|| self.planted(random)),
+            planted: self.planted(random),
             ..call
         }
     }
 
-    fn planted(&self, random: &mut Random) -> (usize, f64) {
-        let place = random.below(self.memory.count() as u64);
-        (place as usize, random.audio())
+    /// Any float now and then. Where the line feeds back, mostly an ordinary one over the other kind that the last tick stored.
+    fn planted(&self, random: &mut Random) -> Option<(usize, f64)> {
+        if let Some(place) = self.last_wild().filter(|_| !random.one_in(3)) {
+            return Some((place, random.ordinary_audio()));
+        }
+        random.one_in(64).then(|| {
+            let place = random.below(self.memory.count() as u64);
+            (place as usize, random.audio())
+        })
+    }
+
+    /// Where the line feeds back: a place that the last tick wrote, if what it holds is not ordinary.
+    fn last_wild(&self) -> Option<usize> {
+        let length = self.length() as usize;
+        let last = (self.state.write_pos as usize + length - 1) % length;
+        let mut places = (0..E::LINES).map(|line| line * length + last);
+        let memory = self.memory.shown(self.memory.count());
+        places.find(|place| E::FEEDS_BACK && wild(memory[*place]))
     }
 
     /// A call that is lent all the unit's memory or, now and then, no more of it than it needs.
-    fn lent_enough(&self, state: State<N>, what: What<N>, random: &mut Random) -> Call<N> {
+    fn lent_enough(&self, state: State, what: What, random: &mut Random) -> Call {
         let mut lent = self.memory.count();
         if random.one_in(16) {
-            lent = lent.min(needed::<E, N>(rate_in_force(&state, &what)));
+            lent = lent.min(needed::<E>(rate_in_force(&state, &what)));
         }
         Call {
             state,
@@ -51,14 +64,14 @@ impl<E: Effect<N>, const N: usize> Lines<E, N> {
     }
 
     /// A start, a retune or a reset, accepted unless a retune wants more memory than there is.
-    fn clearing(&self, random: &mut Random) -> Call<N> {
+    fn clearing(&self, random: &mut Random) -> Call {
         let state = match random.below(4) {
             0 => self.at_any_state(random),
             1 => self.at_another_rate(random),
             _ => self.state,
         };
         let what = match random.below(4) {
-            0 => return start::<E, N>(random.sample_rate(), random),
+            0 => return start::<E>(random.sample_rate(), random),
             1..=2 => What::Retune(self.new_rate(random)),
             _ => What::Reset,
         };
@@ -72,7 +85,7 @@ impl<E: Effect<N>, const N: usize> Lines<E, N> {
             1 => random.sample_rate(),
             2 => self.rate_that_fits(random),
             _ => {
-                let length = (self.memory.count() / N) as u64 + random.below(2);
+                let length = (self.memory.count() / E::LINES) as u64 + random.below(2);
                 let rate = (length - 10) as f64 * 1_000.0 / E::N_OF_LENGTH;
                 random.of(&[rate, rate.next_up(), rate.next_down()])
             }
@@ -81,7 +94,7 @@ impl<E: Effect<N>, const N: usize> Lines<E, N> {
 
     fn rate_that_fits(&self, random: &mut Random) -> f64 {
         let rate = random.sample_rate();
-        if needed::<E, N>(rate) <= self.memory.count() {
+        if needed::<E>(rate) <= self.memory.count() {
             rate
         } else {
             random.within(8_000.0, self.state.sample_rate)
@@ -89,18 +102,18 @@ impl<E: Effect<N>, const N: usize> Lines<E, N> {
     }
 
     /// Some of the arguments wrong, several at once too, so that the order of the causes shows; now and then none.
-    fn wrong(&self, random: &mut Random) -> Call<N> {
+    fn wrong(&self, random: &mut Random) -> Call {
         let rate = if random.one_in(2) {
             random.wrong_sample_rate()
         } else {
             self.new_rate(random)
         };
         let what = match random.below(8) {
-            0 => return wrong_start::<E, N>(rate, random),
+            0 => return wrong_start::<E>(rate, random),
             1 => What::Retune(rate),
             2 => What::Reset,
             3 => What::Silent(None),
-            _ => What::Tick(tick::draw_wrong(random)),
+            _ => What::Tick(E::FORM.draw_wrong(random)),
         };
         let state = if random.one_in(3) {
             self.wrong_state(random)
@@ -109,7 +122,7 @@ impl<E: Effect<N>, const N: usize> Lines<E, N> {
         };
         let mut lent = self.memory.count();
         if random.one_in(3) {
-            lent = lent.min(short(needed::<E, N>(rate_in_force(&state, &what)), random));
+            lent = lent.min(short(needed::<E>(rate_in_force(&state, &what)), random));
         }
         Call {
             state,
@@ -120,14 +133,14 @@ impl<E: Effect<N>, const N: usize> Lines<E, N> {
     }
 
     /// A state that the test refuses, by its position, a phase, its rate or several of them.
-    fn wrong_state(&self, random: &mut Random) -> State<N> {
+    fn wrong_state(&self, random: &mut Random) -> State {
         let mut state = self.state;
         let wrong = 1 + random.below(7);
         if wrong & 1 != 0 {
             state.write_pos = random.wrong_position(self.length());
         }
         if wrong & 2 != 0 {
-            state.phases[random.below(N as u64) as usize] = random.wrong_phase();
+            state.phases[random.below(E::STEPS.len() as u64) as usize] = random.wrong_phase();
         }
         if wrong & 4 != 0 {
             state.sample_rate = random.wrong_sample_rate();
@@ -136,33 +149,37 @@ impl<E: Effect<N>, const N: usize> Lines<E, N> {
     }
 
     /// Another position and other phases.
-    fn at_any_state(&self, random: &mut Random) -> State<N> {
+    fn at_any_state(&self, random: &mut Random) -> State {
         let last = self.length() - 1;
         let any = random.below(last + 1);
         State {
             write_pos: random.of(&[0, last, any, any]),
-            phases: from_fn(|_| random.phase()),
-            ..self.state
+            ..self.with_phases(|_| random.phase())
         }
+    }
+
+    fn with_phases(&self, mut phase: impl FnMut(f64) -> f64) -> State {
+        let mut state = self.state;
+        for (own, step) in state.phases.iter_mut().zip(E::STEPS) {
+            *own = phase(*step);
+        }
+        state
     }
 
     /// Phases that the tick takes to 1, or just short of it or beyond.
-    fn near_wrap(&self, t: &Tick<N>, random: &mut Random) -> State<N> {
-        let step = |i: usize| t.frequency * E::STEPS[i] / self.state.sample_rate;
-        State {
-            phases: from_fn(|i| random.phase_near_wrap(step(i))),
-            ..self.state
-        }
+    fn near_wrap(&self, t: &Tick, random: &mut Random) -> State {
+        let rate = self.state.sample_rate;
+        self.with_phases(|step| random.phase_near_wrap(t.frequency * step / rate))
     }
 
     /// The state of a unit with shorter lines, or with longer ones than the memory has, or now and then than the position fits.
-    fn at_another_rate(&self, random: &mut Random) -> State<N> {
+    fn at_another_rate(&self, random: &mut Random) -> State {
         let sample_rate = if random.one_in(4) {
             random.sample_rate()
         } else {
             self.rate_that_fits(random)
         };
-        let length = length::<E, N>(sample_rate);
+        let length = length::<E>(sample_rate);
         State {
             write_pos: random.below(length + length / 16),
             sample_rate,
@@ -171,9 +188,9 @@ impl<E: Effect<N>, const N: usize> Lines<E, N> {
     }
 
     /// Whether a memory is silent that holds zeros but for one place: in use, spare, or not even lent.
-    fn question_of_quiet(&self, random: &mut Random) -> Call<N> {
+    fn question_of_quiet(&self, random: &mut Random) -> Call {
         let lent = self.memory.count();
-        let in_use = needed::<E, N>(self.state.sample_rate);
+        let in_use = needed::<E>(self.state.sample_rate);
         let any = random.below(lent as u64 + 1) as usize;
         let quiet = Quiet {
             seed: random.bits(),
@@ -189,8 +206,24 @@ impl<E: Effect<N>, const N: usize> Lines<E, N> {
     }
 }
 
+/// Not what ordinary audio can come to.
+fn wild(x: f64) -> bool {
+    !(x.abs() < 1_000.0)
+}
+
+/// A tick that is accepted, its audio mostly ordinary. What is not finite doesn't get into a line that feeds back, what is
+/// merely huge does.
+pub fn tick<E: Effect>(random: &mut Random) -> Tick {
+    let mut t = E::FORM.draw(random, Random::mostly_ordinary_audio);
+    let audio = &mut t.ports[0];
+    if E::FEEDS_BACK && audio.is_finite() && wild(*audio) && !random.one_in(16) {
+        *audio = random.ordinary_audio();
+    }
+    t
+}
+
 /// The rate that the call's need of memory goes by.
-fn rate_in_force<const N: usize>(state: &State<N>, what: &What<N>) -> f64 {
+fn rate_in_force(state: &State, what: &What) -> f64 {
     match what {
         What::Start { rate, .. } | What::Retune(rate) => *rate,
         _ => state.sample_rate,
@@ -204,24 +237,24 @@ fn short(needed: usize, random: &mut Random) -> usize {
 }
 
 /// A start in as much memory as it needs, in a little more, or in as much as some other rate needs.
-fn start<E: Effect<N>, const N: usize>(rate: f64, random: &mut Random) -> Call<N> {
-    let exact = needed::<E, N>(rate);
+fn start<E: Effect>(rate: f64, random: &mut Random) -> Call {
+    let exact = needed::<E>(rate);
     let spare = match random.below(3) {
         0 => 0,
         1 => random.below(20) as usize,
-        _ => needed::<E, N>(random.sample_rate()).saturating_sub(exact),
+        _ => needed::<E>(random.sample_rate()).saturating_sub(exact),
     };
     Call::start_in(exact + spare, rate, random.bits())
 }
 
 /// A start that may be refused by its rate, by its memory or by both.
-fn wrong_start<E: Effect<N>, const N: usize>(rate: f64, random: &mut Random) -> Call<N> {
+fn wrong_start<E: Effect>(rate: f64, random: &mut Random) -> Call {
     let fits = if table::sample_rate(rate) {
         random.sample_rate()
     } else {
         rate
     };
-    let mut lent = needed::<E, N>(fits);
+    let mut lent = needed::<E>(fits);
     if random.one_in(2) {
         lent = short(lent, random);
     }

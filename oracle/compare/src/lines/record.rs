@@ -1,11 +1,11 @@
 //! Stored answers of the Rust for an effect with lines.
 
-use super::{length, Effect};
+use super::{draw, length, Effect};
 use crate::bits::word;
 use crate::random::Random;
-use crate::{table, tick};
+use crate::table;
 use quiver_oracle::{Effect as _, Lined as _};
-use room_effects::{Tick, PORTS};
+use room_effects::{Tick, MOST};
 
 /// The rate of the start, and the one that a retune goes to in between.
 const LOW: f64 = 8_000.0;
@@ -28,50 +28,55 @@ const CLEARINGS: [(u64, Option<f64>); 4] =
 ///
 /// | word | holds |
 /// |---|---|
-/// | 0 | document 01's number of the effect: 4 vibrato, 2 chorus |
+/// | 0 | document 01's number of the effect |
 /// | 1 | bits of the sample rate to start at, 8,000 |
 /// | 2 | how many places the memory has: no more than the highest of the rates needs |
 ///
-/// Then a list of records, with nothing between or after them. N is 1 for the vibrato, whose records are 10 words long, and 3
-/// for the chorus, whose records are 16:
+/// Then a list of records, with nothing between or after them, all of one length:
 ///
-/// | word | tick | retune | reset |
+/// | words | tick | retune | reset |
 /// |---|---|---|---|
-/// | 0 | 0 | 1 | 2 |
-/// | 1 | mask of the ports that are set: 1 audio, 2 depth, 4 mix | 0 | 0 |
-/// | 2, 3 | bits of audio; of depth | 0 | 0 |
-/// | 4 | bits of mix | bits of the new rate | 0 |
-/// | 5 | bits of the frequency | 0 | 0 |
-/// | 6 on, N of them | bits of the sine, of each sine | 0 | 0 |
-/// | then N | the Rust's answer: bits of the sample, of mono, left and right | 0 | 0 |
-/// | then 1 | the position after the call, a plain number | likewise | likewise |
-/// | then N | bits of the phase, of each phase, after the call | likewise | likewise |
+/// | one | 0 | 1 | 2 |
+/// | one | mask of the ports that are set: 1 the first, 2 the second and so on | 0 | 0 |
+/// | one for each port | bits of its number, audio first | the last: bits of the new rate; the others: 0 | 0 |
+/// | one | bits of the frequency | 0 | 0 |
+/// | one for each sine | its bits | 0 | 0 |
+/// | one for each sample | the Rust's answer: its bits | 0 | 0 |
+/// | one | the position after the call, a plain number | likewise | likewise |
+/// | one for each phase | its bits after the call | likewise | likewise |
 ///
-/// So the vibrato's sine is word 6, its sample 7, its position 8, its phase 9; the chorus's sines are words 6 to 8, its samples
-/// 9 to 11, its position 12, its phases 13 to 15. A port that is unset has any float, which the tick must not read. Every NaN,
-/// going in or coming out, is written as 0x7ff8000000000000.
+/// So the words of a record are:
+///
+/// | effect | ports | frequency | sines | samples | position | phases | in all |
+/// |---|---|---|---|---|---|---|---|
+/// | 4 vibrato | 2 audio, 3 depth, 4 mix | 5 | 6 | 7 | 8 | 9 | 10 |
+/// | 2 chorus | 2 audio, 3 depth, 4 mix | 5 | 6 to 8 | 9 mono, 10 left, 11 right | 12 | 13 to 15 | 16 |
+/// | 3 flanger | 2 audio, 3 depth, 4 feedback, 5 mix | 6 | 7, 8 | 9 mono, 10 left, 11 right | 12 | 13 | 14 |
+///
+/// A port that is unset has any float, which the tick must not read. Every NaN, going in or coming out, is written as
+/// 0x7ff8000000000000.
 ///
 /// The files of the repository are made by `compare EFFECT --record FILE --ticks 1500` with no seed given: 1,500 ticks, two
 /// retunes, from 8,000 to 11,025 and back, and two resets, one at either rate.
-pub fn record<E: Effect<N>, const N: usize>(ticks: u64, seed: u64) -> Result<Vec<u64>, String> {
+pub fn record<E: Effect>(ticks: u64, seed: u64) -> Result<Vec<u64>, String> {
     let mut random = Random::new(seed);
     let mut unit = E::Rust::new(LOW);
-    let places = N as u64 * length::<E, N>(HIGH);
+    let places = E::LINES as u64 * length::<E>(HIGH);
     let mut words = vec![E::KIND, word(LOW), places];
     for at in 0..ticks {
         for (_, rate) in CLEARINGS
             .iter()
             .filter(|(part, _)| part * ticks / 100 == at)
         {
-            words.extend(cleared::<E, N>(&mut unit, *rate));
+            words.extend(cleared::<E>(&mut unit, *rate));
         }
-        let t = tick::draw(&mut random, Random::mostly_ordinary_audio);
-        words.extend(ticked::<E, N>(&mut unit, &t)?);
+        let t = draw::tick::<E>(&mut random);
+        words.extend(ticked::<E>(&mut unit, &t)?);
     }
     Ok(words)
 }
 
-fn cleared<E: Effect<N>, const N: usize>(unit: &mut E::Rust, rate: Option<f64>) -> Vec<u64> {
+fn cleared<E: Effect>(unit: &mut E::Rust, rate: Option<f64>) -> Vec<u64> {
     let (code, rate_word) = match rate {
         Some(rate) => {
             unit.set_sample_rate(rate);
@@ -82,32 +87,31 @@ fn cleared<E: Effect<N>, const N: usize>(unit: &mut E::Rust, rate: Option<f64>) 
             (RESET, 0)
         }
     };
-    let mut words = vec![code, 0, 0, 0, rate_word, 0];
-    words.extend([0; N]);
-    words.extend(left::<E, N>(unit, [0; N]));
+    let mut words = vec![code, 0];
+    words.resize(words.len() + E::FORM.controls.len(), 0);
+    words.extend([rate_word, 0]);
+    words.resize(words.len() + E::FORM.sines.len(), 0);
+    words.extend(left::<E>(unit, [0.0; MOST]));
     words
 }
 
-fn ticked<E: Effect<N>, const N: usize>(
-    unit: &mut E::Rust,
-    t: &Tick<N>,
-) -> Result<Vec<u64>, String> {
-    if table::first(&tick::causes(t)) != 0 {
+fn ticked<E: Effect>(unit: &mut E::Rust, t: &Tick) -> Result<Vec<u64>, String> {
+    if table::first(&E::FORM.causes(t)) != 0 {
         return Err("a tick that is refused is not to be recorded".into());
     }
-    let out = tick::in_rust(unit, t)?.map(word);
-    let mut words = vec![TICK, u64::from(t.set & PORTS)];
-    words.extend(t.ports.map(word));
+    let out = E::FORM.in_rust(unit, t)?;
+    let mut words = vec![TICK, u64::from(t.set & E::FORM.all_set())];
+    words.extend(E::FORM.ports_of(t).iter().copied().map(word));
     words.push(word(t.frequency));
-    words.extend(t.sines.map(word));
-    words.extend(left::<E, N>(unit, out));
+    words.extend(E::FORM.sines_of(t).iter().copied().map(word));
+    words.extend(left::<E>(unit, out));
     Ok(words)
 }
 
 /// The words of what a call answers and leaves.
-fn left<E: Effect<N>, const N: usize>(unit: &E::Rust, out: [u64; N]) -> Vec<u64> {
-    let mut words = out.to_vec();
+fn left<E: Effect>(unit: &E::Rust, out: [f64; MOST]) -> Vec<u64> {
+    let mut words: Vec<u64> = out[..E::SAMPLES].iter().copied().map(word).collect();
     words.push(unit.write_pos() as u64);
-    words.extend(unit.phases().map(word));
+    words.extend(unit.phases().iter().copied().map(word));
     words
 }

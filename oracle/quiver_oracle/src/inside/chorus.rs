@@ -1,24 +1,26 @@
 //! Inside the Rust's `Chorus`: its phases, its position, its lines, its tick with the frequency planted.
 
 use super::super::Chorus;
-use crate::effect::{effect, Lined};
+use crate::effect::{effect, ticks_by_frames, Lined};
 use crate::port::GraphModule;
 
 pub struct Unit(Chorus);
 
 effect! {
-    Unit(Chorus), 3,
+    Unit(Chorus),
 
-    fn phases(&self) -> [f64; 3] {
-        self.0.lfo_phases
+    fn phases(&self) -> &[f64] {
+        &self.0.lfo_phases
     }
 
-    fn set_phases(&mut self, lfo_phases: [f64; 3]) {
-        self.0.lfo_phases = lfo_phases;
+    fn phases_mut(&mut self) -> &mut [f64] {
+        &mut self.0.lfo_phases
     }
 }
 
-impl Lined<3> for Unit {
+ticks_by_frames!(Unit, 3);
+
+impl Lined for Unit {
     fn set_sample_rate(&mut self, sample_rate: f64) {
         self.0.set_sample_rate(sample_rate);
     }
@@ -31,11 +33,11 @@ impl Lined<3> for Unit {
         self.0.write_pos = write_pos;
     }
 
-    fn lines(&self) -> [&[f64]; 3] {
-        self.0.delay_buffers.each_ref().map(Vec::as_slice)
+    fn lines(&self) -> &[Vec<f64>] {
+        &self.0.delay_buffers
     }
 
-    fn lines_mut(&mut self) -> [&mut [f64]; 3] {
-        self.0.delay_buffers.each_mut().map(Vec::as_mut_slice)
+    fn lines_mut(&mut self) -> &mut [Vec<f64>] {
+        &mut self.0.delay_buffers
     }
 }

@@ -1,5 +1,6 @@
 //! Inside the Rust's timefx.rs: one file for each effect.
 
 pub mod chorus;
+pub mod flanger;
 pub mod tremolo;
 pub mod vibrato;

@@ -31,14 +31,14 @@ pub fn hand_sines(sines: &[f64]) {
 }
 
 /// The angles of the sines that the tick took; panics if it left one.
-pub fn asked_angles<const N: usize>() -> [f64; N] {
+pub fn asked_angles(count: usize) -> impl Iterator<Item = f64> {
     let script = SCRIPT.get();
     assert_eq!(
         (script.handed, script.taken),
-        (N, N),
+        (count, count),
         "libm: sines handed in and taken"
     );
-    core::array::from_fn(|i| script.asked[i])
+    script.asked.into_iter().take(count)
 }
 
 pub(crate) fn next_sine(angle: f64) -> f64 {
