@@ -1,6 +1,6 @@
 // What goes into a call and what comes out of it: ports, refusals, answers.
 ghost use mathlib.Core.Path.{_≡_};
-ghost use Rattle.port.specs.Port.{isNanSet};
+ghost use Rattle.port.specs.Port.{portIf, isNanSet};
 ghost use Rattle.port.specs.Answer.{number, outcomeReply, answerReply, silenceReply, replyNumber, replySample, replySilent};
 
 // An input port: it carries a number or is unset.
@@ -38,6 +38,13 @@ pub enum Silence {
     Silent,
     Sounding,
     Refused(Refusal),
+}
+
+// A port from a number and whether it is set.
+pub fn port_if(on: bool, x: f64) -> Port
+    ensures { λ r. ⌜ r ≡ portIf on x ⌝ }
+{
+    if on { Port::Set(x) } else { Port::Unset }
 }
 
 impl Port {

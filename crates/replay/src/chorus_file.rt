@@ -4,10 +4,10 @@ ghost use Prim.Native.Nat.{_≤_};
 use crate::words::Tally;
 use crate::words::counted;
 use crate::words::float;
-use crate::words::port_if;
 use crate::words::same;
 use crate::words::word;
 use chorus::Chorus;
+use port::port_if;
 
 const RECORD: usize = 128;
 

@@ -4,9 +4,9 @@ ghost use Prim.Native.Nat.{_≤_};
 use crate::words::Tally;
 use crate::words::counted;
 use crate::words::float;
-use crate::words::port_if;
 use crate::words::same;
 use crate::words::word;
+use port::port_if;
 use vibrato::Vibrato;
 
 const RECORD: usize = 80;

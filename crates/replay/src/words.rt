@@ -1,7 +1,6 @@
 // Words of a stored file, as integers and as floats, and when two floats are equal.
 ghost use Prim.Native.Nat.{_+_, _*_, _≤_, _<_};
 ghost use lib.ListN.{length};
-use port::Port;
 
 fn wide(x: u8) -> u64
     ensures { λ r. ⌜ r < 256 ⌝ }
@@ -49,10 +48,6 @@ pub fn same(x: f64, y: f64) -> bool {
         }
     }
     x == y
-}
-
-pub fn port_if(on: bool, x: f64) -> Port {
-    if on { Port::Set(x) } else { Port::Unset }
 }
 
 // How many calls were replayed, and how many of them differ.

@@ -9,7 +9,7 @@ ghost use lib.Ieee.{nan};
 use chorus::Chorus;
 use port::Answer;
 ghost use Rattle.room_effects.specs.Ports.{portAt};
-use crate::ports::port_if;
+use port::port_if;
 
 // A chorus's state from lent numbers, and back into them.
 fn chorus_of(pos: u64, phases: &[f64; 3], rate: f64) -> Chorus

@@ -3,8 +3,8 @@ ghost use Rattle.effect.specs.Run.{tick, retune, reset};
 ghost use Rattle.flanger.specs.Flanger as flan;
 ghost use Rattle.room_effects.specs.LentFlanger.{flangerUnit, FlangerStarts, FlangerDoes, FlangerTicks, FlangerAnswers};
 ghost use Rattle.room_effects.specs.Ports.{portAt};
-use crate::ports::port_if;
 use flanger::Flanger;
+use port::port_if;
 
 // Start of a flanger. A refused one writes the state of zeros too, and leaves the memory as it was.
 #[no_mangle]

@@ -2,6 +2,5 @@
 // are set beside plain numbers, which is what passes fastest. A state is written only where the call is accepted. One file for each effect.
 mod chorus_calls;
 mod flanger_calls;
-mod ports;
 mod tremolo_calls;
 mod vibrato_calls;

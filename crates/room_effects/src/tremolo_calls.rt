@@ -3,7 +3,7 @@ ghost use Rattle.effect.specs.Run.{tick, reset};
 ghost use Rattle.tremolo.specs.Tremolo.{ticked};
 ghost use Rattle.room_effects.specs.Ports.{portAt};
 ghost use Rattle.room_effects.specs.LentTremolo.{TremoloStarts, TremoloDoes, TremoloTicks, TremoloAnswers};
-use crate::ports::port_if;
+use port::port_if;
 use tremolo::Tremolo;
 
 // Start of a tremolo. A refused one writes the state of zeros too.

@@ -5,7 +5,7 @@ ghost use Rattle.room_effects.specs.LentVibrato.{vibratoUnit, VibratoSta
 ghost use mathlib.Core.Path.{_≡_};
 use vibrato::Vibrato;
 ghost use Rattle.room_effects.specs.Ports.{portAt};
-use crate::ports::port_if;
+use port::port_if;
 
 // Start of a vibrato. A refused one writes the state of zeros too, and leaves the memory as it was.
 #[no_mangle]

@@ -1,6 +1,6 @@
--- `room_effects::port_if` is `portIf`, case by case. Assumes nothing.
-use Rattle.room_effects.proofs.ports.port_if.Statement.{statement}
-use Rattle.room_effects.proofs.ports.port_if.Tie as tie
+-- `port::port_if` is `portIf`, case by case. Assumes nothing.
+use Rattle.port.proofs.port_if.Statement.{statement}
+use Rattle.port.proofs.port_if.Tie as tie
 
 returns : tie.Need-returns
 returns c = rw (c .if1 .taken)
