@@ -73,11 +73,11 @@ unfolding next
 laws =
     record {
       blank-refused = blank-refused;
-      settings-fit = λ s e. rw (fits-parts s e .rate);
       fresh-settings = λ k. refl;
       retuned-settings = λ k s. refl;
       next-settings = λ t s m. refl;
-      fresh-fits = λ k e. cleared-fits startPhases k (none-1 (rateFits k) e) start-phases;
+      start-fits = λ k e. cleared-fits startPhases k (none-1 (rateFits k) e) start-phases;
+      reset-fits = λ s f. cleared-fits startPhases (s .«sample_rate») (fits-parts s f .rate) start-phases;
       retuned-fits = λ k s e f. let g = fits-parts s f in
           cleared-fits (phasesOf s) k (none-1 (rateFits k) e) (record { phase0 = g .phase0; phase1 = g .phase1; phase2 = g .phase2 });
       next-fits = λ t s m e r n. next-fits t s e n;

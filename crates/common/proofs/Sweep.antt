@@ -36,8 +36,8 @@ pub size-none : {n : ℕ} (b : Bool) (L : ℕ) → n ≡ cond b L 0 → (b ≡ t
 size-none true L e some z = absurd (omega (arith, some refl))
 size-none false L e some z = refl
 
--- no position is below 0, so that the length alone tests the rate too
-pub size-tests : {n : ℕ} (b : Bool) (L w : ℕ) (p : Bool) → n ≡ cond b L 0 → b && (ltb w L && p) ≡ ltb w n && p
+-- no position is below 0, so that the length alone tests the rate too; p is what else is tested, by the length
+pub size-tests : {n : ℕ} (b : Bool) (L w : ℕ) (p : ℕ → Bool) → n ≡ cond b L 0 → b && (ltb w L && p L) ≡ ltb w n && p n
 size-tests true L w p e = rw e
 size-tests false L w p e = rw (e, le-ltb w 0 zero-le)
 

@@ -15,15 +15,15 @@ Below n (w ∷ ws) = (w .place < n) × Below n ws
 pub record Laws (E : Effect) : Type 0 where
   -- the blank state is refused
   pub blank-refused : E .fits (E .blank) ≡ false
-  -- the settings of a state that passes the state test are not refused
-  pub settings-fit : (s : E .State) → E .fits s ≡ true → E .settingsNumber (E .settings s) ≡ 0
   -- a clearing leaves its settings in force, and a tick those that are
   pub fresh-settings : (k : E .Settings) → E .settings (E .fresh k) ≡ k
   pub retuned-settings : (k : E .Settings) (s : E .State) → E .settings (E .retuned k s) ≡ k
   pub next-settings : (t : E .Tick) (s : E .State) (m : List Float) → E .settings (E .next t s m) ≡ E .settings s
   -- every state that an accepted call returns passes the state test
-  pub fresh-fits : (k : E .Settings) → E .settingsNumber k ≡ 0 → E .fits (E .fresh k) ≡ true
-  pub retuned-fits : (k : E .Settings) (s : E .State) → E .settingsNumber k ≡ 0 → E .fits s ≡ true → E .fits (E .retuned k s) ≡ true
+  pub start-fits : (x : E .Start) → E .settingsNumber (E .startSettings x) ≡ 0 → E .fits (E .fresh (E .startSettings x)) ≡ true
+  pub reset-fits : (s : E .State) → E .fits s ≡ true → E .fits (E .fresh (E .settings s)) ≡ true
+  pub retuned-fits : (r : E .Retune) (s : E .State) → E .settingsNumber (E .retuneSettings r (E .settings s)) ≡ 0 → E .fits s ≡ true
+      → E .fits (E .retuned (E .retuneSettings r (E .settings s)) s) ≡ true
   pub next-fits : (t : E .Tick) (s : E .State) (m : List Float) → E .fits s ≡ true → E .places (E .settings s) ≤ length m
       → E .tickNumber t (E .settings s) ≡ 0
       → E .fits (E .next t s m) ≡ true

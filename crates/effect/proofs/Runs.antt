@@ -54,8 +54,8 @@ module _ (E : Effect) (laws : Laws E) where
       laws .next-fits t (h .state) (h .memory) (a .fits) (v .enough) (v .number)
   moved-fits (retune r) h a =
       let k = E .retuneSettings r (E .settings (h .state)) in
-      laws .retuned-fits k (h .state) (settings-accepted E (length (h .memory)) k (a .number) .number) (a .fits)
-  moved-fits reset h a = laws .fresh-fits (E .settings (h .state)) (laws .settings-fit (h .state) (a .fits))
+      laws .retuned-fits r (h .state) (settings-accepted E (length (h .memory)) k (a .number) .number) (a .fits)
+  moved-fits reset h a = laws .reset-fits (h .state) (a .fits)
   moved-fits ask h a = a .fits
 
   -- an accepted call leaves settings that the memory has the places for
@@ -74,7 +74,7 @@ module _ (E : Effect) (laws : Laws E) where
       let v = settings-accepted E (length (x .memory)) k (x .accepted) in
       record {
         size = rw (x .accepted) (length-replicate _ _);
-        fits = rw (x .accepted) (laws .fresh-fits k (v .number));
+        fits = rw (x .accepted) (laws .start-fits (x .handed) (v .number));
         enough = rw (x .accepted, laws .fresh-settings k) (v .enough);
       }
 

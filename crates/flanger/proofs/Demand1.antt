@@ -51,11 +51,11 @@ unfolding next
 laws =
     record {
       blank-refused = blank-refused;
-      settings-fit = λ s e. rw (fits-parts s e .rate);
       fresh-settings = λ k. refl;
       retuned-settings = λ k s. refl;
       next-settings = λ t s m. refl;
-      fresh-fits = λ k e. cleared-fits plusZero k (none-1 (rateFits k) e) zero-phase;
+      start-fits = λ k e. cleared-fits plusZero k (none-1 (rateFits k) e) zero-phase;
+      reset-fits = λ s f. cleared-fits plusZero (s .«sample_rate») (fits-parts s f .rate) zero-phase;
       retuned-fits = λ k s e f. cleared-fits (s .«lfo_phase») k (none-1 (rateFits k) e) (fits-parts s f .phase);
       next-fits = λ t s m e r n. next-fits t s e n;
       inside = λ t s m e. inside t s m e;

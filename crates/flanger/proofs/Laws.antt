@@ -48,7 +48,7 @@ module _ (rate : Float) (h : rateFits rate ≡ true) where
 -- by the length n of a line, as `line_length` answers it
 pub fits-by : (s : Flanger) {n : ℕ} → n ≡ cond (rateFits (s .«sample_rate»)) (lineLength (s .«sample_rate»)) 0 → fits s ≡ ltb (s .«write_pos») n && phaseFits (s .«lfo_phase»)
 unfolding fits
-fits-by s e = size-tests (rateFits (s .«sample_rate»)) (lineLength (s .«sample_rate»)) (s .«write_pos») (phaseFits (s .«lfo_phase»)) e
+fits-by s e = size-tests (rateFits (s .«sample_rate»)) (lineLength (s .«sample_rate»)) (s .«write_pos») (λ n. phaseFits (s .«lfo_phase»)) e
 
 pub record Fits (s : Flanger) : Type 0 where
   pub rate : rateFits (s .«sample_rate») ≡ true

@@ -1,4 +1,4 @@
--- The float laws. A client needs Interval, Ranges, Clamped, Phase, Glide, Parts and Lengths; what is below them counts values in units of the smallest one. Assumes nothing.
+-- The float laws. A client needs Interval, Ranges, Clamped, Scaled, Phase, Glide, Parts and Lengths; what is below them counts values in units of the smallest one. Assumes nothing.
 pub mod Units
 pub mod Round
 pub mod Keys
@@ -8,6 +8,7 @@ pub mod Same
 pub mod Interval
 pub mod Ranges
 pub mod Clamped
+pub mod Scaled
 pub mod Phase
 pub mod Wholes
 pub mod Glide

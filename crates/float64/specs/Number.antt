@@ -3,7 +3,8 @@
 use Prim.Native.Nat.{ℕ, _+_, _-_, _*_, _/_, _^_, min}
 use mathlib.Core.Bool.{Bool, false, not, cond, _&&_}
 use lib.IntN.{pos}
-use lib.Ieee.{Float, nan, inf, fin, binary64, round, ofInt, neg, sub, lt, le, toUnsigned, up, down, fits, isNan}
+use lib.Dec.{eqb}
+use lib.Ieee.{Float, nan, inf, fin, binary64, round, ofInt, neg, sub, lt, le, toUnsigned, up, down, fits, isNan, toBits}
 
 -- ---- values
 
@@ -34,6 +35,10 @@ inRange x lo hi = fits binary64 x && (le lo x && le x hi)
 -- 0 ≤ x < 1
 unfoldable pub inUnit : Float → Bool
 inUnit x = fits binary64 x && (le plusZero x && lt x (whole 1))
+
+-- +0, sign included: all its bits are 0
+unfoldable pub isPlusZero : Float → Bool
+isPlusZero x = fits binary64 x && eqb (toBits binary64 x) 0
 
 -- a sample rate, cause 1
 abbrev pub rateFits : Float → Bool

@@ -3,13 +3,32 @@ ghost use mathlib.Core.Path.{_≡_};
 ghost use mathlib.Core.Bool.{not};
 ghost use lib.Dec.{T};
 ghost use lib.Ieee as Ieee;
-ghost use Rattle.float64.specs.Number.{whole, isNumber, inRange, inUnit, rateFits, coefficientFits, phaseFits, frequencyFits, sineFits, clampOf, atLeast, atMost, absolute, wholePart, roundHalfAway};
+ghost use lib.Ieee.Scale.{finite};
+ghost use Rattle.float64.specs.Number.{whole, isNumber, inRange, inUnit, isPlusZero, rateFits, coefficientFits, phaseFits, frequencyFits, sineFits, clampOf, atLeast, atMost, absolute, wholePart, roundHalfAway};
 
 // Whether x is a NaN.
 pub fn is_nan(x: f64) -> bool
     ensures { λ r. ⌜ r ≡ not (isNumber x) ⌝ }
 {
     x != x
+}
+
+// Whether x is neither a NaN nor an infinity.
+pub fn is_finite(x: f64) -> bool
+    ensures { λ r. ⌜ r ≡ finite x ⌝ }
+{
+    let infinity = 1.0 / 0.0;
+    x < infinity && x > -infinity
+}
+
+// Whether x is +0: no for -0. Only a NaN's bits could not be asked for, and no NaN is equal to 0.
+pub fn is_plus_zero(x: f64) -> bool
+    ensures { λ r. ⌜ r ≡ isPlusZero x ⌝ }
+{
+    if x == 0.0 {
+        return f64::to_bits(x) == 0;
+    }
+    false
 }
 
 // Whether lo <= x <= hi: no for a NaN.

@@ -44,12 +44,12 @@ unfolding next
 laws =
     record {
       blank-refused = blank-refused;
-      settings-fit = λ s e. rw (parts s e .0);
       fresh-settings = λ k. refl;
       retuned-settings = λ k s. refl;
       next-settings = λ t s m. refl;
-      fresh-fits = λ k e. fresh-fits k (none-1 (rateFits k) e);
-      retuned-fits = λ k s e f. fresh-fits k (none-1 (rateFits k) e);
+      start-fits = λ k e. fresh-fits k (none-1 (rateFits k) e);
+      reset-fits = λ s f. fresh-fits (s .«sample_rate») (parts s f .0);
+      retuned-fits = λ r s e f. absurd r;
       next-fits = λ t s m e r n. next-fits t s e n;
       inside = λ t s m e. tt;
     }

@@ -43,11 +43,11 @@ unfolding next writes
 laws =
     record {
       blank-refused = blank-refused;
-      settings-fit = λ s e. rw (passed s e .rate);
       fresh-settings = λ k. refl;
       retuned-settings = λ k s. refl;
       next-settings = λ t s m. refl;
-      fresh-fits = λ k e. fresh-fits k (none-1 (rateFits k) e);
+      start-fits = λ k e. fresh-fits k (none-1 (rateFits k) e);
+      reset-fits = λ s f. fresh-fits (s .«sample_rate») (passed s f .rate);
       retuned-fits = λ k s e f. fresh-fits k (none-1 (rateFits k) e);
       next-fits = λ t s m e r n. next-fits t s e n;
       inside = λ t s m e. (rw (zero-mul, zero-add) (passed s e .position), tt);
