@@ -34,6 +34,11 @@ pub none-1 : (passes : Bool) → _≡_ {A = ℕ} (cond passes 0 1) 0 → passes 
 none-1 true e = refl
 none-1 false e = absurd (omega arith)
 
+pub none-1-2 : (rate coefficient : Bool) → _≡_ {A = ℕ} (cond rate (cond coefficient 0 2) 1) 0 → (rate ≡ true) × (coefficient ≡ true)
+none-1-2 true true e = (refl, refl)
+none-1-2 true false e = absurd (omega arith)
+none-1-2 false coefficient e = absurd (omega arith)
+
 pub none-5-6 : (applies passes : Bool) → _≡_ {A = ℕ} (cond applies 5 (cond passes 0 6)) 0 → passes ≡ true
 none-5-6 true passes e = absurd (omega arith)
 none-5-6 false true e = refl

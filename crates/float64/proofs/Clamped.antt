@@ -30,6 +30,16 @@ clamp-in x {lo} {hi} t h k = go (lt x lo) (lt hi x) (not-lt→le binary64 x lo (
     go false true i j = box t u h (le-reflexive binary64 hi u q)
     go false false i j = box t (number-fits x k) (i tt) (j tt)
 
+-- between numbers, whatever their order, a number stays one
+pub clamp-number : (x lo hi : Float) → isNumber x ≡ true → isNumber lo ≡ true → isNumber hi ≡ true → isNumber (clampOf x lo hi) ≡ true
+unfolding clampOf
+clamp-number x lo hi k l u = go (lt x lo) (lt hi x)
+  where
+    go : (b c : Bool) → isNumber (cond b lo (cond c hi x)) ≡ true
+    go true c = l
+    go false true = u
+    go false false = k
+
 pub clamp-keeps : {x lo hi : Float} → In binary64 lo hi x → clampOf x lo hi ≡ x
 unfolding clampOf
 clamp-keeps {x} {lo} {hi} i =

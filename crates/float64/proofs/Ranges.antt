@@ -5,7 +5,8 @@ use mathlib.Core.Bool.{Bool, true, false, not, _&&_}
 use lib.Dec.{T}
 use lib.Ieee.{Float, binary64, fits, isNan, neg, le, lt, ofInt}
 use lib.Ieee.Fits.{and-l, and-r, and-i}
-use Rattle.float64.specs.Number.{plusZero, whole, isNumber, inRange, inUnit, rateFits, frequencyFits, sineFits}
+use lib.Ieee.Scale.{finite}
+use Rattle.float64.specs.Number.{plusZero, whole, isNumber, isFinite, inRange, inUnit, rateFits, frequencyFits, sineFits}
 use Rattle.float64.proofs.Order.{lt→le, finite-num}
 use Rattle.float64.proofs.Interval.{In, ends, box, in-finite}
 
@@ -28,6 +29,12 @@ number-fits x h = and-l (fits binary64 x) (not (isNan x)) (yes h)
 pub number-num : (x : Float) → isNumber x ≡ true → T (not (isNan x))
 unfolding isNumber
 number-num x h = and-r (fits binary64 x) (not (isNan x)) (yes h)
+
+pub finite-number : (x : Float) → isFinite x ≡ true → isNumber x ≡ true
+unfolding isFinite isNumber
+finite-number x h =
+    let f = and-l (fits binary64 x) (finite x) (yes h) in
+    passed (fits binary64 x && not (isNan x)) (and-i (fits binary64 x) (not (isNan x)) f (finite-num x (and-r (fits binary64 x) (finite x) (yes h))))
 
 pub in-number : {lo hi x : Float} → In binary64 lo hi x → isNumber x ≡ true
 unfolding isNumber

@@ -1,7 +1,7 @@
 -- A number times a finite number above 0, and over one, is a number: an infinity stays one, and nothing else gives a NaN. Assumes nothing.
 use Prim.Native.Nat.{zero, suc, _*_}
 use mathlib.Core.Path.{_≡_}
-use mathlib.Core.Bool.{Bool, true, false, not, _&&_}
+use mathlib.Core.Bool.{true, false, not, _&&_}
 use lib.Dec.{T, eqb·suc-zero}
 use lib.Ieee.{Float, nan, inf, fin, binary64, mul, div, fits, isNan, up, down, unlike}
 use lib.Ieee.Fits.{mul-fits, div-fits, and-i}

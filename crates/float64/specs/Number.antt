@@ -5,6 +5,7 @@ use mathlib.Core.Bool.{Bool, false, not, cond, _&&_}
 use lib.IntN.{pos}
 use lib.Dec.{eqb}
 use lib.Ieee.{Float, nan, inf, fin, binary64, round, ofInt, neg, sub, lt, le, toUnsigned, up, down, fits, isNan, toBits}
+use lib.Ieee.Scale.{finite}
 
 -- ---- values
 
@@ -27,6 +28,10 @@ half = fraction 1 2
 -- no NaN
 unfoldable pub isNumber : Float → Bool
 isNumber x = fits binary64 x && not (isNan x)
+
+-- neither NaN nor an infinity
+unfoldable pub isFinite : Float → Bool
+isFinite x = fits binary64 x && finite x
 
 -- lo ≤ x ≤ hi. A NaN is in no range; −0 counts as 0
 unfoldable pub inRange : Float → Float → Float → Bool

@@ -3,8 +3,7 @@ ghost use mathlib.Core.Path.{_≡_};
 ghost use mathlib.Core.Bool.{not};
 ghost use lib.Dec.{T};
 ghost use lib.Ieee as Ieee;
-ghost use lib.Ieee.Scale.{finite};
-ghost use Rattle.float64.specs.Number.{whole, isNumber, inRange, inUnit, isPlusZero, rateFits, coefficientFits, phaseFits, frequencyFits, sineFits, clampOf, atLeast, atMost, absolute, wholePart, roundHalfAway};
+ghost use Rattle.float64.specs.Number.{whole, isNumber, isFinite, inRange, inUnit, isPlusZero, rateFits, coefficientFits, phaseFits, frequencyFits, sineFits, clampOf, atLeast, atMost, absolute, wholePart, roundHalfAway};
 
 // Whether x is a NaN.
 pub fn is_nan(x: f64) -> bool
@@ -15,7 +14,7 @@ pub fn is_nan(x: f64) -> bool
 
 // Whether x is neither a NaN nor an infinity.
 pub fn is_finite(x: f64) -> bool
-    ensures { λ r. ⌜ r ≡ finite x ⌝ }
+    ensures { λ r. ⌜ r ≡ isFinite x ⌝ }
 {
     let infinity = 1.0 / 0.0;
     x < infinity && x > -infinity

@@ -1,5 +1,6 @@
 -- The statements of specs/, each by what its effects show. Assumes nothing.
 use Rattle.effect.proofs.Covers.{covers}
+use Rattle.delay_line.proofs.Demand1 as delay1
 use Rattle.chorus.specs.Chorus.{chorus}
 use Rattle.chorus.proofs.Demand1 as chorus1
 use Rattle.chorus.proofs.Demand3 as chorus3
@@ -12,7 +13,14 @@ use Rattle.guarantees.specs.CleanMemory.{CleanMemory}
 use Rattle.guarantees.specs.RecentPasts.{RecentPasts}
 
 pub clean-memory : CleanMemory
-clean-memory = record { choruses = chorus1.shown; flangers = flanger1.shown; vibratos = vibrato1.shown; tremolos = tremolo1.shown }
+clean-memory =
+    record {
+      delay-lines = delay1.shown;
+      choruses = chorus1.shown;
+      flangers = flanger1.shown;
+      vibratos = vibrato1.shown;
+      tremolos = tremolo1.shown;
+    }
 
 pub recent-pasts : RecentPasts
 recent-pasts =

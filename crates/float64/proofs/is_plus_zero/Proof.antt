@@ -1,5 +1,5 @@
 -- `float64::is_plus_zero` is `isPlusZero`: what is not equal to 0 has other bits than +0. Assumes nothing.
-use mathlib.Core.Path.{_≡_, refl, sym, ap, subst, _∙_}
+use mathlib.Core.Path.{_≡_, refl, sym, ap, subst}
 use mathlib.Core.Bool.{Bool, true, false}
 use lib.Dec.{T, eqb}
 use lib.Ieee.{Float, binary64, eq, fits, toBits, ofBits}

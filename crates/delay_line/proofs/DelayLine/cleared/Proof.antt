@@ -1,0 +1,12 @@
+-- `DelayLine::cleared` is the definition of that name. Assumes nothing.
+use mathlib.Core.Path.{refl}
+use lib.Ieee.{ofBits}
+use Rattle.delay_line.proofs.DelayLine.cleared.Statement.{statement}
+use Rattle.delay_line.proofs.DelayLine.cleared.Tie as tie
+
+returns : tie.Need-returns
+unfolding ofBits
+returns c = refl
+
+pub cleared-spec : {M : Type 1} → statement M
+cleared-spec = tie.close (tie.spec returns)

@@ -1,0 +1,3 @@
+pub mod Laws
+pub mod Demand1
+pub mod Bench

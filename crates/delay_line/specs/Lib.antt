@@ -1,0 +1,2 @@
+pub mod DelayLine
+pub mod Bench
