@@ -1,5 +1,3 @@
 pub mod Ports
-pub mod LentTremolo
-pub mod LentVibrato
-pub mod LentChorus
-pub mod LentFlanger
+pub mod Lent
+pub mod Units

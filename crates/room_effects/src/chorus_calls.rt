@@ -1,14 +1,13 @@
 // The chorus's calls.
-ghost use Rattle.effect.specs.Run.{tick, retune, reset};
-ghost use Rattle.chorus.specs.Chorus as chorus;
-ghost use Rattle.room_effects.specs.LentChorus.{chorusOf, chorusUnit, ChorusStarts, ChorusDoes, ChorusTicks, ChorusAnswers};
-ghost use Rattle.port.specs.Answer.{answerReply, replySample};
+ghost use Rattle.effect.specs.Run.{retune, reset};
+ghost use Rattle.chorus.specs.Chorus.{chorus, ticked};
+ghost use Rattle.room_effects.specs.Lent.{samplesFrom, Began, Called, Ticked, Asked};
+ghost use Rattle.room_effects.specs.Units.{chorusOf, chorusUnit};
+ghost use Rattle.room_effects.specs.Ports.{portAt};
+ghost use Rattle.port.specs.Answer.{answerReply};
 ghost use mathlib.Core.Path.{_≡_};
-ghost use lib.ListN.{getD};
-ghost use lib.Ieee.{nan};
 use chorus::Chorus;
 use port::Answer;
-ghost use Rattle.room_effects.specs.Ports.{portAt};
 use port::port_if;
 
 // A chorus's state from lent numbers, and back into them.
@@ -33,9 +32,7 @@ fn put_chorus(state: Chorus, pos: &mut u64, phases: &mut [f64; 3])
 
 // The three samples of an answer, +0 on a refusal.
 fn put_samples(answer: Answer, out: &mut [f64; 3])
-    ensures { λ _. ⌜ getD (now (out .exit)) 0 nan ≡ replySample 0 (answerReply answer) ⌝ }
-    ensures { λ _. ⌜ getD (now (out .exit)) 1 nan ≡ replySample 1 (answerReply answer) ⌝ }
-    ensures { λ _. ⌜ getD (now (out .exit)) 2 nan ≡ replySample 2 (answerReply answer) ⌝ }
+    ensures { λ _. ⌜ now (out .exit) ≡ samplesFrom 0 3 (answerReply answer) ⌝ }
 {
     *out = [answer.first(), answer.second(), answer.third()];
 }
@@ -49,7 +46,7 @@ pub extern "C" fn room_raw_chorus_start(
     phases: &mut [f64; 3],
     rate: &mut f64,
 ) -> u32
-    ensures { λ r. ⌜ ChorusStarts «sample_rate» (now (memory .entry)) (chorusUnit (now (pos .exit)) (now (phases .exit)) (now (rate .exit)) (now (memory .exit))) r ⌝ }
+    ensures { λ r. ⌜ Began chorus «sample_rate» (now (memory .entry)) (chorusUnit (now (pos .exit)) (now (phases .exit)) (now (rate .exit)) (now (memory .exit))) r ⌝ }
 {
     let started = Chorus::new(sample_rate, memory);
     let state = started.state;
@@ -67,7 +64,7 @@ pub extern "C" fn room_raw_chorus_retune(
     phases: &mut [f64; 3],
     rate: &mut f64,
 ) -> u32
-    ensures { λ r. ⌜ ChorusDoes (retune «sample_rate») (chorusUnit (now (pos .entry)) (now (phases .entry)) (now (rate .entry)) (now (memory .entry))) (chorusUnit (now (pos .exit)) (now (phases .exit)) (now (rate .exit)) (now (memory .exit))) r ⌝ }
+    ensures { λ r. ⌜ Called chorus (retune «sample_rate») (chorusUnit (now (pos .entry)) (now (phases .entry)) (now (rate .entry)) (now (memory .entry))) (chorusUnit (now (pos .exit)) (now (phases .exit)) (now (rate .exit)) (now (memory .exit))) r ⌝ }
 {
     let state = chorus_of(*pos, phases, *rate);
     let cleared = state.set_sample_rate(sample_rate, memory);
@@ -89,7 +86,7 @@ pub extern "C" fn room_raw_chorus_reset(
     phases: &mut [f64; 3],
     rate: f64,
 ) -> u32
-    ensures { λ r. ⌜ ChorusDoes reset (chorusUnit (now (pos .entry)) (now (phases .entry)) rate (now (memory .entry))) (chorusUnit (now (pos .exit)) (now (phases .exit)) rate (now (memory .exit))) r ⌝ }
+    ensures { λ r. ⌜ Called chorus reset (chorusUnit (now (pos .entry)) (now (phases .entry)) rate (now (memory .entry))) (chorusUnit (now (pos .exit)) (now (phases .exit)) rate (now (memory .exit))) r ⌝ }
 {
     let state = chorus_of(*pos, phases, rate);
     let cleared = state.reset(memory);
@@ -119,7 +116,7 @@ pub extern "C" fn room_raw_chorus_tick(
     sine2: f64,
     out: &mut [f64; 3],
 ) -> u32
-    ensures { λ r. ⌜ ChorusTicks (tick (chorus.ticked (portAt set 1 audio) (portAt set 2 depth) (portAt set 4 mix) frequency sine0 sine1 sine2)) (chorusUnit (now (pos .entry)) (now (phases .entry)) rate (now (memory .entry))) (chorusUnit (now (pos .exit)) (now (phases .exit)) rate (now (memory .exit))) (now (out .exit)) r ⌝ }
+    ensures { λ r. ⌜ Ticked chorus 3 (ticked (portAt set 1 audio) (portAt set 2 depth) (portAt set 4 mix) frequency sine0 sine1 sine2) (chorusUnit (now (pos .entry)) (now (phases .entry)) rate (now (memory .entry))) (chorusUnit (now (pos .exit)) (now (phases .exit)) rate (now (memory .exit))) (now (out .exit)) r ⌝ }
 {
     let state = chorus_of(*pos, phases, rate);
     let audio_set = set / 1 % 2 == 1;
@@ -147,7 +144,7 @@ pub extern "C" fn room_raw_chorus_silent(
     memory: &[f64],
     out: &mut u32,
 ) -> u32
-    ensures { λ r. ⌜ ChorusAnswers (chorusUnit pos (now (phases .entry)) rate (now (memory .entry))) (now (out .exit)) r ⌝ }
+    ensures { λ r. ⌜ Asked chorus (chorusUnit pos (now (phases .entry)) rate (now (memory .entry))) (now (out .exit)) r ⌝ }
 {
     let state = chorus_of(pos, phases, rate);
     let silence = state.silent(memory);

@@ -1,15 +1,17 @@
 // The tremolo's calls.
-ghost use Rattle.effect.specs.Run.{tick, reset};
-ghost use Rattle.tremolo.specs.Tremolo.{ticked};
+ghost use Rattle.effect.specs.Run.{reset};
+ghost use Rattle.tremolo.specs.Tremolo.{tremolo, ticked};
+ghost use Rattle.room_effects.specs.Lent.{Began, Called, Ticked, Asked};
+ghost use Rattle.room_effects.specs.Units.{tremoloUnit};
 ghost use Rattle.room_effects.specs.Ports.{portAt};
-ghost use Rattle.room_effects.specs.LentTremolo.{TremoloStarts, TremoloDoes, TremoloTicks, TremoloAnswers};
+ghost use mathlib.Core.List.{[], _∷_};
 use port::port_if;
 use tremolo::Tremolo;
 
 // Start of a tremolo. A refused one writes the state of zeros too.
 #[no_mangle]
 pub extern "C" fn room_raw_tremolo_start(sample_rate: f64, phase: &mut f64, rate: &mut f64) -> u32
-    ensures { λ r. ⌜ TremoloStarts «sample_rate» (now (phase .exit)) (now (rate .exit)) r ⌝ }
+    ensures { λ r. ⌜ Began tremolo «sample_rate» [] (tremoloUnit (now (phase .exit)) (now (rate .exit))) r ⌝ }
 {
     let started = Tremolo::new(sample_rate);
     *phase = started.state.lfo_phase;
@@ -20,7 +22,7 @@ pub extern "C" fn room_raw_tremolo_start(sample_rate: f64, phase: &mut f64, rate
 
 #[no_mangle]
 pub extern "C" fn room_raw_tremolo_reset(phase: &mut f64, rate: f64) -> u32
-    ensures { λ r. ⌜ TremoloDoes reset (now (phase .entry)) rate (now (phase .exit)) r ⌝ }
+    ensures { λ r. ⌜ Called tremolo reset (tremoloUnit (now (phase .entry)) rate) (tremoloUnit (now (phase .exit)) rate) r ⌝ }
 {
     let state = Tremolo {
         lfo_phase: *phase,
@@ -49,7 +51,7 @@ pub extern "C" fn room_raw_tremolo_tick(
     sine: f64,
     out: &mut f64,
 ) -> u32
-    ensures { λ r. ⌜ TremoloTicks (tick (ticked (portAt set 1 audio) (portAt set 2 depth) (portAt set 4 shape) frequency sine)) (now (phase .entry)) rate (now (phase .exit)) (now (out .exit)) r ⌝ }
+    ensures { λ r. ⌜ Ticked tremolo 1 (ticked (portAt set 1 audio) (portAt set 2 depth) (portAt set 4 shape) frequency sine) (tremoloUnit (now (phase .entry)) rate) (tremoloUnit (now (phase .exit)) rate) (now (out .exit) ∷ []) r ⌝ }
 {
     let state = Tremolo {
         lfo_phase: *phase,
@@ -74,7 +76,7 @@ pub extern "C" fn room_raw_tremolo_tick(
 
 #[no_mangle]
 pub extern "C" fn room_raw_tremolo_silent(phase: f64, rate: f64, out: &mut u32) -> u32
-    ensures { λ r. ⌜ TremoloAnswers phase rate (now (out .exit)) r ⌝ }
+    ensures { λ r. ⌜ Asked tremolo (tremoloUnit phase rate) (now (out .exit)) r ⌝ }
 {
     let state = Tremolo {
         lfo_phase: phase,

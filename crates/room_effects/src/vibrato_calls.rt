@@ -1,11 +1,12 @@
 // The vibrato's calls.
-ghost use Rattle.effect.specs.Run.{tick, retune, reset};
-ghost use Rattle.vibrato.specs.Vibrato as vib;
-ghost use Rattle.room_effects.specs.LentVibrato.{vibratoUnit, VibratoStarts, VibratoDoes, VibratoTicks, VibratoAnswers};
-ghost use mathlib.Core.Path.{_≡_};
-use vibrato::Vibrato;
+ghost use Rattle.effect.specs.Run.{retune, reset};
+ghost use Rattle.vibrato.specs.Vibrato.{vibrato, ticked};
+ghost use Rattle.room_effects.specs.Lent.{Began, Called, Ticked, Asked};
+ghost use Rattle.room_effects.specs.Units.{vibratoUnit};
 ghost use Rattle.room_effects.specs.Ports.{portAt};
+ghost use mathlib.Core.List.{[], _∷_};
 use port::port_if;
+use vibrato::Vibrato;
 
 // Start of a vibrato. A refused one writes the state of zeros too, and leaves the memory as it was.
 #[no_mangle]
@@ -16,7 +17,7 @@ pub extern "C" fn room_raw_vibrato_start(
     phase: &mut f64,
     rate: &mut f64,
 ) -> u32
-    ensures { λ r. ⌜ VibratoStarts «sample_rate» (now (memory .entry)) (now (pos .exit)) (now (phase .exit)) (now (rate .exit)) (now (memory .exit)) r ⌝ }
+    ensures { λ r. ⌜ Began vibrato «sample_rate» (now (memory .entry)) (vibratoUnit (now (pos .exit)) (now (phase .exit)) (now (rate .exit)) (now (memory .exit))) r ⌝ }
 {
     let begun = Vibrato::new(sample_rate, memory);
     *pos = begun.state.write_pos;
@@ -34,7 +35,7 @@ pub extern "C" fn room_raw_vibrato_retune(
     phase: &mut f64,
     rate: &mut f64,
 ) -> u32
-    ensures { λ r. ⌜ VibratoDoes (retune «sample_rate») (vibratoUnit (now (pos .entry)) (now (phase .entry)) (now (rate .entry)) (now (memory .entry))) (now (pos .exit)) (now (phase .exit)) (now (rate .exit)) (now (memory .exit)) r ⌝ }
+    ensures { λ r. ⌜ Called vibrato (retune «sample_rate») (vibratoUnit (now (pos .entry)) (now (phase .entry)) (now (rate .entry)) (now (memory .entry))) (vibratoUnit (now (pos .exit)) (now (phase .exit)) (now (rate .exit)) (now (memory .exit))) r ⌝ }
 {
     let state = Vibrato {
         write_pos: *pos,
@@ -60,7 +61,7 @@ pub extern "C" fn room_raw_vibrato_reset(
     phase: &mut f64,
     rate: f64,
 ) -> u32
-    ensures { λ r. ⌜ VibratoDoes reset (vibratoUnit (now (pos .entry)) (now (phase .entry)) rate (now (memory .entry))) (now (pos .exit)) (now (phase .exit)) rate (now (memory .exit)) r ⌝ }
+    ensures { λ r. ⌜ Called vibrato reset (vibratoUnit (now (pos .entry)) (now (phase .entry)) rate (now (memory .entry))) (vibratoUnit (now (pos .exit)) (now (phase .exit)) rate (now (memory .exit))) r ⌝ }
 {
     let state = Vibrato {
         write_pos: *pos,
@@ -93,7 +94,7 @@ pub extern "C" fn room_raw_vibrato_tick(
     sine: f64,
     out: &mut f64,
 ) -> u32
-    ensures { λ r. ⌜ VibratoTicks (tick (vib.ticked (portAt set 1 audio) (portAt set 2 depth) (portAt set 4 mix) frequency sine)) (vibratoUnit (now (pos .entry)) (now (phase .entry)) rate (now (memory .entry))) (now (pos .exit)) (now (phase .exit)) (now (memory .exit)) (now (out .exit)) r ⌝ }
+    ensures { λ r. ⌜ Ticked vibrato 1 (ticked (portAt set 1 audio) (portAt set 2 depth) (portAt set 4 mix) frequency sine) (vibratoUnit (now (pos .entry)) (now (phase .entry)) rate (now (memory .entry))) (vibratoUnit (now (pos .exit)) (now (phase .exit)) rate (now (memory .exit))) (now (out .exit) ∷ []) r ⌝ }
 {
     let state = Vibrato {
         write_pos: *pos,
@@ -127,7 +128,7 @@ pub extern "C" fn room_raw_vibrato_silent(
     memory: &[f64],
     out: &mut u32,
 ) -> u32
-    ensures { λ r. ⌜ VibratoAnswers (vibratoUnit «write_pos» «lfo_phase» «sample_rate» (now (memory .entry))) (now (out .exit)) r ⌝ }
+    ensures { λ r. ⌜ Asked vibrato (vibratoUnit «write_pos» «lfo_phase» «sample_rate» (now (memory .entry))) (now (out .exit)) r ⌝ }
 {
     let state = Vibrato {
         write_pos,

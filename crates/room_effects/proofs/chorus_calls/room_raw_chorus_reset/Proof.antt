@@ -1,11 +1,30 @@
--- `room_raw_chorus_reset` is `Chorus::reset`, its state written back where it is accepted. Assumes nothing.
-use mathlib.Core.Path.{_∙_, ap, sym}
-use Rattle.effect.specs.Run.{reset}
+-- `room_raw_chorus_reset` is `Chorus::reset`, its state without the rate written back where it is accepted. Assumes nothing.
+use mathlib.Core.Path.{ap, sym, _∙_}
+use Rattle.effect.specs.Run.{reset, Device}
+use Rattle.effect.specs.Contract.{Does}
+use Rattle.port.specs.Answer.{outcomeReply}
 use Rattle.chorus.specs.declared.Chorus.{Chorus}
-use Rattle.room_effects.proofs.ChorusLaws.{chorus-left, chorus-kept, rate-kept, reset-rate}
+use Rattle.chorus.specs.Chorus.{chorus}
+use Rattle.chorus.proofs.Demand1.{laws}
+use Rattle.room_effects.specs.Units.{chorusOf, chorusUnit}
+use Rattle.room_effects.proofs.Laws.{of-state, stored, kept, reset-settings}
 use borrow.Author.Needs.{needs}
 use Rattle.room_effects.proofs.chorus_calls.room_raw_chorus_reset.Statement.{statement}
 use Rattle.room_effects.proofs.chorus_calls.room_raw_chorus_reset.Tie as tie
+
+-- the chorus handed over
+abbrev unit : tie.Start → Device Chorus
+unit s =
+    let a = s .args in
+    chorusUnit (a .pos .now) (a .phases .now) (a .rate) (a .memory .now)
+
+-- the inner call, of the state as the lent numbers have it
+module _ (c : tie.After-reset) where
+  abbrev start : tie.Start
+  start = c .before .before .before .before .before .before
+
+  does : Does chorus reset (unit start .state) (unit start .memory) (c .reset .result .state) (c .reset .last .1 .0) (outcomeReply (c .reset .result .outcome))
+  does = of-state chorus reset (c .before .before .chorus-of .ensures) (c .reset .ensures)
 
 chorus-of-requires : tie.Need-chorus-of-requires
 chorus-of-requires c κs = search needs
@@ -21,8 +40,8 @@ same-length c = search needs
 
 returns : tie.Need-returns
 returns c =
-    let a = c .before .before .before .before .before .before .before .before .before .before .args in
-    chorus-kept reset (a .pos .now) (a .phases .now) (a .rate) (c .before .before .before .before .before .before .chorus-of .ensures) (c .before .before .before .before .reset .ensures) (c .before .number .ensures) (c .if1 .taken)
+    let inner = c .before .before .before .before in
+    kept chorus reset (unit (start inner)) (does inner) (c .before .number .ensures) (c .if1 .taken)
 
 put-chorus-requires : tie.Need-put-chorus-requires
 put-chorus-requires c κs = search needs
@@ -32,14 +51,11 @@ same-length-2 c = search needs
 
 returns-2 : tie.Need-returns-2
 returns-2 c =
-    let a = c .before .before .before .before .before .before .before .before .before .before .before .before .before .args in
-    let state = c .before .before .before .before .before .before .before .before .before .chorus-of in
-    let cleared = c .before .before .before .before .before .before .before .reset in
-    let same =
-    ap (λ (s : Chorus). s .«sample_rate») (cleared .ensures .state) ∙ reset-rate (record { state = state .result; memory = a .memory .now }) ∙ ap (λ (s : Chorus). s .«sample_rate») (state .ensures) in
+    let tested = c .before .before .before in
+    let inner = tested .before .before .before .before in
     let put = c .put-chorus .last .1 in
-    chorus-left reset (a .pos .now) (a .phases .now) (a .rate) (state .ensures) (cleared .ensures) (sym (c .before .before .before .if1 .left) ∙ c .before .before .before .before .number .ensures)
-    (put .0) (put .1 .0) (a .rate) (rate-kept (cleared .result .state) (put .0) (put .1 .0) same (c .put-chorus .ensures))
+    stored chorus reset (unit (start inner)) (does inner) (sym (tested .if1 .left) ∙ tested .before .number .ensures)
+    (ap (chorusOf (put .0) (put .1 .0)) (reset-settings chorus laws (does inner)) ∙ c .put-chorus .ensures)
 
 pub room-raw-chorus-reset-spec : {M : Type 1} → statement M
 room-raw-chorus-reset-spec =

@@ -1,8 +1,9 @@
 -- `room_raw_chorus_silent` is `Chorus::silent`, in plain numbers. Assumes nothing.
-use mathlib.Core.Path.{_∙_, ap, sym}
-use Rattle.port.specs.Answer.{replySilent}
+use mathlib.Core.Path.{sym}
 use Rattle.effect.specs.Run.{ask}
-use Rattle.room_effects.proofs.ChorusLaws.{answer-is, chorus-left}
+use Rattle.chorus.specs.Chorus.{chorus}
+use Rattle.room_effects.specs.Units.{chorusUnit}
+use Rattle.room_effects.proofs.Laws.{of-state, stored, asked}
 use borrow.Author.Needs.{needs}
 use Rattle.room_effects.proofs.chorus_calls.room_raw_chorus_silent.Statement.{statement}
 use Rattle.room_effects.proofs.chorus_calls.room_raw_chorus_silent.Tie as tie
@@ -22,14 +23,8 @@ number-requires c κs = search needs
 returns : tie.Need-returns
 returns c =
     let a = c .before .before .before .before .before .args in
-    let e = c .before .before .before .chorus-of .ensures in
-    let does = c .before .before .silent .ensures in
-    let number = c .number .ensures in
-    record {
-      does = chorus-left ask (a .pos) (a .phases .now) (a .rate) e does number (a .pos) (a .phases .now) (a .rate) (sym e);
-      flag = c .before .flag .ensures ∙ ap replySilent (answer-is ask (a .pos) (a .phases .now) (a .rate) e does number);
-    }
+    let does = of-state chorus ask (c .before .before .before .chorus-of .ensures) (c .before .before .silent .ensures) in
+    asked chorus does (stored chorus ask (chorusUnit (a .pos) (a .phases .now) (a .rate) (a .memory .now)) does (c .number .ensures) (sym (c .before .before .before .chorus-of .ensures))) (c .before .flag .ensures)
 
 pub room-raw-chorus-silent-spec : {M : Type 1} → statement M
-room-raw-chorus-silent-spec =
-    tie.close (tie.spec chorus-of-requires silent-requires flag-requires number-requires returns)
+room-raw-chorus-silent-spec = tie.close (tie.spec chorus-of-requires silent-requires flag-requires number-requires returns)

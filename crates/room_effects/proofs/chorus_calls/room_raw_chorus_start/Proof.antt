@@ -1,6 +1,6 @@
 -- `room_raw_chorus_start` writes the state that `Chorus::new` gives, and returns its number. Assumes nothing.
-use mathlib.Core.Path.{_∙_, ap}
-use Rattle.port.specs.Answer.{replyNumber}
+use Rattle.chorus.specs.Chorus.{chorus}
+use Rattle.room_effects.proofs.Laws.{began}
 use borrow.Author.Needs.{needs}
 use Rattle.room_effects.proofs.chorus_calls.room_raw_chorus_start.Statement.{statement}
 use Rattle.room_effects.proofs.chorus_calls.room_raw_chorus_start.Tie as tie
@@ -18,10 +18,7 @@ same-length : tie.Need-same-length
 same-length c = search needs
 
 returns : tie.Need-returns
-returns c =
-    let started = c .before .before .before .before .before .before .before .new .ensures in
-    record { state = c .before .put-chorus .ensures ∙ started .state; memory = started .memory; number = c .number .ensures ∙ ap replyNumber (started .answer) }
+returns c = began chorus (c .before .before .before .before .before .before .before .new .ensures) (c .before .put-chorus .ensures) (c .number .ensures)
 
 pub room-raw-chorus-start-spec : {M : Type 1} → statement M
-room-raw-chorus-start-spec =
-    tie.close (tie.spec new-requires put-chorus-requires number-requires same-length returns)
+room-raw-chorus-start-spec = tie.close (tie.spec new-requires put-chorus-requires number-requires same-length returns)

@@ -1,49 +1,43 @@
--- `room_raw_chorus_tick` is `Chorus::tick` with the ports of the mask, its state written back where it is accepted. Assumes nothing.
-use mathlib.Core.Path.{_≡_, refl, ap, sym, _∙_, subst}
-use Rattle.port.specs.Answer.{answerReply, replySample}
-use Rattle.effect.specs.Run.{tick, reply}
+-- `room_raw_chorus_tick` is `Chorus::tick` with the ports of the mask, its state without the rate written back where it is accepted. Assumes nothing.
+use mathlib.Core.Path.{ap, sym, _∙_}
+use Rattle.port.specs.Answer.{answerReply}
+use Rattle.effect.specs.Run.{tick, Device}
 use Rattle.effect.specs.Contract.{Does}
 use Rattle.chorus.specs.declared.Chorus.{Chorus}
 use Rattle.chorus.specs.Chorus.{chorus, Tick, ticked}
+use Rattle.chorus.proofs.Demand1.{laws}
 use Rattle.room_effects.specs.Ports.{portAt}
-use Rattle.room_effects.specs.LentChorus.{chorusUnit}
-use Rattle.room_effects.proofs.ChorusLaws.{answer-is, chorus-left, chorus-kept, rate-kept, tick-rate}
+use Rattle.room_effects.specs.Units.{chorusOf, chorusUnit}
+use Rattle.room_effects.proofs.Laws.{of-tick, of-state, stored, kept, tick-settings, played}
 use borrow.Author.Needs.{needs}
 use Rattle.room_effects.proofs.chorus_calls.room_raw_chorus_tick.Statement.{statement}
 use Rattle.room_effects.proofs.chorus_calls.room_raw_chorus_tick.Tie as tie
 
--- what the tick is handed
+-- what the tick is handed, and the chorus
 abbrev handed : tie.Start → Tick
 handed s =
     let a = s .args in
     ticked (portAt (a .set) 1 (a .audio)) (portAt (a .set) 2 (a .depth)) (portAt (a .set) 4 (a .mix)) (a .frequency) (a .sine0) (a .sine1) (a .sine2)
 
--- the inner tick, with the ports as the mask has them
+abbrev unit : tie.Start → Device Chorus
+unit s =
+    let a = s .args in
+    chorusUnit (a .pos .now) (a .phases .now) (a .rate) (a .memory .now)
+
+-- the inner tick, with the state as the lent numbers have it and the ports as the mask has them
 module _ (c : tie.After-tick) where
   abbrev start : tie.Start
   start = c .before .before .before .before .before .before .before .before .before
 
-  abbrev state : Chorus
-  state = c .before .before .before .before .before .chorus-of .result
-
-  does : Does chorus (tick (handed start)) state (start .args .memory .now) (c .tick .result .state) (c .tick .last .1 .0) (answerReply (c .tick .result .answer))
+  does : Does chorus (tick (handed start)) (unit start .state) (unit start .memory) (c .tick .result .state) (c .tick .last .1 .0) (answerReply (c .tick .result .answer))
   does =
-      let ports = c .before .before in
       let a = start .args in
-      subst (λ (t : Tick). Does chorus (tick t) state (a .memory .now) (c .tick .result .state) (c .tick .last .1 .0) (answerReply (c .tick .result .answer)))
+      let state = c .before .before .before .before .before .chorus-of in
+      let ports = c .before .before in
+      of-state chorus (tick (handed start)) (state .ensures)
+      (of-tick chorus (state .result)
       (λ i. ticked (ports .before .before .port-if .ensures i) (ports .before .port-if2 .ensures i) (ports .port-if3 .ensures i) (a .frequency) (a .sine0) (a .sine1) (a .sine2))
-      (c .tick .ensures)
-
-  -- it leaves the rate as it was
-  same : c .tick .result .state .«sample_rate» ≡ start .args .rate
-  same =
-      ap (λ (s : Chorus). s .«sample_rate») (does .state)
-      ∙ tick-rate (handed start) (record { state = state; memory = start .args .memory .now })
-      ∙ ap (λ (s : Chorus). s .«sample_rate») (c .before .before .before .before .before .chorus-of .ensures)
-
-  -- its answer
-  answer : answerReply (c .tick .result .answer) ≡ reply chorus (tick (handed start)) (chorusUnit (start .args .pos .now) (start .args .phases .now) (start .args .rate) (start .args .memory .now))
-  answer = answer-is (tick (handed start)) (start .args .pos .now) (start .args .phases .now) (start .args .rate) (c .before .before .before .before .before .chorus-of .ensures) does refl
+      (c .tick .ensures))
 
 chorus-of-requires : tie.Need-chorus-of-requires
 chorus-of-requires c κs = search needs
@@ -71,18 +65,10 @@ same-length c = search needs
 
 returns : tie.Need-returns
 returns c =
-    let ticks = c .before .before .before .before .before .before in
-    let s = start ticks in
-    let a = s .args in
-    let e = ticks .before .before .before .before .before .chorus-of .ensures in
-    let samples = c .before .put-samples .ensures in
-    let does = chorus-kept (tick (handed s)) (a .pos .now) (a .phases .now) (a .rate) e (does ticks) (c .before .before .before .number .ensures) (c .if1 .taken) in
-    record {
-      does = does;
-      mono = samples .0 ∙ ap (replySample 0) (answer ticks);
-      left = samples .1 .0 ∙ ap (replySample 1) (answer ticks);
-      right = samples .1 .1 ∙ ap (replySample 2) (answer ticks);
-    }
+    let out = c .before in
+    let inner = out .before .before .before .before .before in
+    let s = start inner in
+    played chorus 3 (does inner) (kept chorus (tick (handed s)) (unit s) (does inner) (out .before .before .number .ensures) (c .if1 .taken)) (out .put-samples .ensures)
 
 put-chorus-requires : tie.Need-put-chorus-requires
 put-chorus-requires c κs = search needs
@@ -92,21 +78,15 @@ same-length-2 c = search needs
 
 returns-2 : tie.Need-returns-2
 returns-2 c =
-    let ticks = c .before .before .before .before .before .before .before .before .before in
-    let s = start ticks in
-    let a = s .args in
-    let e = ticks .before .before .before .before .before .chorus-of .ensures in
-    let samples = c .before .before .before .before .put-samples .ensures in
+    let tested = c .before .before .before in
+    let out = tested .before in
+    let inner = out .before .before .before .before .before in
+    let s = start inner in
     let put = c .put-chorus .last .1 in
-    let does =
-    chorus-left (tick (handed s)) (a .pos .now) (a .phases .now) (a .rate) e (does ticks) (sym (c .before .before .before .if1 .left) ∙ c .before .before .before .before .before .before .number .ensures)
-    (put .0) (put .1 .0) (a .rate) (rate-kept (ticks .tick .result .state) (put .0) (put .1 .0) (same ticks) (c .put-chorus .ensures)) in
-    record {
-      does = does;
-      mono = samples .0 ∙ ap (replySample 0) (answer ticks);
-      left = samples .1 .0 ∙ ap (replySample 1) (answer ticks);
-      right = samples .1 .1 ∙ ap (replySample 2) (answer ticks);
-    }
+    played chorus 3 (does inner)
+    (stored chorus (tick (handed s)) (unit s) (does inner) (sym (tested .if1 .left) ∙ out .before .before .number .ensures)
+    (ap (chorusOf (put .0) (put .1 .0)) (tick-settings chorus laws (does inner)) ∙ c .put-chorus .ensures))
+    (out .put-samples .ensures)
 
 pub room-raw-chorus-tick-spec : {M : Type 1} → statement M
 room-raw-chorus-tick-spec =

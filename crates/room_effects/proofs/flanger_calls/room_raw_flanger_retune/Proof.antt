@@ -1,12 +1,19 @@
 -- `room_raw_flanger_retune` is `Flanger::set_sample_rate`, its state written back where it is accepted. Assumes nothing.
-use mathlib.Core.Path.{_∙_, sym}
-use borrow.Author.Needs.{needs}
+use mathlib.Core.Path.{refl, _∙_, sym}
 use Rattle.effect.specs.Run.{retune, Device}
 use Rattle.flanger.specs.declared.Flanger.{Flanger}
-use Rattle.room_effects.specs.LentFlanger.{flangerUnit}
-use Rattle.room_effects.proofs.FlangerLaws.{stored-all, kept}
+use Rattle.flanger.specs.Flanger.{flanger}
+use Rattle.room_effects.specs.Units.{flangerUnit}
+use Rattle.room_effects.proofs.Laws.{stored, kept}
+use borrow.Author.Needs.{needs}
 use Rattle.room_effects.proofs.flanger_calls.room_raw_flanger_retune.Statement.{statement}
 use Rattle.room_effects.proofs.flanger_calls.room_raw_flanger_retune.Tie as tie
+
+-- the flanger handed over
+abbrev unit : tie.Start → Device Flanger
+unit s =
+    let a = s .args in
+    flangerUnit (a .pos .now) (a .phase .now) (a .rate .now) (a .memory .now)
 
 set-sample-rate-requires : tie.Need-set-sample-rate-requires
 set-sample-rate-requires c κs = search needs
@@ -17,32 +24,20 @@ number-requires c κs = search needs
 same-length : tie.Need-same-length
 same-length c = search needs
 
--- the flanger handed over
-abbrev unit : tie.Start → Device Flanger
-unit s = flangerUnit (s .args .pos .now) (s .args .phase .now) (s .args .rate .now) (s .args .memory .now)
-
 returns : tie.Need-returns
 returns c =
-    let called = c .before .before .before .before in
-    let s = called .before .before .before .before in
-    kept (retune (s .args .sample-rate)) (unit s) (called .set-sample-rate .ensures) (c .before .number .ensures) (c .if1 .taken)
+    let inner = c .before .before .before .before in
+    let s = inner .before .before .before .before in
+    kept flanger (retune (s .args .sample-rate)) (unit s) (inner .set-sample-rate .ensures) (c .before .number .ensures) (c .if1 .taken)
 
 same-length-2 : tie.Need-same-length-2
 same-length-2 c = search needs
 
 returns-2 : tie.Need-returns-2
 returns-2 c =
-    let called = c .before .before .before .before in
-    let s = called .before .before .before .before in
-    stored-all (retune (s .args .sample-rate)) (unit s) (called .set-sample-rate .ensures) (sym (c .if1 .left) ∙ c .before .number .ensures)
+    let inner = c .before .before .before .before in
+    let s = inner .before .before .before .before in
+    stored flanger (retune (s .args .sample-rate)) (unit s) (inner .set-sample-rate .ensures) (sym (c .if1 .left) ∙ c .before .number .ensures) refl
 
 pub room-raw-flanger-retune-spec : {M : Type 1} → statement M
-room-raw-flanger-retune-spec =
-    tie.close
-    (tie.spec
-    set-sample-rate-requires
-    number-requires
-    same-length
-    returns
-    same-length-2
-    returns-2)
+room-raw-flanger-retune-spec = tie.close (tie.spec set-sample-rate-requires number-requires same-length returns same-length-2 returns-2)

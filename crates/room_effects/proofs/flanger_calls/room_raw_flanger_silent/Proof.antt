@@ -1,10 +1,10 @@
 -- `room_raw_flanger_silent` is `Flanger::silent`, in plain numbers. Assumes nothing.
-use mathlib.Core.Path.{_∙_, ap}
-use borrow.Author.Needs.{needs}
-use Rattle.port.specs.Answer.{replySilent}
+use mathlib.Core.Path.{refl}
 use Rattle.effect.specs.Run.{ask}
-use Rattle.room_effects.specs.LentFlanger.{flangerUnit}
-use Rattle.room_effects.proofs.FlangerLaws.{stored-all}
+use Rattle.flanger.specs.Flanger.{flanger}
+use Rattle.room_effects.specs.Units.{flangerUnit}
+use Rattle.room_effects.proofs.Laws.{stored, asked}
+use borrow.Author.Needs.{needs}
 use Rattle.room_effects.proofs.flanger_calls.room_raw_flanger_silent.Statement.{statement}
 use Rattle.room_effects.proofs.flanger_calls.room_raw_flanger_silent.Tie as tie
 
@@ -19,13 +19,9 @@ number-requires c κs = search needs
 
 returns : tie.Need-returns
 returns c =
-    let asked = c .before .before in
-    let a = asked .before .before .args in
-    let does = asked .silent .ensures in
-    record {
-      does = stored-all ask (flangerUnit (a .pos) (a .phase) (a .rate) (a .memory .now)) does (c .number .ensures);
-      flag = c .before .flag .ensures ∙ ap replySilent (does .answer);
-    }
+    let a = c .before .before .before .before .args in
+    let does = c .before .before .silent .ensures in
+    asked flanger does (stored flanger ask (flangerUnit (a .pos) (a .phase) (a .rate) (a .memory .now)) does (c .number .ensures) refl) (c .before .flag .ensures)
 
 pub room-raw-flanger-silent-spec : {M : Type 1} → statement M
 room-raw-flanger-silent-spec = tie.close (tie.spec silent-requires flag-requires number-requires returns)

@@ -1,7 +1,8 @@
 -- `room_raw_flanger_start` writes the state that `Flanger::new` gives, and returns its number. Assumes nothing.
-use mathlib.Core.Path.{_∙_, ap}
+use mathlib.Core.Path.{refl}
+use Rattle.flanger.specs.Flanger.{flanger}
+use Rattle.room_effects.proofs.Laws.{began}
 use borrow.Author.Needs.{needs}
-use Rattle.port.specs.Answer.{replyNumber}
 use Rattle.room_effects.proofs.flanger_calls.room_raw_flanger_start.Statement.{statement}
 use Rattle.room_effects.proofs.flanger_calls.room_raw_flanger_start.Tie as tie
 
@@ -15,9 +16,7 @@ same-length : tie.Need-same-length
 same-length c = search needs
 
 returns : tie.Need-returns
-returns c =
-    let started = c .before .before .before .new .ensures in
-    record { state = started .state; memory = started .memory; number = c .number .ensures ∙ ap replyNumber (started .answer) }
+returns c = began flanger (c .before .before .before .new .ensures) refl (c .number .ensures)
 
 pub room-raw-flanger-start-spec : {M : Type 1} → statement M
 room-raw-flanger-start-spec = tie.close (tie.spec new-requires number-requires same-length returns)

@@ -1,16 +1,41 @@
--- `room_raw_flanger_tick` is `Flanger::tick` with the ports of the mask, its position and phase written back where it is accepted. Assumes nothing.
-use mathlib.Core.Path.{ap, sym, _∙_, subst}
-use borrow.Author.Needs.{needs}
-use Rattle.port.specs.Answer.{answerReply, replySample}
+-- `room_raw_flanger_tick` is `Flanger::tick` with the ports of the mask, its state without the rate written back where it is accepted. Assumes nothing.
+use mathlib.Core.Path.{ap, sym, _∙_}
+use mathlib.Core.List.{[], _∷_}
+use Rattle.port.specs.Answer.{answerReply}
 use Rattle.effect.specs.Run.{tick, Device}
 use Rattle.effect.specs.Contract.{Does}
 use Rattle.flanger.specs.declared.Flanger.{Flanger}
 use Rattle.flanger.specs.Flanger.{flanger, Tick, ticked}
+use Rattle.flanger.proofs.Demand1.{laws}
 use Rattle.room_effects.specs.Ports.{portAt}
-use Rattle.room_effects.specs.LentFlanger.{flangerUnit}
-use Rattle.room_effects.proofs.FlangerLaws.{tick-keeps-rate, stored, kept}
+use Rattle.room_effects.specs.Units.{flangerOf, flangerUnit}
+use Rattle.room_effects.proofs.Laws.{of-tick, stored, kept, tick-settings, played}
+use borrow.Author.Needs.{needs}
 use Rattle.room_effects.proofs.flanger_calls.room_raw_flanger_tick.Statement.{statement}
 use Rattle.room_effects.proofs.flanger_calls.room_raw_flanger_tick.Tie as tie
+
+-- what the tick is handed, and the flanger
+abbrev handed : tie.Start → Tick
+handed s =
+    let a = s .args in
+    ticked (portAt (a .set) 1 (a .audio)) (portAt (a .set) 2 (a .depth)) (portAt (a .set) 4 (a .feedback)) (portAt (a .set) 8 (a .mix)) (a .frequency) (a .sine0) (a .sine1)
+
+abbrev unit : tie.Start → Device Flanger
+unit s =
+    let a = s .args in
+    flangerUnit (a .pos .now) (a .phase .now) (a .rate) (a .memory .now)
+
+-- the inner tick, with the ports as the mask has them
+module _ (c : tie.After-tick) where
+  abbrev start : tie.Start
+  start = c .before .before .before .before .before .before .before .before
+
+  does : Does flanger (tick (handed start)) (unit start .state) (unit start .memory) (c .tick .result .state) (c .tick .last .1 .0) (answerReply (c .tick .result .answer))
+  does =
+      let a = start .args in
+      of-tick flanger (unit start .state)
+      (λ i. ticked (c .before .before .before .before .before .port-if .ensures i) (c .before .before .before .before .port-if2 .ensures i) (c .before .before .before .port-if3 .ensures i) (c .before .before .port-if4 .ensures i) (a .frequency) (a .sine0) (a .sine1))
+      (c .tick .ensures)
 
 port-if-requires : tie.Need-port-if-requires
 port-if-requires c κs = search needs
@@ -42,40 +67,13 @@ third-requires c κs = search needs
 same-length : tie.Need-same-length
 same-length c = search needs
 
--- what the tick is handed, and the flanger
-abbrev handed : tie.Start → Tick
-handed s =
-    let a = s .args in
-    ticked (portAt (a .set) 1 (a .audio)) (portAt (a .set) 2 (a .depth)) (portAt (a .set) 4 (a .feedback)) (portAt (a .set) 8 (a .mix)) (a .frequency) (a .sine0) (a .sine1)
-
-abbrev unit : tie.Start → Device Flanger
-unit s = flangerUnit (s .args .pos .now) (s .args .phase .now) (s .args .rate) (s .args .memory .now)
-
--- the inner tick, with the ports as the mask has them
-module _ (c : tie.After-tick) where
-  abbrev start : tie.Start
-  start = c .before .before .before .before .before .before .before .before
-
-  does : Does flanger (tick (handed start)) (unit start .state) (unit start .memory) (c .tick .result .state) (c .tick .last .1 .0) (answerReply (c .tick .result .answer))
-  does =
-      let a = start .args in
-      subst (λ (t : Tick). Does flanger (tick t) (unit start .state) (unit start .memory) (c .tick .result .state) (c .tick .last .1 .0) (answerReply (c .tick .result .answer)))
-      (λ i. ticked (c .before .before .before .before .before .port-if .ensures i) (c .before .before .before .before .port-if2 .ensures i) (c .before .before .before .port-if3 .ensures i) (c .before .before .port-if4 .ensures i) (a .frequency) (a .sine0) (a .sine1))
-      (c .tick .ensures)
-
 returns : tie.Need-returns
 returns c =
     let third = c .before .before in
-    let number = third .before .before .before in
-    let called = number .before .before .before in
-    let d = does called in
-    let s = start called in
-    record {
-      does = kept (tick (handed s)) (unit s) d (number .number .ensures) (c .if1 .taken);
-      mono = third .before .before .first .ensures ∙ ap (replySample 0) (d .answer);
-      left = third .before .second .ensures ∙ ap (replySample 1) (d .answer);
-      right = third .third .ensures ∙ ap (replySample 2) (d .answer);
-    }
+    let numbered = third .before .before .before in
+    let inner = numbered .before .before .before in
+    let s = start inner in
+    played flanger 3 (does inner) (kept flanger (tick (handed s)) (unit s) (does inner) (numbered .number .ensures) (c .if1 .taken)) (λ i. third .before .before .first .ensures i ∷ third .before .second .ensures i ∷ third .third .ensures i ∷ [])
 
 same-length-2 : tie.Need-same-length-2
 same-length-2 c = search needs
@@ -83,16 +81,14 @@ same-length-2 c = search needs
 returns-2 : tie.Need-returns-2
 returns-2 c =
     let third = c .before .before in
-    let number = third .before .before .before in
-    let called = number .before .before .before in
-    let d = does called in
-    let s = start called in
-    record {
-      does = stored (tick (handed s)) (unit s) d (sym (c .if1 .left) ∙ number .number .ensures) (tick-keeps-rate (handed s) (unit s));
-      mono = third .before .before .first .ensures ∙ ap (replySample 0) (d .answer);
-      left = third .before .second .ensures ∙ ap (replySample 1) (d .answer);
-      right = third .third .ensures ∙ ap (replySample 2) (d .answer);
-    }
+    let numbered = third .before .before .before in
+    let inner = numbered .before .before .before in
+    let s = start inner in
+    let left = inner .tick .result .state in
+    played flanger 3 (does inner)
+    (stored flanger (tick (handed s)) (unit s) (does inner) (sym (c .if1 .left) ∙ numbered .number .ensures)
+    (ap (flangerOf (left .«write_pos») (left .«lfo_phase»)) (tick-settings flanger laws (does inner))))
+    (λ i. third .before .before .first .ensures i ∷ third .before .second .ensures i ∷ third .third .ensures i ∷ [])
 
 pub room-raw-flanger-tick-spec : {M : Type 1} → statement M
 room-raw-flanger-tick-spec =

@@ -1,11 +1,20 @@
--- `room_raw_tremolo_reset` is `Tremolo::reset`, its phase written back where it is accepted. Assumes nothing.
-use mathlib.Core.Path.{_∙_, ap, sym}
+-- `room_raw_tremolo_reset` is `Tremolo::reset`, its state without the rate written back where it is accepted. Assumes nothing.
+use mathlib.Core.Path.{ap, sym, _∙_}
+use Rattle.effect.specs.Run.{reset, Device}
+use Rattle.tremolo.specs.declared.Tremolo.{Tremolo}
+use Rattle.tremolo.specs.Tremolo.{tremolo}
+use Rattle.tremolo.proofs.Demand1.{laws}
+use Rattle.room_effects.specs.Units.{tremoloOf, tremoloUnit}
+use Rattle.room_effects.proofs.Laws.{stored, kept, reset-settings}
 use borrow.Author.Needs.{needs}
-use Rattle.port.specs.Answer.{replyNumber}
-use Rattle.effect.specs.Run.{reset}
-use Rattle.room_effects.proofs.TremoloLaws.{tremolo-stored, tremolo-kept}
 use Rattle.room_effects.proofs.tremolo_calls.room_raw_tremolo_reset.Statement.{statement}
 use Rattle.room_effects.proofs.tremolo_calls.room_raw_tremolo_reset.Tie as tie
+
+-- the tremolo handed over
+abbrev unit : tie.Start → Device Tremolo
+unit s =
+    let a = s .args in
+    tremoloUnit (a .phase .now) (a .rate)
 
 reset-requires : tie.Need-reset-requires
 reset-requires c κs = search needs
@@ -15,17 +24,15 @@ number-requires c κs = search needs
 
 returns : tie.Need-returns
 returns c =
-    let a = c .before .before .before .args in
-    let does = c .before .before .reset .ensures in
-    let number = c .before .number .ensures in
-    record { state = tremolo-kept reset (a .phase .now) (a .rate) does (λ z. c .if1 .taken (number ∙ z)); number = number ∙ ap replyNumber (does .answer) }
+    let inner = c .before .before in
+    kept tremolo reset (unit (inner .before)) (inner .reset .ensures) (c .before .number .ensures) (c .if1 .taken)
 
 returns-2 : tie.Need-returns-2
 returns-2 c =
-    let a = c .before .before .before .args in
-    let does = c .before .before .reset .ensures in
-    let number = sym (c .if1 .left) ∙ c .before .number .ensures in
-    record { state = tremolo-stored reset (a .phase .now) (a .rate) does; number = number ∙ ap replyNumber (does .answer) }
+    let inner = c .before .before in
+    let left = inner .reset .result .state in
+    stored tremolo reset (unit (inner .before)) (inner .reset .ensures) (sym (c .if1 .left) ∙ c .before .number .ensures)
+    (ap (tremoloOf (left .«lfo_phase»)) (reset-settings tremolo laws (inner .reset .ensures)))
 
 pub room-raw-tremolo-reset-spec : {M : Type 1} → statement M
 room-raw-tremolo-reset-spec = tie.close (tie.spec reset-requires number-requires returns returns-2)

@@ -1,7 +1,10 @@
 -- `room_raw_tremolo_silent` is `Tremolo::silent`, in plain numbers. Assumes nothing.
-use mathlib.Core.Path.{_∙_, ap}
+use mathlib.Core.Path.{refl}
+use Rattle.effect.specs.Run.{ask}
+use Rattle.tremolo.specs.Tremolo.{tremolo}
+use Rattle.room_effects.specs.Units.{tremoloUnit}
+use Rattle.room_effects.proofs.Laws.{stored, asked}
 use borrow.Author.Needs.{needs}
-use Rattle.port.specs.Answer.{replyNumber, replySilent}
 use Rattle.room_effects.proofs.tremolo_calls.room_raw_tremolo_silent.Statement.{statement}
 use Rattle.room_effects.proofs.tremolo_calls.room_raw_tremolo_silent.Tie as tie
 
@@ -16,11 +19,9 @@ number-requires c κs = search needs
 
 returns : tie.Need-returns
 returns c =
+    let a = c .before .before .before .args in
     let does = c .before .before .silent .ensures in
-    record {
-      does = record { state = does .state; number = c .number .ensures ∙ ap replyNumber (does .answer) };
-      flag = c .before .flag .ensures ∙ ap replySilent (does .answer);
-    }
+    asked tremolo does (stored tremolo ask (tremoloUnit (a .phase) (a .rate)) does (c .number .ensures) refl) (c .before .flag .ensures)
 
 pub room-raw-tremolo-silent-spec : {M : Type 1} → statement M
 room-raw-tremolo-silent-spec = tie.close (tie.spec silent-requires flag-requires number-requires returns)

@@ -1,7 +1,8 @@
 -- `room_raw_tremolo_start` writes the state that `Tremolo::new` gives, and returns its number. Assumes nothing.
-use mathlib.Core.Path.{_∙_, ap}
+use mathlib.Core.Path.{refl}
+use Rattle.tremolo.specs.Tremolo.{tremolo}
+use Rattle.room_effects.proofs.Laws.{began}
 use borrow.Author.Needs.{needs}
-use Rattle.port.specs.Answer.{replyNumber}
 use Rattle.room_effects.proofs.tremolo_calls.room_raw_tremolo_start.Statement.{statement}
 use Rattle.room_effects.proofs.tremolo_calls.room_raw_tremolo_start.Tie as tie
 
@@ -12,9 +13,7 @@ number-requires : tie.Need-number-requires
 number-requires c κs = search needs
 
 returns : tie.Need-returns
-returns c =
-    let started = c .before .new .ensures in
-    record { state = started .state; number = c .number .ensures ∙ ap replyNumber (started .answer) }
+returns c = began tremolo (c .before .new .ensures) refl (c .number .ensures)
 
 pub room-raw-tremolo-start-spec : {M : Type 1} → statement M
 room-raw-tremolo-start-spec = tie.close (tie.spec new-requires number-requires returns)

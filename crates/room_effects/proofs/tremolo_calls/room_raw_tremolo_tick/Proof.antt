@@ -1,16 +1,41 @@
--- `room_raw_tremolo_tick` is `Tremolo::tick` with the ports of the mask, its phase written back where it is accepted. Assumes nothing.
-use mathlib.Core.Path.{ap, sym, _∙_, subst}
-use mathlib.Core.List.{[]}
-use borrow.Author.Needs.{needs}
-use Rattle.port.specs.Answer.{answerReply, replyNumber, replySample}
-use Rattle.effect.specs.Run.{CallOf, tick}
+-- `room_raw_tremolo_tick` is `Tremolo::tick` with the ports of the mask, its state without the rate written back where it is accepted. Assumes nothing.
+use mathlib.Core.Path.{ap, sym, _∙_}
+use mathlib.Core.List.{[], _∷_}
+use Rattle.port.specs.Answer.{answerReply}
+use Rattle.effect.specs.Run.{tick, Device}
 use Rattle.effect.specs.Contract.{Does}
+use Rattle.tremolo.specs.declared.Tremolo.{Tremolo}
 use Rattle.tremolo.specs.Tremolo.{tremolo, Tick, ticked}
+use Rattle.tremolo.proofs.Demand1.{laws}
 use Rattle.room_effects.specs.Ports.{portAt}
-use Rattle.room_effects.specs.LentTremolo.{tremoloOf}
-use Rattle.room_effects.proofs.TremoloLaws.{tremolo-stored, tremolo-kept}
+use Rattle.room_effects.specs.Units.{tremoloOf, tremoloUnit}
+use Rattle.room_effects.proofs.Laws.{of-tick, stored, kept, tick-settings, played}
+use borrow.Author.Needs.{needs}
 use Rattle.room_effects.proofs.tremolo_calls.room_raw_tremolo_tick.Statement.{statement}
 use Rattle.room_effects.proofs.tremolo_calls.room_raw_tremolo_tick.Tie as tie
+
+-- what the tick is handed, and the tremolo
+abbrev handed : tie.Start → Tick
+handed s =
+    let a = s .args in
+    ticked (portAt (a .set) 1 (a .audio)) (portAt (a .set) 2 (a .depth)) (portAt (a .set) 4 (a .shape)) (a .frequency) (a .sine)
+
+abbrev unit : tie.Start → Device Tremolo
+unit s =
+    let a = s .args in
+    tremoloUnit (a .phase .now) (a .rate)
+
+-- the inner tick, with the ports as the mask has them
+module _ (c : tie.After-tick) where
+  abbrev start : tie.Start
+  start = c .before .before .before .before
+
+  does : Does tremolo (tick (handed start)) (unit start .state) (unit start .memory) (c .tick .result .state) [] (answerReply (c .tick .result .answer))
+  does =
+      let a = start .args in
+      of-tick tremolo (unit start .state)
+      (λ i. ticked (c .before .before .before .port-if .ensures i) (c .before .before .port-if2 .ensures i) (c .before .port-if3 .ensures i) (a .frequency) (a .sine))
+      (c .tick .ensures)
 
 port-if-requires : tie.Need-port-if-requires
 port-if-requires c κs = search needs
@@ -30,40 +55,23 @@ number-requires c κs = search needs
 first-requires : tie.Need-first-requires
 first-requires c κs = search needs
 
--- what the tick is handed
-abbrev handed : tie.Start → CallOf tremolo
-handed s =
-    let a = s .args in
-    tick (ticked (portAt (a .set) 1 (a .audio)) (portAt (a .set) 2 (a .depth)) (portAt (a .set) 4 (a .shape)) (a .frequency) (a .sine))
-
--- the inner tick, with the ports as the mask has them
-does : (c : tie.After-first) → Does tremolo (handed (c .before .before .before .before .before .before)) (tremoloOf (c .before .before .before .before .before .before .args .phase .now) (c .before .before .before .before .before .before .args .rate)) [] (c .before .before .tick .result .state) [] (answerReply (c .before .before .tick .result .answer))
-does c =
-    let ports = c .before .before .before in
-    let a = ports .before .before .before .args in
-    subst (λ (t : Tick). Does tremolo (tick t) (tremoloOf (a .phase .now) (a .rate)) [] (c .before .before .tick .result .state) [] (answerReply (c .before .before .tick .result .answer)))
-    (λ i. ticked (ports .before .before .port-if .ensures i) (ports .before .port-if2 .ensures i) (ports .port-if3 .ensures i) (a .frequency) (a .sine))
-    (c .before .before .tick .ensures)
-
 returns : tie.Need-returns
 returns c =
-    let s = c .before .before .before .before .before .before .before in
-    let d = does (c .before) in
-    let number = c .before .before .number .ensures in
-    record {
-      does = record { state = tremolo-kept (handed s) (s .args .phase .now) (s .args .rate) d (λ z. c .if1 .taken (number ∙ z)); number = number ∙ ap replyNumber (d .answer) };
-      sample = c .before .first .ensures ∙ ap (replySample 0) (d .answer);
-    }
+    let numbered = c .before .before in
+    let inner = numbered .before in
+    let s = start inner in
+    played tremolo 1 (does inner) (kept tremolo (tick (handed s)) (unit s) (does inner) (numbered .number .ensures) (c .if1 .taken)) (λ i. c .before .first .ensures i ∷ [])
 
 returns-2 : tie.Need-returns-2
 returns-2 c =
-    let s = c .before .before .before .before .before .before .before in
-    let d = does (c .before) in
-    let number = sym (c .if1 .left) ∙ c .before .before .number .ensures in
-    record {
-      does = record { state = tremolo-stored (handed s) (s .args .phase .now) (s .args .rate) d; number = number ∙ ap replyNumber (d .answer) };
-      sample = c .before .first .ensures ∙ ap (replySample 0) (d .answer);
-    }
+    let numbered = c .before .before in
+    let inner = numbered .before in
+    let s = start inner in
+    let left = inner .tick .result .state in
+    played tremolo 1 (does inner)
+    (stored tremolo (tick (handed s)) (unit s) (does inner) (sym (c .if1 .left) ∙ numbered .number .ensures)
+    (ap (tremoloOf (left .«lfo_phase»)) (tick-settings tremolo laws (does inner))))
+    (λ i. c .before .first .ensures i ∷ [])
 
 pub room-raw-tremolo-tick-spec : {M : Type 1} → statement M
 room-raw-tremolo-tick-spec =

@@ -1,12 +1,20 @@
--- `room_raw_vibrato_reset` is `Vibrato::reset`, its position and phase written back where it is accepted. Assumes nothing.
-use mathlib.Core.Path.{_∙_, sym}
-use borrow.Author.Needs.{needs}
+-- `room_raw_vibrato_reset` is `Vibrato::reset`, its state without the rate written back where it is accepted. Assumes nothing.
+use mathlib.Core.Path.{ap, sym, _∙_}
 use Rattle.effect.specs.Run.{reset, Device}
 use Rattle.vibrato.specs.declared.Vibrato.{Vibrato}
-use Rattle.room_effects.specs.LentVibrato.{vibratoUnit}
-use Rattle.room_effects.proofs.VibratoLaws.{reset-keeps-rate, stored, kept}
+use Rattle.vibrato.specs.Vibrato.{vibrato}
+use Rattle.vibrato.proofs.Demand1.{laws}
+use Rattle.room_effects.specs.Units.{vibratoOf, vibratoUnit}
+use Rattle.room_effects.proofs.Laws.{stored, kept, reset-settings}
+use borrow.Author.Needs.{needs}
 use Rattle.room_effects.proofs.vibrato_calls.room_raw_vibrato_reset.Statement.{statement}
 use Rattle.room_effects.proofs.vibrato_calls.room_raw_vibrato_reset.Tie as tie
+
+-- the vibrato handed over
+abbrev unit : tie.Start → Device Vibrato
+unit s =
+    let a = s .args in
+    vibratoUnit (a .pos .now) (a .phase .now) (a .rate) (a .memory .now)
 
 reset-requires : tie.Need-reset-requires
 reset-requires c κs = search needs
@@ -17,24 +25,20 @@ number-requires c κs = search needs
 same-length : tie.Need-same-length
 same-length c = search needs
 
--- the vibrato handed over
-abbrev unit : tie.Start → Device Vibrato
-unit s = vibratoUnit (s .args .pos .now) (s .args .phase .now) (s .args .rate) (s .args .memory .now)
-
 returns : tie.Need-returns
 returns c =
-    let called = c .before .before .before .before in
-    kept reset (unit (called .before .before .before .before)) (called .reset .ensures) (c .before .number .ensures) (c .if1 .taken)
+    let inner = c .before .before .before .before in
+    kept vibrato reset (unit (inner .before .before .before .before)) (inner .reset .ensures) (c .before .number .ensures) (c .if1 .taken)
 
 same-length-2 : tie.Need-same-length-2
 same-length-2 c = search needs
 
 returns-2 : tie.Need-returns-2
 returns-2 c =
-    let called = c .before .before .before .before in
-    let h = unit (called .before .before .before .before) in
-    stored reset h (called .reset .ensures) (sym (c .if1 .left) ∙ c .before .number .ensures) (reset-keeps-rate h)
+    let inner = c .before .before .before .before in
+    let left = inner .reset .result .state in
+    stored vibrato reset (unit (inner .before .before .before .before)) (inner .reset .ensures) (sym (c .if1 .left) ∙ c .before .number .ensures)
+    (ap (vibratoOf (left .«write_pos») (left .«lfo_phase»)) (reset-settings vibrato laws (inner .reset .ensures)))
 
 pub room-raw-vibrato-reset-spec : {M : Type 1} → statement M
-room-raw-vibrato-reset-spec =
-    tie.close (tie.spec reset-requires number-requires same-length returns same-length-2 returns-2)
+room-raw-vibrato-reset-spec = tie.close (tie.spec reset-requires number-requires same-length returns same-length-2 returns-2)

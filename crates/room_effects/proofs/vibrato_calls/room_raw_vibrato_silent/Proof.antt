@@ -1,10 +1,10 @@
 -- `room_raw_vibrato_silent` is `Vibrato::silent`, in plain numbers. Assumes nothing.
-use mathlib.Core.Path.{_∙_, ap}
-use borrow.Author.Needs.{needs}
-use Rattle.port.specs.Answer.{replySilent}
+use mathlib.Core.Path.{refl}
 use Rattle.effect.specs.Run.{ask}
-use Rattle.room_effects.specs.LentVibrato.{vibratoUnit}
-use Rattle.room_effects.proofs.VibratoLaws.{stored-all}
+use Rattle.vibrato.specs.Vibrato.{vibrato}
+use Rattle.room_effects.specs.Units.{vibratoUnit}
+use Rattle.room_effects.proofs.Laws.{stored, asked}
+use borrow.Author.Needs.{needs}
 use Rattle.room_effects.proofs.vibrato_calls.room_raw_vibrato_silent.Statement.{statement}
 use Rattle.room_effects.proofs.vibrato_calls.room_raw_vibrato_silent.Tie as tie
 
@@ -19,13 +19,9 @@ number-requires c κs = search needs
 
 returns : tie.Need-returns
 returns c =
-    let asked = c .before .before in
-    let a = asked .before .before .args in
-    let does = asked .silent .ensures in
-    record {
-      does = stored-all ask (vibratoUnit (a .write-pos) (a .lfo-phase) (a .sample-rate) (a .memory .now)) does (c .number .ensures);
-      flag = c .before .flag .ensures ∙ ap replySilent (does .answer);
-    }
+    let a = c .before .before .before .before .args in
+    let does = c .before .before .silent .ensures in
+    asked vibrato does (stored vibrato ask (vibratoUnit (a .write-pos) (a .lfo-phase) (a .sample-rate) (a .memory .now)) does (c .number .ensures) refl) (c .before .flag .ensures)
 
 pub room-raw-vibrato-silent-spec : {M : Type 1} → statement M
 room-raw-vibrato-silent-spec = tie.close (tie.spec silent-requires flag-requires number-requires returns)

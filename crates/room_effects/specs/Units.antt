@@ -1,0 +1,43 @@
+-- Each effect's unit in lent numbers: its state, and the memory lent to it. Definitions only. Assumes nothing.
+use Prim.Native.Nat.{ℕ}
+use mathlib.Core.List.{List, []}
+use lib.ListN.{getD}
+use lib.Ieee.{Float, nan}
+use Rattle.effect.specs.Run.{Device}
+use Rattle.tremolo.specs.declared.Tremolo.{Tremolo}
+use Rattle.vibrato.specs.declared.Vibrato.{Vibrato}
+use Rattle.chorus.specs.declared.Chorus.{Chorus}
+use Rattle.flanger.specs.declared.Flanger.{Flanger}
+
+-- ---- the tremolo: a phase and a rate, and no memory
+
+abbrev pub tremoloOf : Float → Float → Tremolo
+tremoloOf phase rate = record { «lfo_phase» = phase; «sample_rate» = rate }
+
+abbrev pub tremoloUnit : Float → Float → Device Tremolo
+tremoloUnit phase rate = record { state = tremoloOf phase rate; memory = [] }
+
+-- ---- the vibrato: a position, a phase and a rate
+
+abbrev pub vibratoOf : ℕ → Float → Float → Vibrato
+vibratoOf pos phase rate = record { «write_pos» = pos; «lfo_phase» = phase; «sample_rate» = rate }
+
+abbrev pub vibratoUnit : ℕ → Float → Float → List Float → Device Vibrato
+vibratoUnit pos phase rate memory = record { state = vibratoOf pos phase rate; memory = memory }
+
+-- ---- the chorus: a position, three phases and a rate
+
+abbrev pub chorusOf : ℕ → List Float → Float → Chorus
+chorusOf pos phases rate =
+    record { «write_pos» = pos; «lfo_phase0» = getD phases 0 nan; «lfo_phase1» = getD phases 1 nan; «lfo_phase2» = getD phases 2 nan; «sample_rate» = rate }
+
+abbrev pub chorusUnit : ℕ → List Float → Float → List Float → Device Chorus
+chorusUnit pos phases rate memory = record { state = chorusOf pos phases rate; memory = memory }
+
+-- ---- the flanger: a position, a phase and a rate
+
+abbrev pub flangerOf : ℕ → Float → Float → Flanger
+flangerOf pos phase rate = record { «write_pos» = pos; «lfo_phase» = phase; «sample_rate» = rate }
+
+abbrev pub flangerUnit : ℕ → Float → Float → List Float → Device Flanger
+flangerUnit pos phase rate memory = record { state = flangerOf pos phase rate; memory = memory }
