@@ -1,13 +1,52 @@
-// Replays stored answers of the Rust and compares them, with no Rust at hand. A file of data/ for each effect; its format is said where it is read.
-mod chorus_file;
-mod flanger_file;
-mod tremolo_file;
-mod vibrato_file;
+// Replays stored answers of the Rust and compares them, with no Rust at hand. A file of data/ for each effect; units.rt says what a record has.
+mod units;
 mod words;
 
 use libc::STDOUT_FILENO;
+use units::Unit;
 use words::Tally;
+use words::float;
 ghost use Prim.Native.Nat.{_≤_};
+ghost use lib.ListN.{length};
+
+// Whether a record of so many bytes was read.
+fn read_record(fd: i32, buffer: &mut [u8], size: usize) -> bool
+    requires { ⌜ size ≤ length (now buffer) ⌝ }
+{
+    io::read_full(fd, &mut buffer[..size]) == size
+}
+
+// The unit at the start of a file: of a tremolo nothing is stored before the records.
+fn opened(fd: i32, effect: u64, mem: &mut [f64]) -> Unit {
+    if effect == 5 {
+        return Unit::Tremolo;
+    }
+    let mut start = [0u8; 24];
+    io::read_full(fd, &mut start);
+    units::started(effect, float(&start, 1), mem)
+}
+
+// Replays the records of an open file, a million at the most.
+fn replayed(fd: i32, effect: u64, size: usize, mem: &mut [f64]) -> Tally
+    requires { ⌜ size ≤ 128 ⌝ }
+    ensures { λ r. ⌜ r .differ ≤ r .calls ⌝ }
+{
+    let mut tally = Tally {
+        calls: 0,
+        differ: 0,
+    };
+    let mut unit = opened(fd, effect, mem);
+    let mut buffer = [0u8; 128];
+    while tally.calls < 1000000 {
+        if !read_record(fd, &mut buffer, size) {
+            break;
+        }
+        let step = units::called(unit, mem, &buffer);
+        unit = step.unit;
+        tally = words::counted(tally, step.equal);
+    }
+    tally
+}
 
 fn report(name: &[u8], tally: Tally)
     requires { ⌜ tally .differ ≤ tally .calls ⌝ }
@@ -19,56 +58,23 @@ fn report(name: &[u8], tally: Tally)
     io::write_all(STDOUT_FILENO, b" differ\n");
 }
 
-fn replay_tremolo() {
-    let path = b"tremolo.bin";
-    let fd = os::open_read(path);
-    if fd < 0 {
-        os::fail(path);
-        return;
-    }
-    report(b"tremolo: ", tremolo_file::replayed(fd));
-    libc::close(fd);
-}
-
-fn replay_vibrato() {
-    let path = b"vibrato.bin";
-    let fd = os::open_read(path);
-    if fd < 0 {
-        os::fail(path);
-        return;
-    }
-    let mut mem = [0.0f64; 300];
-    report(b"vibrato: ", vibrato_file::replayed(fd, &mut mem));
-    libc::close(fd);
-}
-
-fn replay_chorus() {
-    let path = b"chorus.bin";
+// The file of the effect of that number, with records of so many bytes.
+fn replay(path: &[u8], name: &[u8], effect: u64, size: usize)
+    requires { ⌜ size ≤ 128 ⌝ }
+{
     let fd = os::open_read(path);
     if fd < 0 {
         os::fail(path);
         return;
     }
     let mut mem = [0.0f64; 1200];
-    report(b"chorus: ", chorus_file::replayed(fd, &mut mem));
-    libc::close(fd);
-}
-
-fn replay_flanger() {
-    let path = b"flanger.bin";
-    let fd = os::open_read(path);
-    if fd < 0 {
-        os::fail(path);
-        return;
-    }
-    let mut mem = [0.0f64; 300];
-    report(b"flanger: ", flanger_file::replayed(fd, &mut mem));
+    report(name, replayed(fd, effect, size, &mut mem));
     libc::close(fd);
 }
 
 fn main() {
-    replay_tremolo();
-    replay_vibrato();
-    replay_chorus();
-    replay_flanger();
+    replay(b"tremolo.bin", b"tremolo: ", 5, 88);
+    replay(b"vibrato.bin", b"vibrato: ", 4, 80);
+    replay(b"chorus.bin", b"chorus: ", 2, 128);
+    replay(b"flanger.bin", b"flanger: ", 3, 112);
 }

@@ -1,8 +1,11 @@
-// Words of a stored file, as integers and as floats, and when two floats are equal.
+// Words of a stored file, as integers and as floats, when two floats are equal, and the tally of the calls.
 ghost use Prim.Native.Nat.{_+_, _*_, _≤_, _<_};
+ghost use mathlib.Core.Path.{_≡_};
 ghost use lib.ListN.{length};
+ghost use Rattle.replay.specs.Words.{halfWord, wordOf, floatOf, Decides, countedIn};
 
 fn wide(x: u8) -> u64
+    ensures { λ r. ⌜ r ≡ x ⌝ }
     ensures { λ r. ⌜ r < 256 ⌝ }
 {
     x as u64
@@ -11,6 +14,7 @@ fn wide(x: u8) -> u64
 // Four bytes from `at` on, the lowest first.
 fn half_word(b: &[u8], at: usize) -> u64
     requires { ⌜ at + 4 ≤ length (now b) ⌝ }
+    ensures { λ r. ⌜ r ≡ halfWord (now (b .entry)) at ⌝ }
     ensures { λ r. ⌜ r < 4294967296 ⌝ }
 {
     wide(b[at]) + 256 * wide(b[at + 1]) + 65536 * wide(b[at + 2]) + 16777216 * wide(b[at + 3])
@@ -20,6 +24,7 @@ fn half_word(b: &[u8], at: usize) -> u64
 pub fn word(b: &[u8], i: usize) -> u64
     requires { ⌜ i < 16 ⌝ }
     requires { ⌜ i * 8 + 8 ≤ length (now b) ⌝ }
+    ensures { λ r. ⌜ r ≡ wordOf (now (b .entry)) i ⌝ }
 {
     let at = i * 8;
     half_word(b, at) + 4294967296 * half_word(b, at + 4)
@@ -29,6 +34,7 @@ pub fn word(b: &[u8], i: usize) -> u64
 pub fn float(b: &[u8], i: usize) -> f64
     requires { ⌜ i < 16 ⌝ }
     requires { ⌜ i * 8 + 8 ≤ length (now b) ⌝ }
+    ensures { λ r. ⌜ r ≡ floatOf (now (b .entry)) i ⌝ }
 {
     let bits = word(b, i);
     if bits % 9223372036854775808 > 9218868437227405312 {
@@ -38,16 +44,16 @@ pub fn float(b: &[u8], i: usize) -> f64
 }
 
 // Equal by bits, every NaN as one value.
-pub fn same(x: f64, y: f64) -> bool {
+pub fn same(x: f64, y: f64) -> bool
+    ensures { λ r. ⌜ Decides r x y ⌝ }
+{
     if float64::is_nan(x) {
         return float64::is_nan(y);
     }
-    if x == 0.0 {
-        if y == 0.0 {
-            return 1.0 / x == 1.0 / y;
-        }
+    if float64::is_nan(y) {
+        return false;
     }
-    x == y
+    f64::to_bits(x) == f64::to_bits(y)
 }
 
 // How many calls were replayed, and how many of them differ.
@@ -59,7 +65,8 @@ pub struct Tally {
 // One call more, and one more that differs unless it is equal.
 pub fn counted(tally: Tally, equal: bool) -> Tally
     requires { ⌜ (tally .calls < 1000000) × (tally .differ ≤ tally .calls) ⌝ }
-    ensures { λ r. ⌜ (r .calls ≤ tally .calls + 1) × (tally .calls + 1 ≤ r .calls) × (r .differ ≤ r .calls) ⌝ }
+    ensures { λ r. ⌜ r ≡ countedIn tally equal ⌝ }
+    ensures { λ r. ⌜ r .differ ≤ r .calls ⌝ }
 {
     let calls = tally.calls + 1;
     if equal {

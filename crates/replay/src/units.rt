@@ -1,0 +1,260 @@
+// The units whose calls are stored, and what a record of a file says. A record's words, for each effect:
+//   tremolo, 11: 5; the phase before, the rate; the mask of set ports; audio, depth, shape; frequency, sine; the phase after; the sample
+//   vibrato, 10: the call; the mask; audio, depth, mix; frequency, sine; the sample; the position and the phase after
+//   chorus, 16: the call; the mask; audio, depth, mix; frequency, three sines; three samples; the position and the three phases after
+//   flanger, 14: the call; the mask; audio, depth, feedback, mix; frequency, two sines; three samples; the position and the phase after
+// The call is 0 tick, 1 retune (the new rate stands for the mix) or 2 reset. A tremolo's record has its own state before the tick; the others are calls
+// of one unit from its start on, which stands before them in three words: 2 chorus, 3 flanger or 4 vibrato; the rate; the places that the Rust needed.
+ghost use Prim.Native.Nat.{_<_};
+use crate::words::float;
+use crate::words::same;
+use crate::words::word;
+use chorus::Chorus;
+use flanger::Flanger;
+use port::Answer;
+use port::Outcome;
+use port::Port;
+use port::port_if;
+use tremolo::Tremolo;
+use vibrato::Vibrato;
+
+pub enum Unit {
+    Tremolo,
+    Vibrato(Vibrato),
+    Chorus(Chorus),
+    Flanger(Flanger),
+}
+
+// A unit after a call, and whether the call left and answered what is stored.
+pub struct Step {
+    pub unit: Unit,
+    pub equal: bool,
+}
+
+// The port of the weight 1, 2, 4, .. in the mask, with the number in word i.
+fn port(b: &[u8; 128], set: u64, i: usize) -> Port
+    requires { ⌜ i < 16 ⌝ }
+{
+    port_if(set % 2 == 1, float(b, i))
+}
+
+// The unit that an accepted start leaves.
+pub fn started(effect: u64, rate: f64, mem: &mut [f64]) -> Unit {
+    if effect == 2 {
+        let started = Chorus::new(rate, mem);
+        let state = started.state;
+        return Unit::Chorus(state);
+    }
+    if effect == 3 {
+        let started = Flanger::new(rate, mem);
+        let state = started.state;
+        return Unit::Flanger(state);
+    }
+    if effect == 4 {
+        let started = Vibrato::new(rate, mem);
+        let state = started.state;
+        return Unit::Vibrato(state);
+    }
+    Unit::Tremolo
+}
+
+// Whether the unit after a call is the one stored.
+fn left(unit: Unit, b: &[u8; 128]) -> bool {
+    match unit {
+        Unit::Tremolo => true,
+        Unit::Vibrato(v) => (v.write_pos == word(b, 8)) & same(v.lfo_phase, float(b, 9)),
+        Unit::Chorus(c) => {
+            (c.write_pos == word(b, 12))
+                & same(c.lfo_phase0, float(b, 13))
+                & same(c.lfo_phase1, float(b, 14))
+                & same(c.lfo_phase2, float(b, 15))
+        }
+        Unit::Flanger(f) => (f.write_pos == word(b, 12)) & same(f.lfo_phase, float(b, 13)),
+    }
+}
+
+// Whether a tick was accepted with the samples stored from word i on.
+fn one_sample(answer: Answer, b: &[u8; 128], i: usize) -> bool
+    requires { ⌜ i < 16 ⌝ }
+{
+    (answer.number() == 0) & same(answer.first(), float(b, i))
+}
+
+fn three_samples(answer: Answer, b: &[u8; 128], i: usize) -> bool
+    requires { ⌜ i < 14 ⌝ }
+{
+    one_sample(answer, b, i)
+        & same(answer.second(), float(b, i + 1))
+        & same(answer.third(), float(b, i + 2))
+}
+
+// Whether a tremolo's tick gives the stored phase and sample.
+fn tick_tremolo(b: &[u8; 128]) -> Step {
+    let state = Tremolo {
+        lfo_phase: float(b, 1),
+        sample_rate: float(b, 2),
+    };
+    let set = word(b, 3);
+    let ticked = state.tick(
+        port(b, set, 4),
+        port(b, set / 2, 5),
+        port(b, set / 4, 6),
+        float(b, 7),
+        float(b, 8),
+    );
+    let answer = ticked.answer;
+    Step {
+        unit: Unit::Tremolo,
+        equal: one_sample(answer, b, 10) & same(ticked.state.lfo_phase, float(b, 9)),
+    }
+}
+
+fn tick_vibrato(state: Vibrato, mem: &mut [f64], b: &[u8; 128]) -> Step {
+    let set = word(b, 1);
+    let ticked = state.tick(
+        mem,
+        port(b, set, 2),
+        port(b, set / 2, 3),
+        port(b, set / 4, 4),
+        float(b, 5),
+        float(b, 6),
+    );
+    let next = ticked.state;
+    let answer = ticked.answer;
+    Step {
+        unit: Unit::Vibrato(next),
+        equal: one_sample(answer, b, 7),
+    }
+}
+
+fn tick_chorus(state: Chorus, mem: &mut [f64], b: &[u8; 128]) -> Step {
+    let set = word(b, 1);
+    let ticked = state.tick(
+        mem,
+        port(b, set, 2),
+        port(b, set / 2, 3),
+        port(b, set / 4, 4),
+        float(b, 5),
+        float(b, 6),
+        float(b, 7),
+        float(b, 8),
+    );
+    let next = ticked.state;
+    let answer = ticked.answer;
+    Step {
+        unit: Unit::Chorus(next),
+        equal: three_samples(answer, b, 9),
+    }
+}
+
+fn tick_flanger(state: Flanger, mem: &mut [f64], b: &[u8; 128]) -> Step {
+    let set = word(b, 1);
+    let ticked = state.tick(
+        mem,
+        port(b, set, 2),
+        port(b, set / 2, 3),
+        port(b, set / 4, 4),
+        port(b, set / 8, 5),
+        float(b, 6),
+        float(b, 7),
+        float(b, 8),
+    );
+    let next = ticked.state;
+    let answer = ticked.answer;
+    Step {
+        unit: Unit::Flanger(next),
+        equal: three_samples(answer, b, 9),
+    }
+}
+
+fn tick(unit: Unit, mem: &mut [f64], b: &[u8; 128]) -> Step {
+    match unit {
+        Unit::Tremolo => tick_tremolo(b),
+        Unit::Vibrato(v) => tick_vibrato(v, mem, b),
+        Unit::Chorus(c) => tick_chorus(c, mem, b),
+        Unit::Flanger(f) => tick_flanger(f, mem, b),
+    }
+}
+
+// A clearing is equal where it is accepted.
+fn cleared(unit: Unit, outcome: Outcome) -> Step {
+    Step {
+        unit,
+        equal: outcome.number() == 0,
+    }
+}
+
+fn retune(unit: Unit, mem: &mut [f64], b: &[u8; 128]) -> Step {
+    match unit {
+        Unit::Tremolo => Step {
+            unit,
+            equal: false,
+        },
+        Unit::Vibrato(v) => {
+            let r = v.set_sample_rate(float(b, 4), mem);
+            let next = r.state;
+            let outcome = r.outcome;
+            cleared(Unit::Vibrato(next), outcome)
+        }
+        Unit::Chorus(c) => {
+            let r = c.set_sample_rate(float(b, 4), mem);
+            let next = r.state;
+            let outcome = r.outcome;
+            cleared(Unit::Chorus(next), outcome)
+        }
+        Unit::Flanger(f) => {
+            let r = f.set_sample_rate(float(b, 5), mem);
+            let next = r.state;
+            let outcome = r.outcome;
+            cleared(Unit::Flanger(next), outcome)
+        }
+    }
+}
+
+fn reset(unit: Unit, mem: &mut [f64]) -> Step {
+    match unit {
+        Unit::Tremolo => Step {
+            unit,
+            equal: false,
+        },
+        Unit::Vibrato(v) => {
+            let r = v.reset(mem);
+            let next = r.state;
+            let outcome = r.outcome;
+            cleared(Unit::Vibrato(next), outcome)
+        }
+        Unit::Chorus(c) => {
+            let r = c.reset(mem);
+            let next = r.state;
+            let outcome = r.outcome;
+            cleared(Unit::Chorus(next), outcome)
+        }
+        Unit::Flanger(f) => {
+            let r = f.reset(mem);
+            let next = r.state;
+            let outcome = r.outcome;
+            cleared(Unit::Flanger(next), outcome)
+        }
+    }
+}
+
+fn call(unit: Unit, mem: &mut [f64], b: &[u8; 128]) -> Step {
+    let code = word(b, 0);
+    if code == 1 {
+        return retune(unit, mem, b);
+    }
+    if code == 2 {
+        return reset(unit, mem);
+    }
+    tick(unit, mem, b)
+}
+
+// A record's call, of the unit.
+pub fn called(unit: Unit, mem: &mut [f64], b: &[u8; 128]) -> Step {
+    let step = call(unit, mem, b);
+    let after = step.unit;
+    Step {
+        unit: after,
+        equal: step.equal & left(after, b),
+    }
+}
