@@ -3,6 +3,7 @@
 use Prim.Native.Nat.{ℕ, zero, suc}
 use mathlib.Core.Path.{_≡_, refl, sym, ap, _∙_, subst}
 use mathlib.Core.Logic.{_≢_}
+use mathlib.Core.Bool.{Bool, true, false, cond}
 use mathlib.Core.List.{List}
 use lib.Ieee.{Float}
 use Rattle.port.specs.Answer.{Reply, refused, replyNumber, replySilent}
@@ -11,6 +12,7 @@ use Rattle.effect.specs.Run.{tick, retune, reset, ask, CallOf, Device, ifNone, 
 use Rattle.effect.specs.Contract.{Does, Starts}
 use Rattle.effect.proofs.Laws.{Laws}
 use Rattle.effect.proofs.Table.{ifNone-both}
+use Rattle.room_effects.specs.Units.{isOn}
 use Rattle.room_effects.specs.Lent.{samplesFrom, Began, Called, Ticked, Asked}
 
 -- a call whose answer has a number leaves the unit as it was
@@ -26,6 +28,12 @@ refused-keeps E c h some = go (numberAt E c h) some
     go : (k : ℕ) → replyNumber (ifNone k (says E c h) (refused k)) ≢ 0 → ifNone k (moved E c h) h ≡ h
     go zero f = absurd (f (accepted c))
     go (suc k) f = refl
+
+-- ---- a flag that is written as 0 or 1 is on where it was
+
+pub on-flag : {n : ℕ} (b : Bool) → n ≡ cond b 1 0 → isOn n ≡ b
+on-flag true e = rw e
+on-flag false e = rw e
 
 -- ---- a start: the state written, s, is the one given
 

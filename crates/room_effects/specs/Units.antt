@@ -1,9 +1,12 @@
 -- Each effect's unit in lent numbers: its state, and the memory lent to it. Definitions only. Assumes nothing.
 use Prim.Native.Nat.{ℕ}
+use mathlib.Core.Bool.{Bool, not}
 use mathlib.Core.List.{List, []}
+use lib.Dec.{eqb}
 use lib.ListN.{getD}
 use lib.Ieee.{Float, nan}
 use Rattle.effect.specs.Run.{Device}
+use Rattle.delay_line.specs.declared.DelayLine.{DelayLine}
 use Rattle.tremolo.specs.declared.Tremolo.{Tremolo}
 use Rattle.vibrato.specs.declared.Vibrato.{Vibrato}
 use Rattle.chorus.specs.declared.Chorus.{Chorus}
@@ -41,3 +44,24 @@ flangerOf pos phase rate = record { «write_pos» = pos; «lfo_phase» = phase; 
 
 abbrev pub flangerUnit : ℕ → Float → Float → List Float → Device Flanger
 flangerUnit pos phase rate memory = record { state = flangerOf pos phase rate; memory = memory }
+
+-- ---- the delay: a position, the glide's distance, whether it is primed, and the settings. A flag is a number: 0 is off, any other is on
+
+abbrev pub isOn : ℕ → Bool
+isOn n = not (eqb n 0)
+
+abbrev pub delayOf : ℕ → Float → Bool → Float → Float → Float → Bool → DelayLine
+delayOf pos distance primed rate coefficient maximum linear =
+    record {
+      «write_pos» = pos;
+      «sample_rate» = rate;
+      «max_delay_secs» = maximum;
+      «linear_time» = linear;
+      «smoothed_delay» = distance;
+      «delay_smooth_coef» = coefficient;
+      «delay_primed» = primed;
+    }
+
+abbrev pub delayUnit : ℕ → Float → ℕ → Float → Float → Float → ℕ → List Float → Device DelayLine
+delayUnit pos distance primed rate coefficient maximum linear memory =
+    record { state = delayOf pos distance (isOn primed) rate coefficient maximum (isOn linear); memory = memory }

@@ -1,6 +1,5 @@
 -- `replay::words::counted`: the tally by whether the call is equal. Assumes nothing.
 use native.Mathlib.Omega.{arith}
-use mathlib.Core.Path.{_≡_}
 use borrow.Author.Needs.{needs}
 use Rattle.replay.proofs.words.counted.Statement.{statement}
 use Rattle.replay.proofs.words.counted.Tie as tie

@@ -1,0 +1,50 @@
+-- `room_raw_delay_reset` is `DelayLine::reset`, its state without the settings written back where it is accepted. Assumes nothing.
+use mathlib.Core.Path.{sym, _∙_}
+use borrow.Author.Needs.{needs}
+use Rattle.effect.specs.Run.{Device, reset}
+use Rattle.delay_line.specs.declared.DelayLine.{DelayLine}
+use Rattle.delay_line.specs.DelayLine.{delayLine}
+use Rattle.delay_line.proofs.Demand1.{laws}
+use Rattle.room_effects.specs.Units.{delayOf, delayUnit}
+use Rattle.room_effects.proofs.Laws.{on-flag, stored, kept, reset-settings}
+use Rattle.room_effects.proofs.delay_calls.room_raw_delay_reset.Statement.{statement}
+use Rattle.room_effects.proofs.delay_calls.room_raw_delay_reset.Tie as tie
+
+-- the delay handed over
+abbrev unit : tie.Start → Device DelayLine
+unit s =
+    let a = s .args in
+    delayUnit (a .pos .now) (a .distance .now) (a .primed .now) (a .rate) (a .coefficient) (a .maximum) (a .linear) (a .memory .now)
+
+reset-requires : tie.Need-reset-requires
+reset-requires c κs = search needs
+
+number-requires : tie.Need-number-requires
+number-requires c κs = search needs
+
+same-length : tie.Need-same-length
+same-length c = search needs
+
+returns : tie.Need-returns
+returns c =
+    let inner = c .before .before .before .before in
+    kept delayLine reset (unit (inner .before .before .before .before .before)) (inner .reset .ensures) (c .before .number .ensures) (c .if1 .taken)
+
+flag-requires : tie.Need-flag-requires
+flag-requires c κs = search needs
+
+same-length-2 : tie.Need-same-length-2
+same-length-2 c = search needs
+
+returns-2 : tie.Need-returns-2
+returns-2 c =
+    let left = c .before in
+    let inner = left .before .before .before .before in
+    let n = inner .reset .result .state in
+    let primed = on-flag (n .«delay_primed») (c .flag .ensures) in
+    let settings = reset-settings delayLine laws (inner .reset .ensures) in
+    stored delayLine reset (unit (inner .before .before .before .before .before)) (inner .reset .ensures) (sym (left .if1 .left) ∙ left .before .number .ensures)
+    (λ i. delayOf (n .«write_pos») (n .«smoothed_delay») (primed i) (settings i .rate) (settings i .coefficient) (settings i .maximum) (settings i .linear))
+
+pub room-raw-delay-reset-spec : {M : Type 1} → statement M
+room-raw-delay-reset-spec = tie.close (tie.spec reset-requires number-requires same-length returns flag-requires same-length-2 returns-2)

@@ -1,0 +1,65 @@
+-- `room_raw_delay_retune` is `DelayLine::set_sample_rate`, its state without maximum and mode, which it keeps, written back where it is accepted. Assumes nothing.
+use mathlib.Core.Path.{_≡_, refl, sym, ap, _∙_}
+use borrow.Author.Needs.{needs}
+use Rattle.effect.specs.Run.{Device, retune, numberAt, step}
+use Rattle.effect.proofs.Table.{ifNone-both}
+use Rattle.delay_line.specs.declared.DelayLine.{DelayLine}
+use Rattle.delay_line.specs.DelayLine.{Retune, delayLine, retuning}
+use Rattle.room_effects.specs.Units.{delayOf, delayUnit}
+use Rattle.room_effects.proofs.Laws.{on-flag, stored, kept}
+use Rattle.room_effects.proofs.delay_calls.room_raw_delay_retune.Statement.{statement}
+use Rattle.room_effects.proofs.delay_calls.room_raw_delay_retune.Tie as tie
+
+-- the delay handed over, and the call
+abbrev unit : tie.Start → Device DelayLine
+unit s =
+    let a = s .args in
+    delayUnit (a .pos .now) (a .distance .now) (a .primed .now) (a .rate .now) (a .coefficient .now) (a .maximum) (a .linear) (a .memory .now)
+
+abbrev handed : tie.Start → Retune
+handed s = retuning (s .args .sample-rate) (s .args .coef)
+
+-- a retune keeps the maximum and the mode
+keeps-maximum : (r : Retune) (h : Device DelayLine) → h .state .«max_delay_secs» ≡ step delayLine (retune r) h .state .«max_delay_secs»
+keeps-maximum r h = ifNone-both (λ (u : Device DelayLine). h .state .«max_delay_secs» ≡ u .state .«max_delay_secs») (numberAt delayLine (retune r) h) refl refl
+
+keeps-mode : (r : Retune) (h : Device DelayLine) → h .state .«linear_time» ≡ step delayLine (retune r) h .state .«linear_time»
+keeps-mode r h = ifNone-both (λ (u : Device DelayLine). h .state .«linear_time» ≡ u .state .«linear_time») (numberAt delayLine (retune r) h) refl refl
+
+set-sample-rate-requires : tie.Need-set-sample-rate-requires
+set-sample-rate-requires c κs = search needs
+
+number-requires : tie.Need-number-requires
+number-requires c κs = search needs
+
+same-length : tie.Need-same-length
+same-length c = search needs
+
+returns : tie.Need-returns
+returns c =
+    let inner = c .before .before .before .before in
+    let s = inner .before .before .before .before .before in
+    kept delayLine (retune (handed s)) (unit s) (inner .set-sample-rate .ensures) (c .before .number .ensures) (c .if1 .taken)
+
+flag-requires : tie.Need-flag-requires
+flag-requires c κs = search needs
+
+same-length-2 : tie.Need-same-length-2
+same-length-2 c = search needs
+
+returns-2 : tie.Need-returns-2
+returns-2 c =
+    let left = c .before in
+    let inner = left .before .before .before .before in
+    let s = inner .before .before .before .before .before in
+    let does = inner .set-sample-rate .ensures in
+    let n = inner .set-sample-rate .result .state in
+    let primed = on-flag (n .«delay_primed») (c .flag .ensures) in
+    let maximum = keeps-maximum (handed s) (unit s) ∙ ap (λ (u : DelayLine). u .«max_delay_secs») (sym (does .state)) in
+    let linear = keeps-mode (handed s) (unit s) ∙ ap (λ (u : DelayLine). u .«linear_time») (sym (does .state)) in
+    stored delayLine (retune (handed s)) (unit s) does (sym (left .if1 .left) ∙ left .before .number .ensures)
+    (λ i. delayOf (n .«write_pos») (n .«smoothed_delay») (primed i) (n .«sample_rate») (n .«delay_smooth_coef») (maximum i) (linear i))
+
+pub room-raw-delay-retune-spec : {M : Type 1} → statement M
+room-raw-delay-retune-spec =
+    tie.close (tie.spec set-sample-rate-requires number-requires same-length returns flag-requires same-length-2 returns-2)

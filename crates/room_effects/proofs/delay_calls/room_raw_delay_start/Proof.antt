@@ -1,0 +1,35 @@
+-- `room_raw_delay_start` writes the state that `DelayLine::with_max_delay` gives, and returns its number. Assumes nothing.
+use borrow.Author.Needs.{needs}
+use Rattle.delay_line.specs.DelayLine.{delayLine}
+use Rattle.room_effects.specs.Units.{delayOf}
+use Rattle.room_effects.proofs.Laws.{on-flag, began}
+use Rattle.room_effects.proofs.delay_calls.room_raw_delay_start.Statement.{statement}
+use Rattle.room_effects.proofs.delay_calls.room_raw_delay_start.Tie as tie
+
+with-max-delay-requires : tie.Need-with-max-delay-requires
+with-max-delay-requires c κs = search needs
+
+flag-requires : tie.Need-flag-requires
+flag-requires c κs = search needs
+
+flag-requires-2 : tie.Need-flag-requires-2
+flag-requires-2 c κs = search needs
+
+number-requires : tie.Need-number-requires
+number-requires c κs = search needs
+
+same-length : tie.Need-same-length
+same-length c = search needs
+
+returns : tie.Need-returns
+returns c =
+    let inner = c .before .before .before .before .before in
+    let s = inner .with-max-delay .result .state in
+    let primed = on-flag (s .«delay_primed») (c .before .before .flag .ensures) in
+    let linear = on-flag (s .«linear_time») (c .before .flag2 .ensures) in
+    began delayLine (inner .with-max-delay .ensures)
+    (λ i. delayOf (s .«write_pos») (s .«smoothed_delay») (primed i) (s .«sample_rate») (s .«delay_smooth_coef») (s .«max_delay_secs») (linear i))
+    (c .number .ensures)
+
+pub room-raw-delay-start-spec : {M : Type 1} → statement M
+room-raw-delay-start-spec = tie.close (tie.spec with-max-delay-requires flag-requires flag-requires-2 number-requires same-length returns)

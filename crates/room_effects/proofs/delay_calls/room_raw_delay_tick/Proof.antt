@@ -1,0 +1,105 @@
+-- `room_raw_delay_tick` is `DelayLine::tick` with the ports of the mask, its state without the settings written back where it is accepted. Assumes nothing.
+use mathlib.Core.Path.{sym, _∙_}
+use mathlib.Core.List.{[], _∷_}
+use borrow.Author.Needs.{needs}
+use Rattle.port.specs.Answer.{answerReply}
+use Rattle.effect.specs.Run.{Device, tick}
+use Rattle.effect.specs.Contract.{Does}
+use Rattle.delay_line.specs.declared.DelayLine.{DelayLine}
+use Rattle.delay_line.specs.DelayLine.{Tick, delayLine, ticked}
+use Rattle.delay_line.proofs.Demand1.{laws}
+use Rattle.room_effects.specs.Ports.{portAt}
+use Rattle.room_effects.specs.Units.{delayOf, delayUnit}
+use Rattle.room_effects.proofs.Laws.{of-tick, on-flag, stored, kept, tick-settings, played}
+use Rattle.room_effects.proofs.delay_calls.room_raw_delay_tick.Statement.{statement}
+use Rattle.room_effects.proofs.delay_calls.room_raw_delay_tick.Tie as tie
+
+-- what the tick is handed, and the delay
+abbrev handed : tie.Start → Tick
+handed s =
+    let a = s .args in
+    ticked (portAt (a .set) 1 (a .audio)) (portAt (a .set) 2 (a .time)) (portAt (a .set) 4 (a .feedback)) (portAt (a .set) 8 (a .mix)) (a .milliseconds)
+
+abbrev unit : tie.Start → Device DelayLine
+unit s =
+    let a = s .args in
+    delayUnit (a .pos .now) (a .distance .now) (a .primed .now) (a .rate) (a .coefficient) (a .maximum) (a .linear) (a .memory .now)
+
+-- the inner tick, with the ports as the mask has them
+module _ (c : tie.After-tick) where
+  abbrev start : tie.Start
+  start = c .before .before .before .before .before .before .before .before .before
+
+  does : Does delayLine (tick (handed start)) (unit start .state) (unit start .memory) (c .tick .result .state) (c .tick .last .1 .0) (answerReply (c .tick .result .answer))
+  does =
+      of-tick delayLine (unit start .state)
+      (λ i. ticked (c .before .before .before .before .port-if .ensures i) (c .before .before .before .port-if2 .ensures i) (c .before .before .port-if3 .ensures i) (c .before .port-if4 .ensures i) (start .args .milliseconds))
+      (c .tick .ensures)
+
+port-if-requires : tie.Need-port-if-requires
+port-if-requires c κs = search needs
+
+port-if-requires-2 : tie.Need-port-if-requires-2
+port-if-requires-2 c κs = search needs
+
+port-if-requires-3 : tie.Need-port-if-requires-3
+port-if-requires-3 c κs = search needs
+
+port-if-requires-4 : tie.Need-port-if-requires-4
+port-if-requires-4 c κs = search needs
+
+tick-requires : tie.Need-tick-requires
+tick-requires c κs = search needs
+
+number-requires : tie.Need-number-requires
+number-requires c κs = search needs
+
+first-requires : tie.Need-first-requires
+first-requires c κs = search needs
+
+same-length : tie.Need-same-length
+same-length c = search needs
+
+returns : tie.Need-returns
+returns c =
+    let numbered = c .before .before in
+    let inner = numbered .before .before .before in
+    let s = start inner in
+    played delayLine 1 (does inner) (kept delayLine (tick (handed s)) (unit s) (does inner) (numbered .number .ensures) (c .if1 .taken)) (λ i. c .before .first .ensures i ∷ [])
+
+flag-requires : tie.Need-flag-requires
+flag-requires c κs = search needs
+
+same-length-2 : tie.Need-same-length-2
+same-length-2 c = search needs
+
+returns-2 : tie.Need-returns-2
+returns-2 c =
+    let left = c .before in
+    let numbered = left .before .before in
+    let inner = numbered .before .before .before in
+    let s = start inner in
+    let n = inner .tick .result .state in
+    let primed = on-flag (n .«delay_primed») (c .flag .ensures) in
+    let settings = tick-settings delayLine laws (does inner) in
+    played delayLine 1 (does inner)
+    (stored delayLine (tick (handed s)) (unit s) (does inner) (sym (left .if1 .left) ∙ numbered .number .ensures)
+    (λ i. delayOf (n .«write_pos») (n .«smoothed_delay») (primed i) (settings i .rate) (settings i .coefficient) (settings i .maximum) (settings i .linear)))
+    (λ i. left .before .first .ensures i ∷ [])
+
+pub room-raw-delay-tick-spec : {M : Type 1} → statement M
+room-raw-delay-tick-spec =
+    tie.close
+    (tie.spec
+    port-if-requires
+    port-if-requires-2
+    port-if-requires-3
+    port-if-requires-4
+    tick-requires
+    number-requires
+    first-requires
+    same-length
+    returns
+    flag-requires
+    same-length-2
+    returns-2)
