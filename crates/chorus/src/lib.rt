@@ -10,6 +10,7 @@ ghost use Rattle.port.specs.Answer.{numberOf, outcomeReply, answerReply, silenc
 ghost use Rattle.common.specs.Line.{zeros, lineAt, readAt, nextPlace};
 ghost use Rattle.effect.specs.Run.{tick, retune, reset, ask, startNumber, numberIn};
 ghost use Rattle.effect.specs.Contract.{Does, Starts};
+ghost use Rattle.effect.specs.Needed.{placesNeeded};
 ghost use Rattle.chorus.specs.Chorus.{chorus, ticked, lineLength, phasesOf, nextPhases, fresh, fits, mixed};
 use port::Answer;
 use port::Outcome;
@@ -52,6 +53,17 @@ impl Chorus {
         } else {
             0
         }
+    }
+
+    // The places that a start needs at the rate; 2^64 - 1 for a rate that is refused.
+    pub fn places_needed(rate: f64) -> u64
+        ensures { λ r. ⌜ r ≡ placesNeeded chorus rate ⌝ }
+    {
+        let n = Chorus::line_length(rate);
+        if n == 0 {
+            return 0xffff_ffff_ffff_ffff;
+        }
+        3 * n
     }
 
     // The state after a start and a reset.

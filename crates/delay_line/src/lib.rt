@@ -1,6 +1,6 @@
 // The delay line: one line in lent memory, fed back into itself, read at a distance that glides to the delay time. The state goes in and out by value.
 ghost use mathlib.Core.Path.{_≡_};
-ghost use mathlib.Core.Bool.{true, cond, _&&_};
+ghost use mathlib.Core.Bool.{true, false, cond, _&&_};
 ghost use Prim.Native.Nat.{_-_, _≤_, _<_};
 ghost use lib.ListN.{length};
 ghost use lib.Ieee.{binary64, mul};
@@ -9,7 +9,8 @@ ghost use Rattle.port.specs.declared.Port.the-variants.{Set};
 ghost use Rattle.port.specs.Answer.{numberOf, outcomeReply, answerReply, silenceReply};
 ghost use Rattle.effect.specs.Run.{tick, retune, reset, ask, first, memoryNumber, numberIn};
 ghost use Rattle.effect.specs.Contract.{Does, Starts};
-ghost use Rattle.delay_line.specs.DelayLine.{delayLine, handing, retuning, ticked, heldMaximum, settingsNumber, maximumFits, lineLength, cleared, glideFits, fits, targetDelay, glided, moved};
+ghost use Rattle.effect.specs.Needed.{placesNeeded};
+ghost use Rattle.delay_line.specs.DelayLine.{delayLine, handing, startSettings, retuning, ticked, heldMaximum, settingsNumber, maximumFits, lineLength, cleared, glideFits, fits, targetDelay, glided, moved};
 use port::Answer;
 use port::Outcome;
 use port::Port;
@@ -68,6 +69,17 @@ impl DelayLine {
             return 0;
         }
         float64::whole_part_small(rate * maximum) + 1
+    }
+
+    // The places that a start needs at the rate, with a maximum still to be held; 2^64 - 1 for a rate that is refused. The coefficient has no part in it.
+    pub fn places_needed(rate: f64, seconds: f64) -> u64
+        ensures { λ r. ⌜ r ≡ placesNeeded delayLine (startSettings (handing rate plusZero seconds false)) ⌝ }
+    {
+        let n = DelayLine::line_length(rate, DelayLine::held_maximum(seconds));
+        if n == 0 {
+            return 0xffff_ffff_ffff_ffff;
+        }
+        n
     }
 
     // Position 0 and the glide unprimed, with these settings.

@@ -2,6 +2,7 @@ pub mod Laws
 pub mod Memory
 pub mod Table
 pub mod Contract
+pub mod Needed
 pub mod Rows
 pub mod Runs
 pub mod Demand1

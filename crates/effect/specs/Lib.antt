@@ -1,6 +1,7 @@
 pub mod Effect
 pub mod Run
 pub mod Contract
+pub mod Needed
 pub mod Told
 pub mod Demand1
 pub mod Lines

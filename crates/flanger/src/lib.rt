@@ -11,6 +11,7 @@ ghost use Rattle.common.specs.Signal.{advanced};
 ghost use Rattle.common.specs.Line.{lineAt, readAt, nextPlace};
 ghost use Rattle.effect.specs.Run.{tick, retune, reset, ask, startNumber, numberIn};
 ghost use Rattle.effect.specs.Contract.{Does, Starts};
+ghost use Rattle.effect.specs.Needed.{placesNeeded};
 ghost use Rattle.flanger.specs.Flanger.{flanger, ticked, lineLength, cleared, fits, distance};
 use port::Answer;
 use port::Outcome;
@@ -47,6 +48,17 @@ impl Flanger {
             return 0;
         }
         float64::whole_part_small(rate * Flanger::MAX_DELAY_MS / 1000.0) + 10
+    }
+
+    // The places that a start needs at the rate; 2^64 - 1 for a rate that is refused.
+    pub fn places_needed(rate: f64) -> u64
+        ensures { λ r. ⌜ r ≡ placesNeeded flanger rate ⌝ }
+    {
+        let n = Flanger::line_length(rate);
+        if n == 0 {
+            return 0xffff_ffff_ffff_ffff;
+        }
+        2 * n
     }
 
     // Position 0, with the phase and the rate.

@@ -4,6 +4,7 @@ ghost use mathlib.Core.List.{[]};
 ghost use Rattle.port.specs.Answer.{outcomeReply, answerReply, silenceReply};
 ghost use Rattle.effect.specs.Run.{tick, reset, ask};
 ghost use Rattle.effect.specs.Contract.{Does, Starts};
+ghost use Rattle.effect.specs.Needed.{placesNeeded};
 ghost use Rattle.tremolo.specs.Tremolo.{tremolo, ticked, fits, triangle, lfo, modulated};
 use port::Answer;
 use port::Outcome;
@@ -49,6 +50,16 @@ impl Tremolo {
             },
             outcome: Outcome::Accepted,
         }
+    }
+
+    // The places that a start needs at the rate: none; 2^64 - 1 for a rate that is refused.
+    pub fn places_needed(rate: f64) -> u64
+        ensures { λ r. ⌜ r ≡ placesNeeded tremolo rate ⌝ }
+    {
+        if !float64::rate_fits(rate) {
+            return 0xffff_ffff_ffff_ffff;
+        }
+        0
     }
 
     // The state test.

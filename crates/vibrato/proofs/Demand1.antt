@@ -15,7 +15,7 @@ use Rattle.effect.specs.Demand1.{Demand1}
 use Rattle.effect.proofs.Demand1.{demand-1}
 use Rattle.vibrato.specs.declared.Vibrato.{Vibrato}
 use Rattle.vibrato.specs.Vibrato.{Tick, vibrato, fits, fresh, blank, lineLength, tickNumber, next, writes}
-use Rattle.vibrato.proofs.Laws.{length-in, passed, handed}
+use Rattle.vibrato.proofs.Laws.{length-fits, passed, handed}
 
 -- ---- the laws
 
@@ -29,7 +29,7 @@ zero-phase = refl
 
 fresh-fits : (rate : Float) → rateFits rate ≡ true → fits (fresh rate) ≡ true
 unfolding fits
-fresh-fits rate h = rw (h, lt-ltb 0 (lineLength rate) (omega (arith, length-in rate h)), zero-phase)
+fresh-fits rate h = rw (h, lt-ltb 0 (lineLength rate) (omega (arith, length-fits rate h)), zero-phase)
 
 next-fits : (t : Tick) (s : Vibrato) → fits s ≡ true → tickNumber t ≡ 0 → fits (next t s) ≡ true
 unfolding fits next

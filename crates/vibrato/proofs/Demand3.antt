@@ -19,7 +19,7 @@ use Rattle.effect.proofs.Demand3.{demand-3}
 use Rattle.effect.proofs.Covers.{covers}
 use Rattle.vibrato.specs.declared.Vibrato.{Vibrato}
 use Rattle.vibrato.specs.Vibrato.{Tick, vibrato, lines, fits, lineLength, tickNumber, input, depth, mix, distance, delayed, next, writes, sample}
-use Rattle.vibrato.proofs.Laws.{length-in, passed, handed}
+use Rattle.vibrato.proofs.Laws.{length-fits, passed, handed}
 use Rattle.vibrato.proofs.Distance.{distance-in}
 use Rattle.vibrato.proofs.Demand1.{laws}
 
@@ -35,7 +35,7 @@ plays t s m l f n e =
     let rate = s .«sample_rate» in
     let p = passed s f in
     let h = handed t n in
-    let long = length-in rate (p .rate) in
+    let long = length-fits rate (p .rate) in
     let d = parts-of (lineLength rate - 1) (omega arith) (distance-in rate (t .depth) (t .sine) (p .rate) (h .depth) (h .sine)) in
     ap (λ (x : Float). blended (input t) x (mix t))
     (read-of 0 0 (lineLength rate) (s .«write_pos») m l (distance rate (depth t) (t .sine)) (zero-mul (lineLength rate)) e (d .at-least) (omega (arith, d .at-most)))

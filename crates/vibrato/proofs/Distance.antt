@@ -13,7 +13,7 @@ use Rattle.port.specs.declared.Port.{Port}
 use Rattle.port.specs.Port.{valueOr, isNanSet}
 use Rattle.common.proofs.Sweep.{value-number}
 use Rattle.vibrato.specs.Vibrato.{lineLength, distance}
-use Rattle.vibrato.proofs.Laws.{length-in}
+use Rattle.vibrato.proofs.Laws.{length-fits}
 
 -- (10 + sine × (depth × 10 × 0.9)) × rate / 1000
 abbrev swept : Float → Float → Float → Float
@@ -32,7 +32,7 @@ pub distance-in : (rate : Float) (p : Port) (sine : Float) → rateFits rate ≡
     → In binary64 (whole 1) (whole (lineLength rate - 1)) (distance rate (clampOf (valueOr p half) plusZero (whole 1)) sine)
 unfolding distance fits isNumber isNan le ofInt round
 distance-in rate p sine r d s =
-    let l = length-in rate r in
+    let l = length-fits rate r in
     clamp-whole-in (lineLength rate - 1) (omega arith) (swept rate (clampOf (valueOr p half) plusZero (whole 1)) sine) (omega arith)
     (in-number (swept-in rate sine r (clamp-in (valueOr p half) tt tt (value-number p half d refl)) s))
 

@@ -42,9 +42,9 @@ pub length-refused : (rate : Float) → rateFits rate ≡ false → lengthAt rat
 length-refused rate h = rw h
 
 module _ (rate : Float) (h : rateFits rate ≡ true) where
-  pub length-in : (170 ≤ lineLength rate) × (lineLength rate ≤ 3850)
+  pub length-fits : (170 ≤ lineLength rate) × (lineLength rate ≤ 3850)
   unfolding lineLength
-  length-in = let l = length-20 rate h in (omega arith, omega arith)
+  length-fits = let l = length-20 rate h in (omega arith, omega arith)
 
   -- rate × 20 / 1000 is small enough for `whole_part_small`
   in-samples : In binary64 (whole 160) (whole 3840) (samples rate (whole 20))
@@ -70,7 +70,7 @@ pub length-none : (rate : Float) → lengthAt rate ≡ 0 → rateFits rate ≡ f
 length-none rate e = go (rateFits rate) refl
   where
     go : (b : Bool) → rateFits rate ≡ b → rateFits rate ≡ false
-    go true h = absurd (omega (arith, length-in rate h, length-known rate h))
+    go true h = absurd (omega (arith, length-fits rate h, length-known rate h))
     go false h = h
 
 -- ---- the state test

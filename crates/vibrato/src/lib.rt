@@ -11,6 +11,7 @@ ghost use Rattle.common.specs.Signal.{blended, advanced};
 ghost use Rattle.common.specs.Line.{zeros, nextPlace, lineAt, readAt};
 ghost use Rattle.effect.specs.Run.{tick, retune, reset, ask, startNumber, numberIn};
 ghost use Rattle.effect.specs.Contract.{Does, Starts};
+ghost use Rattle.effect.specs.Needed.{placesNeeded};
 ghost use Rattle.vibrato.specs.Vibrato.{vibrato, ticked, lineLength, fresh, fits, distance};
 use port::Answer;
 use port::Outcome;
@@ -49,6 +50,17 @@ impl Vibrato {
         float64::whole_part_small(sample_rate * Vibrato::MAX_DELAY_MS / 1000.0) + 10
     }
 
+    // The places that a start needs at the rate; 2^64 - 1 for a rate that is refused.
+    pub fn places_needed(sample_rate: f64) -> u64
+        ensures { λ r. ⌜ r ≡ placesNeeded vibrato «sample_rate» ⌝ }
+    {
+        let n = Vibrato::line_length(sample_rate);
+        if n == 0 {
+            return 0xffff_ffff_ffff_ffff;
+        }
+        n
+    }
+
     // The state test, with the line's length n: where the rate does not fit, no position is below it.
     fn state_fits(self, n: u64) -> bool
         requires { ⌜ n ≡ cond (rateFits (self .«sample_rate»)) (lineLength (self .«sample_rate»)) 0 ⌝ }
@@ -58,7 +70,7 @@ impl Vibrato {
     }
 
     // Causes 4 and 3, which reset, tick and the question "silent?" have in common.
-    fn check_unit(self, n: u64, places: usize) -> Outcome
+    fn refusal(self, n: u64, places: usize) -> Outcome
         requires { ⌜ n ≡ cond (rateFits (self .«sample_rate»)) (lineLength (self .«sample_rate»)) 0 ⌝ }
         ensures { λ r. ⌜ numberOf r ≡ numberIn vibrato reset places self ⌝ }
     {
@@ -69,7 +81,7 @@ impl Vibrato {
     }
 
     // Causes 1 and 3, of the rate that a start or a retune is handed.
-    fn check_rate(sample_rate: f64, places: usize) -> Outcome
+    fn rate_refusal(sample_rate: f64, places: usize) -> Outcome
         ensures { λ r. ⌜ numberOf r ≡ startNumber vibrato «sample_rate» places ⌝ }
     {
         let needed = Vibrato::line_length(sample_rate);
@@ -107,7 +119,7 @@ impl Vibrato {
     pub fn new(sample_rate: f64, mem: &mut [f64]) -> Cleared
         ensures { λ r. ⌜ Starts vibrato «sample_rate» (now (mem .entry)) (r .state) (now (mem .exit)) (outcomeReply (r .outcome)) ⌝ }
     {
-        let checked = Vibrato::check_rate(sample_rate, mem.len());
+        let checked = Vibrato::rate_refusal(sample_rate, mem.len());
         if let Outcome::Refused(cause) = checked {
             return Cleared {
                 state: Vibrato::fresh(0.0),
@@ -128,7 +140,7 @@ impl Vibrato {
                 outcome: Outcome::Refused(Refusal::State),
             };
         }
-        let checked = Vibrato::check_rate(sample_rate, mem.len());
+        let checked = Vibrato::rate_refusal(sample_rate, mem.len());
         if let Outcome::Refused(cause) = checked {
             return Cleared {
                 state: self,
@@ -144,7 +156,7 @@ impl Vibrato {
     {
         let rate = self.sample_rate;
         let n = Vibrato::line_length(rate);
-        let checked = self.check_unit(n, mem.len());
+        let checked = self.refusal(n, mem.len());
         if let Outcome::Refused(cause) = checked {
             return Cleared {
                 state: self,
@@ -159,7 +171,7 @@ impl Vibrato {
         ensures { λ r. ⌜ Does vibrato ask self (now (mem .entry)) self (now (mem .entry)) (silenceReply r) ⌝ }
     {
         let n = Vibrato::line_length(self.sample_rate);
-        let checked = self.check_unit(n, mem.len());
+        let checked = self.refusal(n, mem.len());
         if let Outcome::Refused(cause) = checked {
             return Silence::Refused(cause);
         }
@@ -239,7 +251,7 @@ impl Vibrato {
         ensures { λ r. ⌜ Does vibrato (tick (ticked audio depth mix frequency sine)) self (now (mem .entry)) (r .state) (now (mem .exit)) (answerReply (r .answer)) ⌝ }
     {
         let n = Vibrato::line_length(self.sample_rate);
-        let checked = self.check_unit(n, mem.len());
+        let checked = self.refusal(n, mem.len());
         if let Outcome::Refused(cause) = checked {
             return Ticked {
                 state: self,

@@ -12,7 +12,7 @@ use Rattle.float64.specs.Number.{rateFits}
 use Rattle.port.specs.Answer.{played}
 use Rattle.common.specs.Signal.{blended}
 use Rattle.common.specs.Line.{lineAt, readAt}
-use Rattle.vibrato.proofs.Laws.{length-in, passed, part-read}
+use Rattle.vibrato.proofs.Laws.{length-fits, passed, part-read}
 use Rattle.vibrato.proofs.Vibrato.advance.Statement.{statement}
 use Rattle.vibrato.proofs.Vibrato.advance.Tie as tie
 
@@ -22,7 +22,7 @@ module _ (s : tie.Start) where
 
   -- the line is not too long, and the position lies in it
   short : s .args .n ≤ 3850
-  short = omega (arith, s .pre .1 .0, length-in (s .args .self .«sample_rate») rate-fits .1)
+  short = omega (arith, s .pre .1 .0, length-fits (s .args .self .«sample_rate») rate-fits .1)
 
   in-line : s .args .self .«write_pos» < s .args .n
   in-line = omega (arith, s .pre .1 .0, passed (s .args .self) (s .pre .0) .position)

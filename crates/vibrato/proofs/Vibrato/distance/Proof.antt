@@ -6,14 +6,14 @@ use borrow.Author.Needs.{needs}
 use Rattle.float64.specs.Number.{whole}
 use Rattle.float64.proofs.Clamped.{clamp-halves}
 use Rattle.vibrato.specs.Vibrato.{distance}
-use Rattle.vibrato.proofs.Laws.{length-in}
+use Rattle.vibrato.proofs.Laws.{length-fits}
 use Rattle.common.proofs.Sweep.{last-above}
 use Rattle.vibrato.proofs.Vibrato.distance.Statement.{statement}
 use Rattle.vibrato.proofs.Vibrato.distance.Tie as tie
 
 -- the line is neither too short nor too long
 bounds : (s : tie.Start) → (170 ≤ s .args .n) × (s .args .n ≤ 3850)
-bounds s = let l = length-in (s .args .rate) (s .pre .0) in (omega (arith, s .pre .1), omega (arith, s .pre .1))
+bounds s = let l = length-fits (s .args .rate) (s .pre .0) in (omega (arith, s .pre .1), omega (arith, s .pre .1))
 
 sub-last : tie.Need-sub-last
 sub-last c = omega (arith, bounds c .0)

@@ -9,8 +9,8 @@ use Rattle.vibrato.specs.Vibrato.{vibrato}
 use Rattle.vibrato.proofs.Vibrato.new.Statement.{statement}
 use Rattle.vibrato.proofs.Vibrato.new.Tie as tie
 
-check-rate-requires : tie.Need-check-rate-requires
-check-rate-requires c κs = search needs
+rate-refusal-requires : tie.Need-rate-refusal-requires
+rate-refusal-requires c κs = search needs
 
 enum-known-checked : tie.Need-enum-known-checked
 enum-known-checked c = search needs
@@ -24,7 +24,7 @@ returns c =
     let checked = c .before .before in
     let a = checked .before .before .before .before .args in
     let cause = checked .checked .given .0 .0 in
-    let r = starts-refused vibrato (a .sample-rate) (a .mem .now) (number cause) (sym (ap numberOf (checked .checked .given .1)) ∙ checked .before .before .check-rate .ensures) (number-some cause) in
+    let r = starts-refused vibrato (a .sample-rate) (a .mem .now) (number cause) (sym (ap numberOf (checked .checked .given .1)) ∙ checked .before .before .rate-refusal .ensures) (number-some cause) in
     record { state = c .fresh .ensures ∙ r .state; memory = r .memory; answer = r .answer }
 
 enum-told : tie.Need-enum-told
@@ -43,7 +43,7 @@ returns-2 c =
     let checked = told .before .before in
     let a = checked .before .before .args in
     starts-accepted vibrato (a .sample-rate) (a .mem .now)
-    (sym (checked .check-rate .ensures) ∙ ap numberOf (told .enum-told .given .1))
+    (sym (checked .rate-refusal .ensures) ∙ ap numberOf (told .enum-told .given .1))
     (emptied .cleared .ensures .0)
     (emptied .cleared .ensures .1 .1)
     (emptied .cleared .ensures .1 .0)
@@ -52,7 +52,7 @@ pub new-spec : {M : Type 1} → statement M
 new-spec =
     tie.close
     (tie.spec
-    check-rate-requires
+    rate-refusal-requires
     enum-known-checked
     fresh-requires
     returns

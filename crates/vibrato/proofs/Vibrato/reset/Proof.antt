@@ -12,8 +12,8 @@ use Rattle.vibrato.proofs.Vibrato.reset.Tie as tie
 line-length-requires : tie.Need-line-length-requires
 line-length-requires c κs = search needs
 
-check-unit-requires : tie.Need-check-unit-requires
-check-unit-requires c κs = search needs
+refusal-requires : tie.Need-refusal-requires
+refusal-requires c κs = search needs
 
 enum-known-checked : tie.Need-enum-known-checked
 enum-known-checked c = search needs
@@ -24,7 +24,7 @@ returns c =
     let a = checked .before .before .before .before .before .args in
     let cause = checked .checked .given .0 .0 in
     refuses vibrato reset (a .self) (a .mem .now) (number cause)
-    (sym (ap numberOf (checked .checked .given .1)) ∙ checked .before .before .check-unit .ensures)
+    (sym (ap numberOf (checked .checked .given .1)) ∙ checked .before .before .refusal .ensures)
     (number-some cause)
 
 enum-told : tie.Need-enum-told
@@ -43,7 +43,7 @@ returns-2 c =
     let checked = told .before .before in
     let a = checked .before .before .before .args in
     accepts vibrato reset (a .self) (a .mem .now)
-    (sym (checked .check-unit .ensures) ∙ ap numberOf (told .enum-told .given .1))
+    (sym (checked .refusal .ensures) ∙ ap numberOf (told .enum-told .given .1))
     (emptied .cleared .ensures .0)
     (emptied .cleared .ensures .1 .1)
     (emptied .cleared .ensures .1 .0)
@@ -53,7 +53,7 @@ reset-spec =
     tie.close
     (tie.spec
     line-length-requires
-    check-unit-requires
+    refusal-requires
     enum-known-checked
     returns
     enum-told

@@ -26,8 +26,8 @@ returns c =
     (state-refused vibrato (length (a .mem .now)) (a .self) (retune (a .sample-rate)) (sym (c .before .state-fits .ensures) ∙ not-true _ (c .if1 .taken)))
     (omega arith)
 
-check-rate-requires : tie.Need-check-rate-requires
-check-rate-requires c κs = search needs
+rate-refusal-requires : tie.Need-rate-refusal-requires
+rate-refusal-requires c κs = search needs
 
 enum-known-checked : tie.Need-enum-known-checked
 enum-known-checked c = search needs
@@ -42,7 +42,7 @@ returns-2 c =
     let a = past .before .before .before .before .args in
     let cause = checked .checked .given .0 .0 in
     refuses vibrato (retune (a .sample-rate)) (a .self) (a .mem .now) (number cause)
-    (state-passed vibrato (length (a .mem .now)) (a .self) (retune (a .sample-rate)) (passed past) (sym (ap numberOf (checked .checked .given .1)) ∙ checked .before .before .check-rate .ensures))
+    (state-passed vibrato (length (a .mem .now)) (a .self) (retune (a .sample-rate)) (passed past) (sym (ap numberOf (checked .checked .given .1)) ∙ checked .before .before .rate-refusal .ensures))
     (number-some cause)
 
 enum-told : tie.Need-enum-told
@@ -62,7 +62,7 @@ returns-3 c =
     let past = checked .before in
     let a = past .before .before .before .before .args in
     accepts vibrato (retune (a .sample-rate)) (a .self) (a .mem .now)
-    (sym (state-passed vibrato (length (a .mem .now)) (a .self) (retune (a .sample-rate)) (passed past) (sym (ap numberOf (told .enum-told .given .1)) ∙ checked .check-rate .ensures)))
+    (sym (state-passed vibrato (length (a .mem .now)) (a .self) (retune (a .sample-rate)) (passed past) (sym (ap numberOf (told .enum-told .given .1)) ∙ checked .rate-refusal .ensures)))
     (emptied .cleared .ensures .0)
     (emptied .cleared .ensures .1 .1)
     (emptied .cleared .ensures .1 .0)
@@ -74,7 +74,7 @@ set-sample-rate-spec =
     line-length-requires
     state-fits-requires
     returns
-    check-rate-requires
+    rate-refusal-requires
     enum-known-checked
     returns-2
     enum-told

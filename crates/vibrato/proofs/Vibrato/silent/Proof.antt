@@ -20,8 +20,8 @@ use Rattle.vibrato.proofs.Vibrato.silent.Tie as tie
 line-length-requires : tie.Need-line-length-requires
 line-length-requires c κs = search needs
 
-check-unit-requires : tie.Need-check-unit-requires
-check-unit-requires c κs = search needs
+refusal-requires : tie.Need-refusal-requires
+refusal-requires c κs = search needs
 
 enum-known-checked : tie.Need-enum-known-checked
 enum-known-checked c = search needs
@@ -32,7 +32,7 @@ returns c =
     let a = checked .before .before .before .before .before .args in
     let cause = checked .checked .given .0 .0 in
     refuses vibrato ask (a .self) (a .mem .now) (number cause)
-    (sym (ap numberOf (checked .checked .given .1)) ∙ checked .before .before .check-unit .ensures)
+    (sym (ap numberOf (checked .checked .given .1)) ∙ checked .before .before .refusal .ensures)
     (number-some cause)
 
 enum-told : tie.Need-enum-told
@@ -44,7 +44,7 @@ module _ (c : tie.After-all-zero-arg) where
   start = c .before .before .before .before .before .before
 
   none : numberIn vibrato ask (length (start .args .mem .now)) (start .args .self) ≡ 0
-  none = sym (c .before .before .before .check-unit .ensures) ∙ ap numberOf (c .before .enum-told .given .1)
+  none = sym (c .before .before .before .refusal .ensures) ∙ ap numberOf (c .before .enum-told .given .1)
 
   in-use : Ready (start .args .self) (c .before .before .before .before .line-length .result) (length (start .args .mem .now))
   in-use = ready (start .args .self) (length (start .args .mem .now)) (c .before .before .before .before .line-length .ensures) none
@@ -76,7 +76,7 @@ silent-spec =
     tie.close
     (tie.spec
     line-length-requires
-    check-unit-requires
+    refusal-requires
     enum-known-checked
     returns
     enum-told

@@ -29,8 +29,8 @@ given s = ticked (s .args .audio) (s .args .depth) (s .args .mix) (s .args .freq
 line-length-requires : tie.Need-line-length-requires
 line-length-requires c κs = search needs
 
-check-unit-requires : tie.Need-check-unit-requires
-check-unit-requires c κs = search needs
+refusal-requires : tie.Need-refusal-requires
+refusal-requires c κs = search needs
 
 enum-known-checked : tie.Need-enum-known-checked
 enum-known-checked c = search needs
@@ -41,7 +41,7 @@ returns c =
     let s = checked .before .before .before .before .before in
     let cause = checked .checked .given .0 .0 in
     refuses vibrato (tick (given s)) (s .args .self) (s .args .mem .now) (number cause)
-    (early (given s) (s .args .self) (length (s .args .mem .now)) (sym (ap numberOf (checked .checked .given .1)) ∙ checked .before .before .check-unit .ensures) (number-some cause))
+    (early (given s) (s .args .self) (length (s .args .mem .now)) (sym (ap numberOf (checked .checked .given .1)) ∙ checked .before .before .refusal .ensures) (number-some cause))
     (number-some cause)
 
 enum-told : tie.Need-enum-told
@@ -91,7 +91,7 @@ module _ (c : tie.At-match4-came) where
   unit : Ready (start .args .self) (c .before .before .before .before .before .before .line-length .result) (length (start .args .mem .now))
   unit =
       ready (start .args .self) (length (start .args .mem .now)) (c .before .before .before .before .before .before .line-length .ensures)
-      (sym (c .before .before .before .before .before .check-unit .ensures) ∙ ap numberOf (c .before .before .before .enum-told .given .1))
+      (sym (c .before .before .before .before .before .refusal .ensures) ∙ ap numberOf (c .before .before .before .enum-told .given .1))
 
   input-is : c .before .before .match2 .input ≡ valueOr (start .args .audio) plusZero
   unfolding ofBits
@@ -200,7 +200,7 @@ tick-spec =
     tie.close
     (tie.spec
     line-length-requires
-    check-unit-requires
+    refusal-requires
     enum-known-checked
     returns
     enum-told

@@ -1,4 +1,4 @@
--- `Vibrato::check_unit` is the row 4, 3 of the table. Assumes nothing.
+-- `Vibrato::refusal` is the row 4, 3 of the table. Assumes nothing.
 use Prim.Native.Nat.{ℕ}
 use mathlib.Core.Path.{_≡_, sym, ap, _∙_}
 use mathlib.Core.Bool.{true}
@@ -8,8 +8,8 @@ use Rattle.effect.specs.Run.{reset, memoryNumber}
 use Rattle.effect.proofs.Contract.{state-refused, reset-memory}
 use Rattle.vibrato.specs.Vibrato.{vibrato, fits}
 use Rattle.vibrato.proofs.Laws.{length-known, passed}
-use Rattle.vibrato.proofs.Vibrato.check_unit.Statement.{statement}
-use Rattle.vibrato.proofs.Vibrato.check_unit.Tie as tie
+use Rattle.vibrato.proofs.Vibrato.refusal.Statement.{statement}
+use Rattle.vibrato.proofs.Vibrato.refusal.Tie as tie
 
 state-fits-requires : tie.Need-state-fits-requires
 state-fits-requires c κs = search needs
@@ -30,5 +30,5 @@ returns-2 c =
     reset-memory vibrato (a .places) (a .self) p
     (c .check-memory .ensures ∙ ap (λ (n : ℕ). memoryNumber n (a .places)) (s .pre ∙ length-known (a .self .«sample_rate») (passed (a .self) p .rate)))
 
-pub check-unit-spec : {M : Type 1} → statement M
-check-unit-spec = tie.close (tie.spec state-fits-requires returns check-memory-requires returns-2)
+pub refusal-spec : {M : Type 1} → statement M
+refusal-spec = tie.close (tie.spec state-fits-requires returns check-memory-requires returns-2)

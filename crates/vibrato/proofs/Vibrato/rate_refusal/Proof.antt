@@ -1,4 +1,4 @@
--- `Vibrato::check_rate` is the row 1, 3 of the table: the line has no places at just the rates that do not fit. Assumes nothing.
+-- `Vibrato::rate_refusal` is the row 1, 3 of the table: the line has no places at just the rates that do not fit. Assumes nothing.
 use Prim.Native.Nat.{ℕ}
 use native.Mathlib.Omega.{arith}
 use mathlib.Core.Path.{_≡_, sym, ap, _∙_}
@@ -9,8 +9,8 @@ use Rattle.effect.specs.Run.{memoryNumber}
 use Rattle.effect.proofs.Contract.{start-settings, start-memory}
 use Rattle.vibrato.specs.Vibrato.{vibrato}
 use Rattle.vibrato.proofs.Laws.{length-known, length-some, length-none}
-use Rattle.vibrato.proofs.Vibrato.check_rate.Statement.{statement}
-use Rattle.vibrato.proofs.Vibrato.check_rate.Tie as tie
+use Rattle.vibrato.proofs.Vibrato.rate_refusal.Statement.{statement}
+use Rattle.vibrato.proofs.Vibrato.rate_refusal.Tie as tie
 
 line-length-requires : tie.Need-line-length-requires
 line-length-requires c κs = search needs
@@ -33,5 +33,5 @@ returns-2 c =
     start-memory vibrato (a .places) (a .sample-rate) (rw h)
     (c .check-memory .ensures ∙ ap (λ (n : ℕ). memoryNumber n (a .places)) (e ∙ length-known (a .sample-rate) h))
 
-pub check-rate-spec : {M : Type 1} → statement M
-check-rate-spec = tie.close (tie.spec line-length-requires returns check-memory-requires returns-2)
+pub rate-refusal-spec : {M : Type 1} → statement M
+rate-refusal-spec = tie.close (tie.spec line-length-requires returns check-memory-requires returns-2)
