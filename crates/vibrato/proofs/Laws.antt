@@ -1,8 +1,7 @@
 -- The vibrato's definitions by their cases: the line's length, the state test, what the table's rows leave, and an accepted tick from its steps. Assumes nothing.
-use Prim.Native.Nat.{ℕ, _≤_, _<_, zero-le}
+use Prim.Native.Nat.{ℕ, _≤_, _<_}
 use native.Mathlib.Omega.{arith}
-use mathlib.Core.Path.{_≡_, refl, sym, ap, _∙_}
-use mathlib.Core.Logic.{_≢_}
+use mathlib.Core.Path.{_≡_, refl, ap, _∙_}
 use mathlib.Core.Bool.{Bool, true, false, _&&_, _||_, cond}
 use mathlib.Core.List.{List, [], _∷_}
 use native.Mathlib.Nat.{zero-add, zero-mul}
@@ -10,11 +9,10 @@ use lib.Dec.{T, ltb}
 use lib.ListN.{length, take, set}
 use lib.Seq.{length-take-le}
 use lib.Ieee.{Float, binary64, mul, div, fits, le, lt, ofInt}
-use borrow.Author.Tests.{ltb-true, le-ltb}
+use borrow.Author.Tests.{ltb-true}
 use Rattle.float64.specs.Number.{plusZero, whole, half, rateFits, phaseFits, frequencyFits, sineFits, clampOf}
 use Rattle.float64.proofs.Tests.{both}
-use Rattle.float64.proofs.Order.{le-lt-lt}
-use Rattle.float64.proofs.Interval.{In, point, widen, mul-in, div-in}
+use Rattle.float64.proofs.Interval.{point, mul-in, div-in}
 use Rattle.float64.proofs.Ranges.{rate-in}
 use Rattle.float64.proofs.Lengths.{samples, length-20}
 use Rattle.port.specs.Port.{valueOr, isNanSet}
@@ -22,76 +20,34 @@ use Rattle.port.specs.Answer.{Reply, played}
 use Rattle.common.specs.Signal.{blended, advanced, causeNumber}
 use Rattle.common.specs.Line.{nextPlace, lineAt, readAt}
 use Rattle.common.proofs.Ring.{part-line}
+use Rattle.common.proofs.Sweep.{size-is, size-tests, small}
 use Rattle.effect.specs.Effect.{laid}
-use Rattle.effect.specs.Run.{tick, reset, first, memoryNumber, numberIn}
-use Rattle.effect.proofs.Table.{first-some, none-5-6, enough, accepted}
+use Rattle.effect.specs.Run.{reset, numberIn}
+use Rattle.effect.proofs.Table.{none-5-6, enough, accepted}
 use Rattle.vibrato.specs.declared.Vibrato.{Vibrato}
 use Rattle.vibrato.specs.Vibrato.{Tick, vibrato, lineLength, tickNumber, input, distance, delayed, next, writes, sample}
 use Rattle.vibrato.specs.Vibrato as page
 
 -- ---- the line's length
 
--- as `line_length` answers it: 0 at a rate that does not fit
-abbrev pub lengthAt : Float → ℕ
-lengthAt rate = cond (rateFits rate) (lineLength rate) 0
-
-pub length-known : (rate : Float) → rateFits rate ≡ true → lengthAt rate ≡ lineLength rate
-length-known rate h = rw h
-
-pub length-refused : (rate : Float) → rateFits rate ≡ false → lengthAt rate ≡ 0
-length-refused rate h = rw h
-
 module _ (rate : Float) (h : rateFits rate ≡ true) where
   pub length-fits : (170 ≤ lineLength rate) × (lineLength rate ≤ 3850)
   unfolding lineLength
   length-fits = let l = length-20 rate h in (omega arith, omega arith)
 
-  -- rate × 20 / 1000 is small enough for `whole_part_small`
-  in-samples : In binary64 (whole 160) (whole 3840) (samples rate (whole 20))
-  unfolding fits le lt mul div ofInt
-  in-samples = div-in (whole 160) (whole 3840) tt tt tt (mul-in (whole 160000) (whole 3840000) tt tt tt (rate-in h) (point (whole 20) tt)) (point (whole 1000) tt)
-
+  -- rate × 20 / 1000 is small enough for the quick whole part
   pub samples-small : T (le (whole 1) (samples rate (whole 20))) × T (lt (samples rate (whole 20)) (whole 9007199254740992))
-  unfolding fits le lt ofInt
-  samples-small = (
-    widen (whole 1) (whole 3840) tt in-samples .lower,
-    le-lt-lt binary64 (samples rate (whole 20)) (whole 3840) (whole 9007199254740992) (in-samples .fit) tt tt (in-samples .upper) tt,
-  )
-
--- so it is 0 only there
-pub length-some : (rate : Float) → lengthAt rate ≢ 0 → rateFits rate ≡ true
-length-some rate f = go (rateFits rate) f
-  where
-    go : (b : Bool) → cond b (lineLength rate) 0 ≢ 0 → b ≡ true
-    go true f = refl
-    go false f = absurd (f refl)
-
-pub length-none : (rate : Float) → lengthAt rate ≡ 0 → rateFits rate ≡ false
-length-none rate e = go (rateFits rate) refl
-  where
-    go : (b : Bool) → rateFits rate ≡ b → rateFits rate ≡ false
-    go true h = absurd (omega (arith, length-fits rate h, length-known rate h))
-    go false h = h
+  unfolding fits le lt mul div ofInt
+  samples-small =
+      small (div-in (whole 1) (whole 16777216) tt tt tt (mul-in (whole 160000) (whole 3840000) tt tt tt (rate-in h) (point (whole 20) tt)) (point (whole 1000) tt))
 
 -- ---- the state test
 
--- by that length alone: no position is below 0
-pub fits-by : (s : Vibrato) {n : ℕ} → n ≡ lengthAt (s .«sample_rate») → page.fits s ≡ ltb (s .«write_pos») n && phaseFits (s .«lfo_phase»)
+-- by the length n of the line, as `line_length` answers it
+pub fits-by : (s : Vibrato) {n : ℕ} → n ≡ cond (rateFits (s .«sample_rate»)) (lineLength (s .«sample_rate»)) 0
+    → page.fits s ≡ ltb (s .«write_pos») n && phaseFits (s .«lfo_phase»)
 unfolding page.fits
-fits-by s {n} e = rw e (go (rateFits (s .«sample_rate»)))
-  where
-    w : ℕ
-    w = s .«write_pos»
-
-    L : ℕ
-    L = lineLength (s .«sample_rate»)
-
-    p : Bool
-    p = phaseFits (s .«lfo_phase»)
-
-    go : (b : Bool) → b && (ltb w L && p) ≡ ltb w (cond b L 0) && p
-    go true = refl
-    go false = rw (le-ltb w 0 zero-le)
+fits-by s e = size-tests (rateFits (s .«sample_rate»)) (lineLength (s .«sample_rate»)) (s .«write_pos») (λ n. phaseFits (s .«lfo_phase»)) e
 
 -- what a state that passes has
 pub record Passed (s : Vibrato) : Type 0 where
@@ -115,29 +71,18 @@ pub record Ready (s : Vibrato) (n m : ℕ) : Type 0 where
   pub size : n ≡ lineLength (s .«sample_rate»)
   pub enough : lineLength (s .«sample_rate») ≤ m
 
-pub ready : (s : Vibrato) {n : ℕ} (m : ℕ) → n ≡ lengthAt (s .«sample_rate») → numberIn vibrato reset m s ≡ 0 → Ready s n m
+pub ready : (s : Vibrato) {n : ℕ} (m : ℕ) → n ≡ cond (rateFits (s .«sample_rate»)) (lineLength (s .«sample_rate»)) 0 → numberIn vibrato reset m s ≡ 0 → Ready s n m
 ready s m e z =
     let a = accepted vibrato m reset s z in
     let p = passed s (a .fits) in
     record {
       fits = a .fits;
       passed = p;
-      size = e ∙ length-known (s .«sample_rate») (p .rate);
+      size = size-is (rateFits (s .«sample_rate»)) (lineLength (s .«sample_rate»)) e (p .rate);
       enough = enough (lineLength (s .«sample_rate»)) m (a .number);
     }
 
 -- ---- a tick
-
--- the row 4, 3 where it refuses is the tick's own
-pub early : (t : Tick) (s : Vibrato) (m : ℕ) {k : ℕ} → k ≡ numberIn vibrato reset m s → k ≢ 0 → k ≡ numberIn vibrato (tick t) m s
-early t s m {k} e some = go (page.fits s) e
-  where
-    L : ℕ
-    L = lineLength (s .«sample_rate»)
-
-    go : (b : Bool) → k ≡ cond b (memoryNumber L m) 4 → k ≡ cond b (first (memoryNumber L m) (tickNumber t)) 4
-    go true e = e ∙ sym (first-some (memoryNumber L m) (tickNumber t) (λ z. some (e ∙ z)))
-    go false e = e
 
 -- what a tick has that causes 5 and 6 leave
 pub record Handed (t : Tick) : Type 0 where

@@ -8,7 +8,7 @@ use borrow.Author.Tests.{not-true, not-false}
 use Rattle.float64.specs.Number.{rateFits}
 use Rattle.float64.proofs.Lengths.{length-20}
 use Rattle.vibrato.specs.Vibrato.{lineLength}
-use Rattle.vibrato.proofs.Laws.{length-refused, samples-small}
+use Rattle.vibrato.proofs.Laws.{samples-small}
 use Rattle.vibrato.proofs.Vibrato.line_length.Statement.{statement}
 use Rattle.vibrato.proofs.Vibrato.line_length.Tie as tie
 
@@ -16,7 +16,7 @@ rate-fits-requires : tie.Need-rate-fits-requires
 rate-fits-requires c κs = search needs
 
 returns : tie.Need-returns
-returns c = sym (length-refused (c .before .before .args .sample-rate) (sym (c .before .rate-fits .ensures) ∙ not-true _ (c .if1 .taken)))
+returns c = rw (sym (c .before .rate-fits .ensures) ∙ not-true _ (c .if1 .taken))
 
 -- past the test the rate fits
 rate-passed : (c : tie.Else1) → rateFits (c .before .before .args .sample-rate) ≡ true

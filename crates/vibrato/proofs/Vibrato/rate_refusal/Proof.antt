@@ -1,14 +1,15 @@
--- `Vibrato::rate_refusal` is the row 1, 3 of the table: the line has no places at just the rates that do not fit. Assumes nothing.
+-- `Vibrato::rate_refusal` is the table's row of a start: causes 1 and 3. A line has no places at just the rates that are refused. Assumes nothing.
 use Prim.Native.Nat.{ℕ}
 use native.Mathlib.Omega.{arith}
-use mathlib.Core.Path.{_≡_, sym, ap, _∙_}
+use mathlib.Core.Path.{_≡_, ap, _∙_}
 use mathlib.Core.Bool.{true}
 use borrow.Author.Needs.{needs}
 use Rattle.float64.specs.Number.{rateFits}
+use Rattle.common.proofs.Sweep.{size-is, size-some, size-none}
 use Rattle.effect.specs.Run.{memoryNumber}
 use Rattle.effect.proofs.Contract.{start-settings, start-memory}
-use Rattle.vibrato.specs.Vibrato.{vibrato}
-use Rattle.vibrato.proofs.Laws.{length-known, length-some, length-none}
+use Rattle.vibrato.specs.Vibrato.{vibrato, lineLength}
+use Rattle.vibrato.proofs.Laws.{length-fits}
 use Rattle.vibrato.proofs.Vibrato.rate_refusal.Statement.{statement}
 use Rattle.vibrato.proofs.Vibrato.rate_refusal.Tie as tie
 
@@ -18,9 +19,16 @@ line-length-requires c κs = search needs
 returns : tie.Need-returns
 returns c =
     let a = c .before .before .args in
-    start-settings vibrato (a .places) (a .sample-rate)
-    (rw (length-none (a .sample-rate) (sym (c .before .line-length .ensures) ∙ c .if1 .taken)))
-    (omega arith)
+    let none = size-none (rateFits (a .sample-rate)) (lineLength (a .sample-rate)) (c .before .line-length .ensures) (λ h. omega (arith, length-fits (a .sample-rate) h .0)) (c .if1 .taken) in
+    start-settings vibrato (a .places) (a .sample-rate) (rw none) (omega arith)
+
+-- past the test the rate fits, and n is the length of a line
+module _ (c : tie.Else1) where
+  rate-passed : rateFits (c .before .before .args .sample-rate) ≡ true
+  rate-passed = size-some (rateFits (c .before .before .args .sample-rate)) (lineLength (c .before .before .args .sample-rate)) (c .before .line-length .ensures) (c .if1 .left)
+
+  sized : c .before .line-length .result ≡ lineLength (c .before .before .args .sample-rate)
+  sized = size-is (rateFits (c .before .before .args .sample-rate)) (lineLength (c .before .before .args .sample-rate)) (c .before .line-length .ensures) rate-passed
 
 check-memory-requires : tie.Need-check-memory-requires
 check-memory-requires c κs = search needs
@@ -28,10 +36,14 @@ check-memory-requires c κs = search needs
 returns-2 : tie.Need-returns-2
 returns-2 c =
     let a = c .before .before .before .args in
-    let e = c .before .before .line-length .ensures in
-    let h : rateFits (a .sample-rate) ≡ true = length-some (a .sample-rate) (λ z. c .before .if1 .left (e ∙ z)) in
-    start-memory vibrato (a .places) (a .sample-rate) (rw h)
-    (c .check-memory .ensures ∙ ap (λ (n : ℕ). memoryNumber n (a .places)) (e ∙ length-known (a .sample-rate) h))
+    start-memory vibrato (a .places) (a .sample-rate) (rw (rate-passed (c .before)))
+    (c .check-memory .ensures ∙ ap (λ (n : ℕ). memoryNumber n (a .places)) (sized (c .before)))
 
 pub rate-refusal-spec : {M : Type 1} → statement M
-rate-refusal-spec = tie.close (tie.spec line-length-requires returns check-memory-requires returns-2)
+rate-refusal-spec =
+    tie.close
+    (tie.spec
+    line-length-requires
+    returns
+    check-memory-requires
+    returns-2)

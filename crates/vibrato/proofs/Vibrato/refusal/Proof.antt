@@ -4,10 +4,12 @@ use mathlib.Core.Path.{_≡_, sym, ap, _∙_}
 use mathlib.Core.Bool.{true}
 use borrow.Author.Needs.{needs}
 use borrow.Author.Tests.{not-true, not-false}
+use Rattle.float64.specs.Number.{rateFits}
+use Rattle.common.proofs.Sweep.{size-is}
 use Rattle.effect.specs.Run.{reset, memoryNumber}
 use Rattle.effect.proofs.Contract.{state-refused, reset-memory}
-use Rattle.vibrato.specs.Vibrato.{vibrato, fits}
-use Rattle.vibrato.proofs.Laws.{length-known, passed}
+use Rattle.vibrato.specs.Vibrato.{vibrato, fits, lineLength}
+use Rattle.vibrato.proofs.Laws.{passed}
 use Rattle.vibrato.proofs.Vibrato.refusal.Statement.{statement}
 use Rattle.vibrato.proofs.Vibrato.refusal.Tie as tie
 
@@ -28,7 +30,7 @@ returns-2 c =
     let a = s .args in
     let p : fits (a .self) ≡ true = sym (c .before .before .state-fits .ensures) ∙ not-false _ (c .before .if1 .left) in
     reset-memory vibrato (a .places) (a .self) p
-    (c .check-memory .ensures ∙ ap (λ (n : ℕ). memoryNumber n (a .places)) (s .pre ∙ length-known (a .self .«sample_rate») (passed (a .self) p .rate)))
+    (c .check-memory .ensures ∙ ap (λ (n : ℕ). memoryNumber n (a .places)) (size-is (rateFits (a .self .«sample_rate»)) (lineLength (a .self .«sample_rate»)) (s .pre) (passed (a .self) p .rate)))
 
 pub refusal-spec : {M : Type 1} → statement M
 refusal-spec = tie.close (tie.spec state-fits-requires returns check-memory-requires returns-2)

@@ -16,8 +16,9 @@ use Rattle.common.specs.Signal.{causeNumber}
 use Rattle.effect.specs.Run.{tick, numberIn}
 use Rattle.effect.proofs.Table.{memory-enough}
 use Rattle.effect.proofs.Contract.{refuses, accepts, tick-number}
+use Rattle.effect.proofs.Rows.{unit-refused}
 use Rattle.vibrato.specs.Vibrato.{vibrato, Tick, ticked, tickNumber}
-use Rattle.vibrato.proofs.Laws.{Ready, ready, handed, next-is, stored-is, played-is, early}
+use Rattle.vibrato.proofs.Laws.{Ready, ready, handed, next-is, stored-is, played-is}
 use Rattle.vibrato.proofs.Distance.{distance-held}
 use Rattle.vibrato.proofs.Vibrato.tick.Statement.{statement}
 use Rattle.vibrato.proofs.Vibrato.tick.Tie as tie
@@ -41,7 +42,7 @@ returns c =
     let s = checked .before .before .before .before .before in
     let cause = checked .checked .given .0 .0 in
     refuses vibrato (tick (given s)) (s .args .self) (s .args .mem .now) (number cause)
-    (early (given s) (s .args .self) (length (s .args .mem .now)) (sym (ap numberOf (checked .checked .given .1)) ∙ checked .before .before .refusal .ensures) (number-some cause))
+    (unit-refused vibrato (length (s .args .mem .now)) (s .args .self) (given s) (sym (ap numberOf (checked .checked .given .1)) ∙ checked .before .before .refusal .ensures) (number-some cause))
     (number-some cause)
 
 enum-told : tie.Need-enum-told
