@@ -1,5 +1,6 @@
 pub mod Finite
 pub mod Fill
+pub mod Zeros
 pub mod Ring
 pub mod Reading
 pub mod Phases

@@ -112,16 +112,43 @@ pub fn clear(mem: &mut [f64])
     }
 }
 
-// Whether every place is +0 or -0.
+// Whether every place of a part is +0 or -0. It reads them all, with no exit on the way, which compiles to vector instructions.
+fn part_zero(part: &[f64]) -> bool
+    ensures { λ r. ⌜ r ≡ allZero (now (part .entry)) ⌝ }
+{
+    let mut zero = true;
+    let mut i: usize = 0;
+    while i < part.len() {
+        zero = zero & (part[i] == 0.0);
+        i += 1;
+    }
+    zero
+}
+
+// Where the part of at most 512 places from i on ends.
+fn part_end(i: usize, n: usize) -> usize
+    requires { ⌜ i < n ⌝ }
+    ensures { λ r. ⌜ i < r ⌝ }
+    ensures { λ r. ⌜ r ≤ n ⌝ }
+{
+    if n - i > 512 {
+        return i + 512;
+    }
+    n
+}
+
+// Whether every place is +0 or -0: part by part, so that it stops soon after a place that is not.
 pub fn all_zero(places: &[f64]) -> bool
     ensures { λ r. ⌜ r ≡ allZero (now (places .entry)) ⌝ }
 {
+    let n = places.len();
     let mut i: usize = 0;
-    while i < places.len() {
-        if places[i] != 0.0 {
+    while i < n {
+        let end = part_end(i, n);
+        if !part_zero(&places[i..end]) {
             return false;
         }
-        i += 1;
+        i = end;
     }
     true
 }

@@ -1,63 +1,67 @@
--- `common::all_zero` is `allZero`: the loop's invariant is that the places passed are zeros. Assumes nothing.
-use mathlib.Core.Path.{_≡_, refl}
-use Prim.Native.Nat.{_≤_, _-_}
+-- `common::all_zero` is `allZero`: the loop's invariant is that what is left decides, as the parts passed are zeros. Assumes nothing.
+use Prim.Native.Nat.{_-_, _≤_}
 use native.Mathlib.Omega.{arith}
-use native.Mathlib.Numerals.{add-one}
-use lib.ListN.{length, drop, getD, drop-of-length-le}
-use lib.Seq.{drop-cons}
-use lib.Ieee as Ieee
-use mathlib.Core.Bool.{true, false}
-use lib.Ieee.{nan}
+use mathlib.Core.Path.{_≡_, refl, sym, ap, _∙_}
+use mathlib.Core.Bool.{Bool, _&&_}
+use lib.ListN.{length, drop, drop-of-length-le}
 use borrow.Author.Needs.{needs}
 use borrow.Author.Tests.{not-true, not-false}
-use Rattle.common.specs.Line.{allZero, isZero}
+use Rattle.common.specs.Line.{allZero}
+use Rattle.common.proofs.Zeros.{zeros-part}
 use Rattle.common.proofs.all_zero.Statement.{statement}
 use Rattle.common.proofs.all_zero.Tie as tie
 
 abbrev Inv-loop : tie.InvT-loop
-Inv-loop line i₀ i = (i ≤ length line) × (allZero line ≡ allZero (drop i line))
+Inv-loop places n i₀ i = (i ≤ length places) × (allZero places ≡ allZero (drop i places))
 
 abbrev μ-loop : tie.MeasureT-loop
-μ-loop line i₀ i = length line - i
+μ-loop places n i₀ i = length places - i
 
 loop-holds : tie.Need-loop-holds Inv-loop μ-loop
 loop-holds c = (search needs, refl)
 
-mul-if1 : tie.Need-mul-if1 Inv-loop μ-loop
-mul-if1 c = search needs
+part-end-requires : tie.Need-part-end-requires Inv-loop μ-loop
+part-end-requires c κs = search needs
 
-shared-slice-read-if1 : tie.Need-shared-slice-read-if1 Inv-loop μ-loop
-shared-slice-read-if1 c = search needs
+mul-part-zero : tie.Need-mul-part-zero Inv-loop μ-loop
+mul-part-zero c = search needs
+
+sub-part-zero : tie.Need-sub-part-zero Inv-loop μ-loop
+sub-part-zero c = search needs
+
+part-part-zero-start : tie.Need-part-part-zero-start Inv-loop μ-loop
+part-part-zero-start c = search needs
+
+part-part-zero-end : tie.Need-part-part-zero-end Inv-loop μ-loop
+part-part-zero-end c = search needs
+
+part-zero-requires : tie.Need-part-zero-requires Inv-loop μ-loop
+part-zero-requires c κs = search needs
+
+-- what is left, from the part just read on
+rest : (c : tie.After-part-zero Inv-loop μ-loop) → allZero (c .before .before .before .before .before .before .args .places .now) ≡ c .part-zero .result && allZero (drop (c .before .before .part-end .result) (c .before .before .before .before .before .before .args .places .now))
+rest c =
+    let at-loop = c .before .before .before .before in
+    let places = at-loop .before .before .args .places .now in
+    let end = c .before .before .part-end .result in
+    at-loop .loop .inv .1
+    ∙ zeros-part (at-loop .loop .i) end places (omega (arith, c .before .before .part-end .ensures .0))
+    ∙ ap (λ (b : Bool). b && allZero (drop end places)) (sym (c .part-zero .ensures))
 
 returns : tie.Need-returns Inv-loop μ-loop
-unfolding Ieee.ne Ieee.ofBits allZero
-returns c =
-    let at-loop = c .before .before .before in
-    let line = at-loop .before .args .places .now in
-    let i = at-loop .loop .i in
-    let z : isZero (getD line i nan) ≡ false = not-true _ (c .if1 .taken) in
-    rw (at-loop .loop .inv .1, drop-cons line i nan (omega arith), z)
-
-add-i : tie.Need-add-i Inv-loop μ-loop
-add-i c = omega arith
+returns c = sym (rest (c .before) ∙ (rw (not-true (c .before .part-zero .result) (c .if1 .taken))))
 
 loop-less : tie.Need-loop-less Inv-loop μ-loop
-loop-less c = omega arith
+loop-less c = omega (arith, c .before .before .before .part-end .ensures .0, c .before .before .before .part-end .ensures .1)
 
 loop-again : tie.Need-loop-again Inv-loop μ-loop
-unfolding Ieee.ne Ieee.ofBits allZero
-loop-again c =
-    let at-loop = c .before .before .before in
-    let line = at-loop .before .args .places .now in
-    let i = at-loop .loop .i in
-    let z : isZero (getD line i nan) ≡ true = not-false _ (c .if1 .left) in
-    (omega arith, rw (at-loop .loop .inv .1, drop-cons line i nan (omega arith), z, add-one))
+loop-again c = (c .before .before .before .part-end .ensures .1, rest (c .before) ∙ (rw (not-false (c .before .part-zero .result) (c .if1 .left))))
 
 returns-2 : tie.Need-returns-2 Inv-loop μ-loop
 unfolding allZero
 returns-2 c =
-    let line = c .before .before .args .places .now in
-    rw (c .before .loop .inv .1, drop-of-length-le line (c .loop-test .left))
+    let places = c .before .before .before .args .places .now in
+    rw (c .before .loop .inv .1, drop-of-length-le places (c .loop-test .left))
 
 pub all-zero-spec : {M : Type 1} → statement M
 all-zero-spec =
@@ -66,10 +70,13 @@ all-zero-spec =
     Inv-loop
     μ-loop
     loop-holds
-    mul-if1
-    shared-slice-read-if1
+    part-end-requires
+    mul-part-zero
+    sub-part-zero
+    part-part-zero-start
+    part-part-zero-end
+    part-zero-requires
     returns
-    add-i
     loop-less
     loop-again
     returns-2)
