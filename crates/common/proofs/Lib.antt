@@ -1,6 +1,7 @@
 pub mod Finite
 pub mod Fill
 pub mod Zeros
+pub mod Tables
 pub mod Ring
 pub mod Reading
 pub mod Phases

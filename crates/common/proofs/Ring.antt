@@ -13,7 +13,8 @@ use lib.Seq.{ext-getD, getD-set-same, getD-set-other, getD-take, getD-drop}
 use lib.Ieee.{Float, nan}
 use Rattle.float64.specs.Number.{plusZero, wholePart, fractionPart}
 use Rattle.common.specs.Signal.{blended}
-use Rattle.common.specs.Line.{zeros, place, nextPlace, lineAt, readAt, table, newestFirst, readLine}
+use Rattle.common.specs.Line.{zeros, place, nextPlace, lineAt, readAt, newestFirst, readLine}
+use Rattle.common.proofs.Tables.{length-table, getD-table, table-ext}
 
 -- ---- places
 
@@ -64,25 +65,6 @@ place-other L w d h a b = go (decLe d w)
     go : Dec (d ≤ w) → place L w d ≢ w
     go (yes l) = omega (arith, place-low L w d h l)
     go (no l) = omega (arith, place-high L w d (omega arith) (omega arith))
-
--- ---- tables
-
-length-table : (f : ℕ → Float) (n : ℕ) → length (table f n) ≡ n
-unfolding table
-length-table f zero = refl
-length-table f (suc n) = ap suc (length-table (λ i. f (suc i)) n)
-
-getD-table : (f : ℕ → Float) (n i : ℕ) (z : Float) → i < n → getD (table f n) i z ≡ f i
-unfolding table
-getD-table f zero i z h = absurd (not-suc-le-zero h)
-getD-table f (suc n) zero z h = refl
-getD-table f (suc n) (suc i) z h = getD-table (λ j. f (suc j)) n i z (le-of-suc-le-suc h)
-
--- two tables are equal where their entries are
-table-ext : (f g : ℕ → Float) (n : ℕ) → ((i : ℕ) → i < n → f i ≡ g i) → table f n ≡ table g n
-unfolding table
-table-ext f g zero h = refl
-table-ext f g (suc n) h = λ i. h zero (omega arith) i ∷ table-ext (λ j. f (suc j)) (λ j. g (suc j)) n (λ j k. h (suc j) (omega arith)) i
 
 -- ---- the line of L places from place o on, read newest to oldest
 

@@ -30,7 +30,7 @@ unfoldable pub readAt : (ℕ → Float) → Float → Float
 readAt at distance = blended (at (wholePart distance)) (at (wholePart distance + 1)) (fractionPart distance)
 
 -- f 0, f 1 and so on, n of them
-unfoldable pub table : (ℕ → Float) → ℕ → List Float
+unfoldable pub table : {A : Type 0} → (ℕ → A) → ℕ → List A
 table f zero = []
 table f (suc n) = f zero ∷ table (λ i. f (suc i)) n
 

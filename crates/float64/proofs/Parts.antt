@@ -1,5 +1,5 @@
 -- The whole part and the fraction of a value x from 1 to a whole number M of at most 2 ^ 24: 1 ≤ whole part ≤ M, 0 ≤ fraction < 1, their sum is x itself and not just near it, and at M the
--- fraction is +0. And what is clamped to 1 .. M lies there. Assumes nothing.
+-- fraction is +0. And what is clamped to 1 .. M lies there; whole numbers keep their order. Assumes nothing.
 use mathlib.Core.Path.{_≡_, sym, ap, _∙_, subst}
 use mathlib.Core.Bool.{true, _&&_}
 use Prim.Native.Nat.{ℕ, _+_, _*_, _/_, _%_, _^_, _≤_, _<_, zero-le}
@@ -79,3 +79,15 @@ module _ (M : ℕ) (h : M ≤ 2 ^ 24) where
             ap (λ (d : ℕ). sub B x (whole d)) t ∙ ap (λ (z : Float). sub B z (whole M)) y ∙ less-itself B (whole M) (hi-finite B (whole 1) (whole M) (i .ends-ok));
         small = le-lt-lt B x (whole 16777216) (whole 9007199254740992) (i .fit) tt tt top tt;
       }
+
+-- a whole number between two others lies between them as a float
+pub whole-between : (a n b : ℕ) → a ≤ n → n ≤ b → b ≤ 2 ^ 24 → In binary64 (whole a) (whole b) (whole n)
+whole-between a n b h k l =
+    let x = ofInt-at binary64 a (wide a (omega arith)) in
+    let y = ofInt-at binary64 n (wide n (omega arith)) in
+    let z = ofInt-at binary64 b (wide b l) in
+    let both = and-i (fits binary64 (whole a)) (fits binary64 (whole b)) (x .fit) (z .fit) in
+    let low = and-i (fits binary64 (whole a) && fits binary64 (whole b)) (finite (whole a)) both (in-finite (whole-in a (omega arith))) in
+    box (and-i (fits binary64 (whole a) && fits binary64 (whole b) && finite (whole a)) (finite (whole b)) low (in-finite (whole-in b l))) (y .fit)
+    (le-of-size x y (mul-le-mul-right (one binary64) h))
+    (le-of-size y z (mul-le-mul-right (one binary64) k))

@@ -1,0 +1,2 @@
+pub mod Freeverb
+pub mod Tunings

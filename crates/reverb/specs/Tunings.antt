@@ -1,0 +1,68 @@
+-- How long the reverb's lines are: Freeverb's lengths at 44,100, scaled to the rate. Definitions only. Assumes nothing.
+use Prim.Native.Nat.{ℕ, _+_, min, max}
+use mathlib.Core.Bool.{Bool, true, _&&_}
+use mathlib.Core.List.{List, [], _∷_, map}
+use lib.Dec.{leb}
+use lib.ListN.{replicate}
+use lib.Ieee.{Float, binary64, mul, div}
+use Rattle.float64.specs.Number.{whole, wholePart, roundHalfAway}
+use Rattle.reverb.specs.declared.Lengths.{Lengths}
+
+pub data Side : Type 0 where
+  left : Side
+  right : Side
+
+-- lengths at 44,100
+abbrev pub combTunings : List ℕ
+combTunings = 1116 ∷ 1188 ∷ 1277 ∷ 1356 ∷ 1422 ∷ 1491 ∷ 1557 ∷ 1617 ∷ []
+
+abbrev pub allpassTunings : List ℕ
+allpassTunings = 556 ∷ 441 ∷ 341 ∷ 225 ∷ []
+
+-- rate / 44100, rounded before anything is multiplied by it
+unfoldable pub ratio : Float → Float
+ratio rate = div binary64 rate (whole 44100)
+
+-- base × ratio cut to its whole part, at most `most`
+unfoldable pub scaled : ℕ → Float → ℕ → ℕ
+scaled most r base = min (wholePart (mul binary64 (whole base) r)) most
+
+-- 23 × ratio, rounded half away from zero, at least 1
+unfoldable pub spread : Float → ℕ
+spread r = max (roundHalfAway (mul binary64 (whole 23) r)) 1
+
+-- a left length plus the spread, under the same cap
+unfoldable pub beside : ℕ → ℕ → ℕ → ℕ
+beside most wide length = min (length + wide) most
+
+-- the lengths of the lines that have these tunings, at most `most`
+abbrev pub lineLengths : ℕ → List ℕ → Side → Float → List ℕ
+lineLengths most tunings left rate = map (scaled most (ratio rate)) tunings
+lineLengths most tunings right rate = map (λ base. beside most (spread (ratio rate)) (scaled most (ratio rate) base)) tunings
+
+abbrev pub combLengths : Side → Float → List ℕ
+combLengths side rate = lineLengths 4095 combTunings side rate
+
+abbrev pub allpassLengths : Side → Float → List ℕ
+allpassLengths side rate = lineLengths 1499 allpassTunings side rate
+
+-- ---- as the code hands them on
+
+abbrev pub lengthsAt : Float → Lengths
+lengthsAt rate =
+    record {
+      «comb_l» = combLengths left rate;
+      «comb_r» = combLengths right rate;
+      «allpass_l» = allpassLengths left rate;
+      «allpass_r» = allpassLengths right rate;
+    }
+
+-- at a refused rate
+abbrev pub noLengths : Lengths
+noLengths =
+    record { «comb_l» = replicate 8 0; «comb_r» = replicate 8 0; «allpass_l» = replicate 4 0; «allpass_r» = replicate 4 0 }
+
+-- whether the tunings lie where the quick whole part serves: from 225 to 1617
+unfoldable pub tuned : List ℕ → Bool
+tuned [] = true
+tuned (base ∷ bases) = leb 225 base && (leb base 1617 && tuned bases)
