@@ -1,2 +1,3 @@
 pub mod Freeverb
 pub mod Tunings
+pub mod Reverb

@@ -2,11 +2,18 @@
 ghost use mathlib.Core.Path.{_≡_};
 ghost use mathlib.Core.Bool.{true, cond};
 ghost use mathlib.Core.List.{map};
-ghost use Prim.Native.Nat.{_+_, _≤_, _<_};
+ghost use Prim.Native.Nat.{ℕ, _+_, _*_, _≤_, _<_};
 ghost use lib.ListN as ListN;
 ghost use Rattle.float64.specs.Number.{whole, fraction, inRange, rateFits};
+ghost use Rattle.port.specs.Answer.{numberOf, outcomeReply, silenceReply};
+ghost use Rattle.effect.specs.Run.{retune, reset, ask, startNumber, numberIn};
+ghost use Rattle.effect.specs.Contract.{Does, Starts};
 ghost use Rattle.reverb.specs.Freeverb.{combed, combLine, passed, passLine};
 ghost use Rattle.reverb.specs.Tunings.{scaled, spread, beside, lengthsAt, noLengths, tuned};
+ghost use Rattle.reverb.specs.Reverb.{reverb, cleared, allBelow, fits, linesZero, silence};
+use port::Outcome;
+use port::Refusal;
+use port::Silence;
 
 // How long each line is.
 pub struct Lengths {
@@ -38,6 +45,12 @@ pub struct Reverb {
     pub allpass_pos_r: [u64; 4],
     pub predelay_pos: u64,
     pub sample_rate: f64,
+}
+
+// What start, retune and reset return.
+pub struct Cleared {
+    pub state: Reverb,
+    pub outcome: Outcome,
 }
 
 impl Reverb {
@@ -140,6 +153,209 @@ impl Reverb {
             allpass_r,
         }
     }
+
+    // ---- start, retune, reset, silent
+
+    // Positions 0 and damping stores +0, at the rate.
+    fn cleared(rate: f64) -> Reverb
+        ensures { λ r. ⌜ r ≡ cleared rate ⌝ }
+    {
+        let comb_pos_l: [u64; 8] = [0; 8];
+        let comb_pos_r: [u64; 8] = [0; 8];
+        let comb_filter_state_l: [f64; 8] = [0.0; 8];
+        let comb_filter_state_r: [f64; 8] = [0.0; 8];
+        let allpass_pos_l: [u64; 4] = [0; 4];
+        let allpass_pos_r: [u64; 4] = [0; 4];
+        Reverb {
+            comb_pos_l,
+            comb_pos_r,
+            comb_filter_state_l,
+            comb_filter_state_r,
+            allpass_pos_l,
+            allpass_pos_r,
+            predelay_pos: 0,
+            sample_rate: rate,
+        }
+    }
+
+    // Causes 1 and 3: a rate that is refused, and memory that is too short.
+    fn rate_refusal(rate: f64, places: usize) -> Outcome
+        ensures { λ r. ⌜ numberOf r ≡ startNumber reverb rate places ⌝ }
+    {
+        if !float64::rate_fits(rate) {
+            return Outcome::Refused(Refusal::SampleRate);
+        }
+        effect::check_memory(87136, places)
+    }
+
+    // Start: a clearing at the rate.
+    pub fn new(sample_rate: f64, mem: &mut [f64]) -> Cleared
+        ensures { λ r. ⌜ Starts reverb «sample_rate» (now (mem .entry)) (r .state) (now (mem .exit)) (outcomeReply (r .outcome)) ⌝ }
+    {
+        let refusal = Reverb::rate_refusal(sample_rate, mem.len());
+        if let Outcome::Refused(cause) = refusal {
+            return Cleared {
+                state: Reverb::cleared(0.0),
+                outcome: Outcome::Refused(cause),
+            };
+        }
+        common::clear(mem);
+        Cleared {
+            state: Reverb::cleared(sample_rate),
+            outcome: Outcome::Accepted,
+        }
+    }
+
+    // Whether each position is below its line's length. No branch at each: a tick asks this of 24 lines.
+    fn all_below(positions: &[u64], lengths: &[u64]) -> bool
+        requires { ⌜ ListN.length (now positions) ≡ ListN.length (now lengths) ⌝ }
+        ensures { λ r. ⌜ r ≡ allBelow (now (positions .entry)) (now (lengths .entry)) ⌝ }
+    {
+        let mut below = true;
+        let mut i: usize = 0;
+        while i < positions.len() {
+            below = below & (positions[i] < lengths[i]);
+            i += 1;
+        }
+        below
+    }
+
+    // The state test, by every line's length.
+    fn state_fits(self, n: Lengths) -> bool
+        requires { ⌜ n ≡ cond (rateFits (self .«sample_rate»)) (lengthsAt (self .«sample_rate»)) noLengths ⌝ }
+        ensures { λ r. ⌜ r ≡ fits self ⌝ }
+    {
+        let w0 = self.comb_pos_l;
+        let n0 = n.comb_l;
+        let w1 = self.allpass_pos_l;
+        let n1 = n.allpass_l;
+        let w2 = self.comb_pos_r;
+        let n2 = n.comb_r;
+        let w3 = self.allpass_pos_r;
+        let n3 = n.allpass_r;
+        let left = Reverb::all_below(&w0, &n0) & Reverb::all_below(&w1, &n1);
+        let right = Reverb::all_below(&w2, &n2) & Reverb::all_below(&w3, &n3);
+        (self.predelay_pos < 9600) & (left & right)
+    }
+
+    // Causes 4 and 3: a state that fails its test, and memory that is too short.
+    fn refusal(self, n: Lengths, places: usize) -> Outcome
+        requires { ⌜ n ≡ cond (rateFits (self .«sample_rate»)) (lengthsAt (self .«sample_rate»)) noLengths ⌝ }
+        ensures { λ r. ⌜ numberOf r ≡ numberIn reverb reset places self ⌝ }
+    {
+        if !self.state_fits(n) {
+            return Outcome::Refused(Refusal::State);
+        }
+        effect::check_memory(87136, places)
+    }
+
+    // Retune: a clearing at another rate.
+    pub fn set_sample_rate(self, sample_rate: f64, mem: &mut [f64]) -> Cleared
+        ensures { λ r. ⌜ Does reverb (retune «sample_rate») self (now (mem .entry)) (r .state) (now (mem .exit)) (outcomeReply (r .outcome)) ⌝ }
+    {
+        let n = Reverb::lengths(self.sample_rate);
+        if !self.state_fits(n) {
+            return Cleared {
+                state: self,
+                outcome: Outcome::Refused(Refusal::State),
+            };
+        }
+        let refusal = Reverb::rate_refusal(sample_rate, mem.len());
+        if let Outcome::Refused(cause) = refusal {
+            return Cleared {
+                state: self,
+                outcome: Outcome::Refused(cause),
+            };
+        }
+        common::clear(mem);
+        Cleared {
+            state: Reverb::cleared(sample_rate),
+            outcome: Outcome::Accepted,
+        }
+    }
+
+    // Reset: a clearing at the rate in force.
+    pub fn reset(self, mem: &mut [f64]) -> Cleared
+        ensures { λ r. ⌜ Does reverb reset self (now (mem .entry)) (r .state) (now (mem .exit)) (outcomeReply (r .outcome)) ⌝ }
+    {
+        let n = Reverb::lengths(self.sample_rate);
+        let refusal = self.refusal(n, mem.len());
+        if let Outcome::Refused(cause) = refusal {
+            return Cleared {
+                state: self,
+                outcome: Outcome::Refused(cause),
+            };
+        }
+        common::clear(mem);
+        Cleared {
+            state: Reverb::cleared(self.sample_rate),
+            outcome: Outcome::Accepted,
+        }
+    }
+
+    // Whether the lines that lie `apart` places from each other, the first from place o on, are zeros up to their lengths.
+    fn lines_zero(mem: &[f64], o: usize, apart: usize, lengths: &[u64]) -> bool
+        requires { ⌜ o + ListN.length (now lengths) * apart ≤ ListN.length (now mem) ⌝ }
+        requires { ⌜ ((k : ℕ) → k < ListN.length (now lengths) → ListN.getD (now lengths) k 0 ≤ apart) ⌝ }
+        ensures { λ r. ⌜ r ≡ linesZero o apart (now (lengths .entry)) (now (mem .entry)) ⌝ }
+    {
+        let mut at = o;
+        let mut i: usize = 0;
+        while i < lengths.len() {
+            let end = at + lengths[i] as usize;
+            if !common::all_zero(&mem[at..end]) {
+                return false;
+            }
+            at += apart;
+            i += 1;
+        }
+        true
+    }
+
+    // Whether every place in use is +0 or -0.
+    fn all_silent(rate: f64, n: Lengths, mem: &[f64]) -> bool
+        requires { ⌜ n ≡ lengthsAt rate ⌝ }
+        requires { ⌜ 87136 ≤ ListN.length (now mem) ⌝ }
+        ensures { λ r. ⌜ r ≡ silence rate (now (mem .entry)) ⌝ }
+    {
+        let n0 = n.comb_l;
+        let n1 = n.allpass_l;
+        let n2 = n.comb_r;
+        let n3 = n.allpass_r;
+        let o: usize = 77536;
+        let e: usize = 87136;
+        if !Reverb::lines_zero(mem, 0, 4096, &n0) {
+            return false;
+        }
+        if !Reverb::lines_zero(mem, 65536, 1500, &n1) {
+            return false;
+        }
+        if !Reverb::lines_zero(mem, 32768, 4096, &n2) {
+            return false;
+        }
+        if !Reverb::lines_zero(mem, 71536, 1500, &n3) {
+            return false;
+        }
+        common::all_zero(&mem[o..e])
+    }
+
+    // Silent? Whether every place in use is +0 or -0.
+    pub fn silent(self, mem: &[f64]) -> Silence
+        ensures { λ r. ⌜ Does reverb ask self (now (mem .entry)) self (now (mem .entry)) (silenceReply r) ⌝ }
+    {
+        let n = Reverb::lengths(self.sample_rate);
+        let refusal = self.refusal(n, mem.len());
+        if let Outcome::Refused(cause) = refusal {
+            return Silence::Refused(cause);
+        }
+        if Reverb::all_silent(self.sample_rate, n, mem) {
+            Silence::Silent
+        } else {
+            Silence::Sounding
+        }
+    }
+
+    // ---- tick
 
     // One step of a comb on its part of the tank.
     fn process_comb(

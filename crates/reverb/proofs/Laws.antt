@@ -1,0 +1,100 @@
+-- The reverb's definitions by their cases: the state test and silence. Assumes nothing.
+use Prim.Native.Nat.{ℕ, _<_}
+use mathlib.Core.Path.{_≡_, refl, sym, ap, _∙_}
+use mathlib.Core.Bool.{Bool, true, false, _&&_, cond}
+use lib.Dec.{ltb, eqb}
+use mathlib.Core.List.{List}
+use lib.ListN.{length, take, drop, replicate}
+use lib.Ieee.{Float}
+use borrow.Author.Tests.{ltb-true, lt-ltb, eqb-true, eq-eqb}
+use Rattle.float64.specs.Number.{rateFits}
+use Rattle.float64.proofs.Tests.{both}
+use Rattle.common.specs.Line.{allZero}
+use Rattle.reverb.specs.declared.Lengths.{Lengths}
+use Rattle.reverb.specs.declared.Reverb.{Reverb}
+use Rattle.reverb.specs.Tunings.{Side, left, right, combLengths, allpassLengths, lengthsAt, noLengths}
+use Rattle.reverb.specs.Reverb.{combPositions, combStores, allpassPositions, allBelow, sideFits, fits, linesZero, silence}
+use Rattle.reverb.proofs.Lists.{and-true, and-false, below-zero}
+
+-- ---- the state test
+
+-- what it says of a side
+pub record SideFits (side : Side) (s : Reverb) : Type 0 where
+  pub combs : allBelow (combPositions side s) (combLengths side (s .«sample_rate»)) ≡ true
+  pub allpasses : allBelow (allpassPositions side s) (allpassLengths side (s .«sample_rate»)) ≡ true
+  pub stores : length (combStores side s) ≡ 8
+
+pub record Fits (s : Reverb) : Type 0 where
+  pub rate : rateFits (s .«sample_rate») ≡ true
+  pub predelay : s .«predelay_pos» < 9600
+  pub sides : (side : Side) → SideFits side s
+
+side-parts : (side : Side) (s : Reverb) → sideFits side s ≡ true → SideFits side s
+side-parts side s e =
+    let c = allBelow (combPositions side s) (combLengths side (s .«sample_rate»)) in
+    let p = allBelow (allpassPositions side s) (allpassLengths side (s .«sample_rate»)) in
+    let n = eqb (length (combStores side s)) 8 in
+    let a = both c (p && n) e in
+    let b = both p n (a .1) in
+    record { combs = a .0; allpasses = b .0; stores = eqb-true (length (combStores side s)) 8 (b .1) }
+
+side-fit : (side : Side) (s : Reverb) → SideFits side s → sideFits side s ≡ true
+side-fit side s f = rw (f .combs, f .allpasses, eq-eqb (length (combStores side s)) 8 (f .stores))
+
+module _ (s : Reverb) where
+  pub fits-parts : fits s ≡ true → Fits s
+  unfolding fits
+  fits-parts e =
+      let p = ltb (s .«predelay_pos») 9600 in
+      let a = both (rateFits (s .«sample_rate»)) (p && (sideFits left s && sideFits right s)) e in
+      let b = both p (sideFits left s && sideFits right s) (a .1) in
+      let c = both (sideFits left s) (sideFits right s) (b .1) in
+      record { rate = a .0; predelay = ltb-true (s .«predelay_pos») 9600 (b .0); sides = each (c .0) (c .1) }
+    where
+      each : sideFits left s ≡ true → sideFits right s ≡ true → (side : Side) → SideFits side s
+      each l r left = side-parts left s l
+      each l r right = side-parts right s r
+
+  pub fit : Fits s → fits s ≡ true
+  unfolding fits
+  fit f = rw (f .rate, lt-ltb (s .«predelay_pos») 9600 (f .predelay), side-fit left s (f .sides left), side-fit right s (f .sides right))
+
+  -- by every line's length, as `lengths` answers it, and for arrays, which are as long as they are
+  pub fits-by : {n : Lengths} → n ≡ cond (rateFits (s .«sample_rate»)) (lengthsAt (s .«sample_rate»)) noLengths
+      → ((side : Side) → length (combStores side s) ≡ 8)
+      → ltb (s .«predelay_pos») 9600
+      && ((allBelow (s .«comb_pos_l») (n .«comb_l») && allBelow (s .«allpass_pos_l») (n .«allpass_l»))
+      && (allBelow (s .«comb_pos_r») (n .«comb_r») && allBelow (s .«allpass_pos_r») (n .«allpass_r»)))
+      ≡ fits s
+  unfolding fits
+  fits-by {n} e stores = go (rateFits (s .«sample_rate»)) e
+    where
+      rate : Float
+      rate = s .«sample_rate»
+
+      side : (w : Side) → allBelow (combPositions w s) (combLengths w rate) && allBelow (allpassPositions w s) (allpassLengths w rate) ≡ sideFits w s
+      side w =
+          rw (eq-eqb (length (combStores w s)) 8 (stores w))
+          (ap (λ (b : Bool). allBelow (combPositions w s) (combLengths w rate) && b) (sym (and-true (allBelow (allpassPositions w s) (allpassLengths w rate)))))
+
+      go : (b : Bool) → n ≡ cond b (lengthsAt rate) noLengths
+          → ltb (s .«predelay_pos») 9600
+          && ((allBelow (s .«comb_pos_l») (n .«comb_l») && allBelow (s .«allpass_pos_l») (n .«allpass_l»))
+          && (allBelow (s .«comb_pos_r») (n .«comb_r») && allBelow (s .«allpass_pos_r») (n .«allpass_r»)))
+          ≡ b && (ltb (s .«predelay_pos») 9600 && (sideFits left s && sideFits right s))
+      go true e = rw e (λ i. ltb (s .«predelay_pos») 9600 && (side left i && side right i))
+      go false e = rw (e, below-zero (s .«comb_pos_l») (replicate 7 0)) (and-false (ltb (s .«predelay_pos») 9600))
+
+-- ---- silence, by every line's length
+
+pub silence-by : (rate : Float) (m : List Float) {n : Lengths} → n ≡ lengthsAt rate
+    → silence rate m
+    ≡ (linesZero 0 4096 (n .«comb_l») m && linesZero 65536 1500 (n .«allpass_l») m)
+    && ((linesZero 32768 4096 (n .«comb_r») m && linesZero 71536 1500 (n .«allpass_r») m) && allZero (take 9600 (drop 77536 m)))
+unfolding silence
+silence-by rate m e = rw e
+
+-- ---- the lengths that `lengths` answers, at a rate that fits
+
+pub lengths-are : (rate : Float) {n : Lengths} → rateFits rate ≡ true → n ≡ cond (rateFits rate) (lengthsAt rate) noLengths → n ≡ lengthsAt rate
+lengths-are rate h e = rw h at e
