@@ -2,6 +2,7 @@ pub mod Finite
 pub mod Fill
 pub mod Zeros
 pub mod Tables
+pub mod Slices
 pub mod Ring
 pub mod Reading
 pub mod Phases

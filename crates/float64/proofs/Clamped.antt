@@ -6,7 +6,7 @@ use lib.Dec.{T}
 use lib.Ieee.{Float, binary64, fits, isNan, le, lt}
 use Rattle.float64.specs.Number.{isNumber, clampOf, atLeast, atMost}
 use Rattle.float64.proofs.Order.{le-reflexive, not-lt→le, le→not-lt, finite-num}
-use Rattle.float64.proofs.Interval.{In, ends, box, lo-fits, hi-fits, lo-finite, hi-finite}
+use Rattle.float64.proofs.Interval.{In, ends, box, in-finite, lo-fits, hi-fits, lo-finite, hi-finite}
 use Rattle.float64.proofs.Ranges.{number-fits, number-num}
 
 pub clamp-in : (x : Float) {lo hi : Float} → T (ends binary64 lo hi) → T (le lo hi) → isNumber x ≡ true → In binary64 lo hi (clampOf x lo hi)
@@ -54,3 +54,19 @@ clamp-halves x lo hi h = go (lt x lo)
     go : (b : Bool) → cond (lt hi (cond b lo x)) hi (cond b lo x) ≡ cond b lo (cond (lt hi x) hi x)
     go true = ap (λ (b : Bool). cond b hi lo) h
     go false = refl
+
+-- what is lowered to hi lies at or below it
+pub at-most-in : {lo top x : Float} (hi : Float) → T (ends binary64 lo hi) → T (le lo hi) → In binary64 lo top x → In binary64 lo hi (atMost x hi)
+unfolding atMost
+at-most-in {lo} {top} {x} hi t h i =
+    go (lt hi x) (not-lt→le binary64 hi x u (i .fit) q (finite-num x (in-finite i)))
+  where
+    u : T (fits binary64 hi)
+    u = hi-fits binary64 lo hi t
+
+    q : T (not (isNan hi))
+    q = finite-num hi (hi-finite binary64 lo hi t)
+
+    go : (b : Bool) → (T (not b) → T (le x hi)) → In binary64 lo hi (cond b hi x)
+    go true k = box t u h (le-reflexive binary64 hi u q)
+    go false k = box t (i .fit) (i .lower) (k tt)

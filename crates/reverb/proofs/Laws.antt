@@ -1,7 +1,7 @@
--- The reverb's definitions by their cases: the state test and silence. Assumes nothing.
+-- The reverb's definitions by their cases: the state test, silence and cause 5. Assumes nothing.
 use Prim.Native.Nat.{ℕ, _<_}
 use mathlib.Core.Path.{_≡_, refl, sym, ap, _∙_}
-use mathlib.Core.Bool.{Bool, true, false, _&&_, cond}
+use mathlib.Core.Bool.{Bool, true, false, _&&_, _||_, cond}
 use lib.Dec.{ltb, eqb}
 use mathlib.Core.List.{List}
 use lib.ListN.{length, take, drop, replicate}
@@ -9,11 +9,13 @@ use lib.Ieee.{Float}
 use borrow.Author.Tests.{ltb-true, lt-ltb, eqb-true, eq-eqb}
 use Rattle.float64.specs.Number.{rateFits}
 use Rattle.float64.proofs.Tests.{both}
+use Rattle.port.specs.Port.{isNanSet}
 use Rattle.common.specs.Line.{allZero}
+use Rattle.common.proofs.Sweep.{no-cause, neither}
 use Rattle.reverb.specs.declared.Lengths.{Lengths}
 use Rattle.reverb.specs.declared.Reverb.{Reverb}
 use Rattle.reverb.specs.Tunings.{Side, left, right, combLengths, allpassLengths, lengthsAt, noLengths}
-use Rattle.reverb.specs.Reverb.{combPositions, combStores, allpassPositions, allBelow, sideFits, fits, linesZero, silence}
+use Rattle.reverb.specs.Reverb.{Tick, combPositions, combStores, allpassPositions, allBelow, sideFits, fits, tickNumber, linesZero, silence}
 use Rattle.reverb.proofs.Lists.{and-true, and-false, below-zero}
 
 -- ---- the state test
@@ -98,3 +100,14 @@ silence-by rate m e = rw e
 
 pub lengths-are : (rate : Float) {n : Lengths} → rateFits rate ≡ true → n ≡ cond (rateFits rate) (lengthsAt rate) noLengths → n ≡ lengthsAt rate
 lengths-are rate h e = rw h at e
+
+-- ---- cause 5
+
+-- the predelay of a tick that is not refused for it is no NaN
+pub predelay-number : (t : Tick) → tickNumber t ≡ 0 → isNanSet (t .predelay) ≡ false
+unfolding tickNumber
+predelay-number t e =
+    let mixes = isNanSet (t .mix) || isNanSet (t .predelay) in
+    let others = isNanSet (t .damping) || mixes in
+    let a = neither (isNanSet (t .size)) others (no-cause (isNanSet (t .size) || others) true e .0) in
+    neither (isNanSet (t .mix)) (isNanSet (t .predelay)) (neither (isNanSet (t .damping)) mixes (a .1) .1) .1

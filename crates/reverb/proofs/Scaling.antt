@@ -6,7 +6,7 @@ use mathlib.Core.Path.{_≡_}
 use mathlib.Core.Bool.{true, _&&_}
 use mathlib.Core.List.{List, [], _∷_, map}
 use lib.Dec.{T, leb}
-use lib.ListN.{length, getD}
+use lib.ListN.{length, getD, length-map}
 use lib.Ieee.{Float, binary64, mul, div, le, lt, ofInt, round}
 use lib.Ieee as Ieee
 use borrow.Author.Tests.{leb-true}
@@ -57,3 +57,8 @@ unfolding scaled beside
 lines-most most tunings left rate i = mapped-most (scaled most (ratio rate)) most tunings i (λ b. min-le-right _ _)
 lines-most most tunings right rate i =
     mapped-most (λ base. beside most (spread (ratio rate)) (scaled most (ratio rate) base)) most tunings i (λ b. min-le-right _ _)
+
+-- as many as tunings
+pub length-lines : (most : ℕ) (tunings : List ℕ) (side : Side) (rate : Float) → length (lineLengths most tunings side rate) ≡ length tunings
+length-lines most tunings left rate = length-map tunings _
+length-lines most tunings right rate = length-map tunings _

@@ -20,15 +20,13 @@ combStore held store damping = add binary64 (mul binary64 held (sub binary64 (wh
 unfoldable pub combFed : Float → Float → Float → Float
 combFed input store feedback = add binary64 input (mul binary64 store feedback)
 
--- a step on a line: what it answers, the next store and the next position
-unfoldable pub combed : List Float → ℕ → ℕ → Float → Float → Combed
-combed line length pos store damping =
-    let held = getD line pos nan in
-    record { output = held; «filter_state» = combStore held store damping; pos = nextPlace length pos }
+-- a step at the position pos of a line, whose place there held so much: what it answers, the next store and the next position
+unfoldable pub combed : Float → ℕ → ℕ → Float → Float → Combed
+combed held length pos store damping = record { output = held; «filter_state» = combStore held store damping; pos = nextPlace length pos }
 
--- and the line that it leaves
+-- and the places that it leaves, of which the one at p is its own
 unfoldable pub combLine : List Float → ℕ → Float → Float → Float → Float → List Float
-combLine line pos store input damping feedback = set line pos (combFed input (combStore (getD line pos nan) store damping) feedback)
+combLine m p store input damping feedback = set m p (combFed input (combStore (getD m p nan) store damping) feedback)
 
 -- ---- the all-pass
 
@@ -40,9 +38,9 @@ passOutput input held = add binary64 (neg input) held
 unfoldable pub passFed : Float → Float → Float
 passFed input held = add binary64 input (mul binary64 held half)
 
--- a step on a line
-unfoldable pub passed : List Float → ℕ → ℕ → Float → Passed
-passed line length pos input = record { output = passOutput input (getD line pos nan); pos = nextPlace length pos }
+-- a step, as of a comb
+unfoldable pub passed : Float → ℕ → ℕ → Float → Passed
+passed held length pos input = record { output = passOutput input held; pos = nextPlace length pos }
 
 unfoldable pub passLine : List Float → ℕ → Float → List Float
-passLine line pos input = set line pos (passFed input (getD line pos nan))
+passLine m p input = set m p (passFed input (getD m p nan))

@@ -124,12 +124,13 @@ delay t rate = delaySamples (clampOf (valueOr (t .predelay) plusZero) plusZero (
 
 -- ---- the predelay
 
--- It writes the audio first, so that a delay of 0 passes the audio itself; every other place holds what it held before the tick.
-unfoldable pub delayed : Float → ℕ → ℕ → List Float → Float
-delayed x w d m = cond (eqb d 0) x (lineAt predelayStart 9600 w m d)
+-- The line from place o on, at the position w, with the audio x and a delay of d samples. It writes the audio first, so that a delay of 0 passes the audio
+-- itself; every other place holds what it held before the tick.
+unfoldable pub delayed : ℕ → ℕ → ℕ → Float → List Float → Float
+delayed o w d x m = cond (eqb d 0) x (lineAt o 9600 w m d)
 
 abbrev pub predelayed : Tick → Reverb → List Float → Float
-predelayed t s m = delayed (input t) (s .«predelay_pos») (delay t (s .«sample_rate»)) m
+predelayed t s m = delayed predelayStart (s .«predelay_pos») (delay t (s .«sample_rate»)) (input t) m
 
 -- ---- the combs of a side. Each line is read before its own store, and the lines lie apart: m is the memory before the tick
 
@@ -168,6 +169,11 @@ allpassHeld side s m i = getD m (allpassPlace side s i) nan
 unfoldable pub passedOn : Side → Float → Reverb → List Float → ℕ → Float
 passedOn side x s m zero = x
 passedOn side x s m (suc i) = passOutput (passedOn side x s m i) (allpassHeld side s m i)
+
+-- l on the left, r on the right
+abbrev pub sided : Float → Float → Side → Float
+sided l r left = l
+sided l r right = r
 
 unfoldable pub allpassWrite : (Side → Float) → Reverb → List Float → ℕ → Side → Write
 allpassWrite x s m i side = record { place = allpassPlace side s i; value = passFed (passedOn side (x side) s m i) (allpassHeld side s m i) }

@@ -4,14 +4,20 @@ ghost use mathlib.Core.Bool.{true, cond};
 ghost use mathlib.Core.List.{map};
 ghost use Prim.Native.Nat.{ℕ, _+_, _*_, _≤_, _<_};
 ghost use lib.ListN as ListN;
+ghost use lib.Ieee.{nan};
 ghost use Rattle.float64.specs.Number.{whole, fraction, inRange, rateFits};
-ghost use Rattle.port.specs.Answer.{numberOf, outcomeReply, silenceReply};
-ghost use Rattle.effect.specs.Run.{retune, reset, ask, startNumber, numberIn};
+ghost use Rattle.port.specs.declared.Port.the-variants.{Set};
+ghost use Rattle.port.specs.Answer.{numberOf, outcomeReply, answerReply, silenceReply};
+ghost use Rattle.common.specs.Line.{table, nextPlace};
+ghost use Rattle.effect.specs.Effect.{laid};
+ghost use Rattle.effect.specs.Run.{tick, retune, reset, ask, startNumber, numberIn};
 ghost use Rattle.effect.specs.Contract.{Does, Starts};
 ghost use Rattle.reverb.specs.Freeverb.{combed, combLine, passed, passLine};
-ghost use Rattle.reverb.specs.Tunings.{scaled, spread, beside, lengthsAt, noLengths, tuned};
-ghost use Rattle.reverb.specs.Reverb.{reverb, cleared, allBelow, fits, linesZero, silence};
+ghost use Rattle.reverb.specs.Tunings.{left, right, scaled, spread, beside, lengthsAt, noLengths, tuned};
+ghost use Rattle.reverb.specs.Reverb.{reverb, ticked, cleared, allBelow, fits, delaySamples, delayed, combHeld, sumOf, combStored, combWrite, combMoved, passedOn, sided, allpassWrite, allpassMoved, bySides, linesZero, silence};
+use port::Answer;
 use port::Outcome;
+use port::Port;
 use port::Refusal;
 use port::Silence;
 
@@ -36,6 +42,24 @@ pub struct Passed {
     pub pos: u64,
 }
 
+// What the sixteen combs leave, and their sums.
+pub struct Combs {
+    pub pos_l: [u64; 8],
+    pub pos_r: [u64; 8],
+    pub filter_state_l: [f64; 8],
+    pub filter_state_r: [f64; 8],
+    pub sum_l: f64,
+    pub sum_r: f64,
+}
+
+// What the eight all-passes leave, and what comes out of the last of each side.
+pub struct Passes {
+    pub pos_l: [u64; 4],
+    pub pos_r: [u64; 4],
+    pub output_l: f64,
+    pub output_r: f64,
+}
+
 pub struct Reverb {
     pub comb_pos_l: [u64; 8],
     pub comb_pos_r: [u64; 8],
@@ -51,6 +75,12 @@ pub struct Reverb {
 pub struct Cleared {
     pub state: Reverb,
     pub outcome: Outcome,
+}
+
+// What a tick returns.
+pub struct Ticked {
+    pub state: Reverb,
+    pub answer: Answer,
 }
 
 impl Reverb {
@@ -369,7 +399,7 @@ impl Reverb {
     ) -> Combed
         requires { ⌜ pos < length ⌝ }
         requires { ⌜ length ≤ ListN.length (now line) ⌝ }
-        ensures { λ r. ⌜ r ≡ combed (now (line .entry)) length pos «filter_state» damping ⌝ }
+        ensures { λ r. ⌜ r ≡ combed (ListN.getD (now (line .entry)) pos nan) length pos «filter_state» damping ⌝ }
         ensures { λ _. ⌜ now (line .exit) ≡ combLine (now (line .entry)) pos «filter_state» input damping feedback ⌝ }
     {
         let w = pos as usize;
@@ -387,7 +417,7 @@ impl Reverb {
     fn process_allpass(line: &mut [f64], pos: u64, input: f64, length: u64) -> Passed
         requires { ⌜ pos < length ⌝ }
         requires { ⌜ length ≤ ListN.length (now line) ⌝ }
-        ensures { λ r. ⌜ r ≡ passed (now (line .entry)) length pos input ⌝ }
+        ensures { λ r. ⌜ r ≡ passed (ListN.getD (now (line .entry)) pos nan) length pos input ⌝ }
         ensures { λ _. ⌜ now (line .exit) ≡ passLine (now (line .entry)) pos input ⌝ }
     {
         let w = pos as usize;
@@ -397,5 +427,248 @@ impl Reverb {
             output: -input + buffered,
             pos: common::next_place(length, pos),
         }
+    }
+
+    // The comb whose part of the tank starts at place o.
+    fn comb_at(
+        mem: &mut [f64],
+        o: usize,
+        pos: u64,
+        filter_state: f64,
+        input: f64,
+        length: u64,
+        feedback: f64,
+        damping: f64,
+    ) -> Combed
+        requires { ⌜ pos < length ⌝ }
+        requires { ⌜ length ≤ 4096 ⌝ }
+        requires { ⌜ o + 4096 ≤ ListN.length (now mem) ⌝ }
+        ensures { λ r. ⌜ r ≡ combed (ListN.getD (now (mem .entry)) (o + pos) nan) length pos «filter_state» damping ⌝ }
+        ensures { λ _. ⌜ now (mem .exit) ≡ combLine (now (mem .entry)) (o + pos) «filter_state» input damping feedback ⌝ }
+    {
+        let e = o + Reverb::MAX_COMB_SIZE;
+        Reverb::process_comb(
+            &mut mem[o..e],
+            pos,
+            filter_state,
+            input,
+            length,
+            feedback,
+            damping,
+        )
+    }
+
+    // The all-pass whose part of the tank starts at place o.
+    fn allpass_at(mem: &mut [f64], o: usize, pos: u64, input: f64, length: u64) -> Passed
+        requires { ⌜ pos < length ⌝ }
+        requires { ⌜ length ≤ 1500 ⌝ }
+        requires { ⌜ o + 1500 ≤ ListN.length (now mem) ⌝ }
+        ensures { λ r. ⌜ r ≡ passed (ListN.getD (now (mem .entry)) (o + pos) nan) length pos input ⌝ }
+        ensures { λ _. ⌜ now (mem .exit) ≡ passLine (now (mem .entry)) (o + pos) input ⌝ }
+    {
+        let e = o + Reverb::MAX_ALLPASS_SIZE;
+        Reverb::process_allpass(&mut mem[o..e], pos, input, length)
+    }
+
+    // The eight combs of each side, with the same input.
+    fn combs(self, n: Lengths, mem: &mut [f64], input: f64, feedback: f64, damping: f64) -> Combs
+        requires { ⌜ fits self ≡ true ⌝ }
+        requires { ⌜ n ≡ lengthsAt (self .«sample_rate») ⌝ }
+        requires { ⌜ 87136 ≤ ListN.length (now mem) ⌝ }
+        ensures { λ r. ⌜ r .«pos_l» ≡ table (combMoved left self) 8 ⌝ }
+        ensures { λ r. ⌜ r .«pos_r» ≡ table (combMoved right self) 8 ⌝ }
+        ensures { λ r. ⌜ r .«filter_state_l» ≡ table (combStored left damping self (now (mem .entry))) 8 ⌝ }
+        ensures { λ r. ⌜ r .«filter_state_r» ≡ table (combStored right damping self (now (mem .entry))) 8 ⌝ }
+        ensures { λ r. ⌜ r .«sum_l» ≡ sumOf (combHeld left self (now (mem .entry))) 8 ⌝ }
+        ensures { λ r. ⌜ r .«sum_r» ≡ sumOf (combHeld right self (now (mem .entry))) 8 ⌝ }
+        ensures { λ _. ⌜ now (mem .exit) ≡ laid (bySides (combWrite input damping feedback self (now (mem .entry))) 8) (now (mem .entry)) ⌝ }
+    {
+        let mut pos_l = self.comb_pos_l;
+        let mut pos_r = self.comb_pos_r;
+        let mut filter_state_l = self.comb_filter_state_l;
+        let mut filter_state_r = self.comb_filter_state_r;
+        let mut sum_l = 0.0;
+        let mut sum_r = 0.0;
+        let mut i: usize = 0;
+        while i < 8 {
+            let o = i * Reverb::MAX_COMB_SIZE;
+            let w = self.comb_pos_l[i];
+            let store = self.comb_filter_state_l[i];
+            let l = Reverb::comb_at(mem, o, w, store, input, n.comb_l[i], feedback, damping);
+            pos_l[i] = l.pos;
+            filter_state_l[i] = l.filter_state;
+            sum_l = sum_l + l.output;
+            let o = 32768 + i * Reverb::MAX_COMB_SIZE;
+            let w = self.comb_pos_r[i];
+            let store = self.comb_filter_state_r[i];
+            let r = Reverb::comb_at(mem, o, w, store, input, n.comb_r[i], feedback, damping);
+            pos_r[i] = r.pos;
+            filter_state_r[i] = r.filter_state;
+            sum_r = sum_r + r.output;
+            i += 1;
+        }
+        Combs {
+            pos_l,
+            pos_r,
+            filter_state_l,
+            filter_state_r,
+            sum_l,
+            sum_r,
+        }
+    }
+
+    // The four all-passes of each side, one after the other.
+    fn allpasses(self, n: Lengths, mem: &mut [f64], input_l: f64, input_r: f64) -> Passes
+        requires { ⌜ fits self ≡ true ⌝ }
+        requires { ⌜ n ≡ lengthsAt (self .«sample_rate») ⌝ }
+        requires { ⌜ 87136 ≤ ListN.length (now mem) ⌝ }
+        ensures { λ r. ⌜ r .«pos_l» ≡ table (allpassMoved left self) 4 ⌝ }
+        ensures { λ r. ⌜ r .«pos_r» ≡ table (allpassMoved right self) 4 ⌝ }
+        ensures { λ r. ⌜ r .«output_l» ≡ passedOn left «input_l» self (now (mem .entry)) 4 ⌝ }
+        ensures { λ r. ⌜ r .«output_r» ≡ passedOn right «input_r» self (now (mem .entry)) 4 ⌝ }
+        ensures { λ _. ⌜ now (mem .exit) ≡ laid (bySides (allpassWrite (sided «input_l» «input_r») self (now (mem .entry))) 4) (now (mem .entry)) ⌝ }
+    {
+        let mut pos_l = self.allpass_pos_l;
+        let mut pos_r = self.allpass_pos_r;
+        let mut output_l = input_l;
+        let mut output_r = input_r;
+        let mut i: usize = 0;
+        while i < 4 {
+            let o = 65536 + i * Reverb::MAX_ALLPASS_SIZE;
+            let w = self.allpass_pos_l[i];
+            let l = Reverb::allpass_at(mem, o, w, output_l, n.allpass_l[i]);
+            pos_l[i] = l.pos;
+            output_l = l.output;
+            let o = 71536 + i * Reverb::MAX_ALLPASS_SIZE;
+            let w = self.allpass_pos_r[i];
+            let r = Reverb::allpass_at(mem, o, w, output_r, n.allpass_r[i]);
+            pos_r[i] = r.pos;
+            output_r = r.output;
+            i += 1;
+        }
+        Passes {
+            pos_l,
+            pos_r,
+            output_l,
+            output_r,
+        }
+    }
+
+    // The predelay's delay in samples.
+    fn predelay_samples(control: f64, rate: f64) -> u64
+        ensures { λ r. ⌜ r ≡ delaySamples control rate ⌝ }
+    {
+        float64::whole_part(float64::at_most(control * 0.1 * rate, 9599.0))
+    }
+
+    // The predelay on its part of the tank: it writes first, so that a delay of 0 passes the audio itself.
+    fn process_predelay(line: &mut [f64], pos: u64, samples: u64, input: f64) -> f64
+        requires { ⌜ ListN.length (now line) ≡ 9600 ⌝ }
+        requires { ⌜ pos < 9600 ⌝ }
+        requires { ⌜ samples < 9600 ⌝ }
+        ensures { λ r. ⌜ r ≡ delayed 0 pos samples input (now (line .entry)) ⌝ }
+        ensures { λ _. ⌜ now (line .exit) ≡ ListN.set (now (line .entry)) pos input ⌝ }
+    {
+        let w = pos as usize;
+        let d = samples as usize;
+        line[w] = input;
+        if d == 0 {
+            return input;
+        }
+        if w >= d {
+            let back = w - d;
+            return line[back];
+        }
+        let back = Reverb::MAX_PREDELAY_SIZE - (d - w);
+        line[back]
+    }
+
+    // An accepted tick with all its ports set. The predelay writes before it reads, every other line reads first.
+    fn advance(
+        self,
+        n: Lengths,
+        mem: &mut [f64],
+        audio: f64,
+        size: f64,
+        damping: f64,
+        mix: f64,
+        predelay: f64,
+    ) -> Ticked
+        requires { ⌜ n ≡ lengthsAt (self .«sample_rate») ⌝ }
+        requires { ⌜ numberIn reverb (tick (ticked (Set audio) (Set size) (Set damping) (Set mix) (Set predelay))) (ListN.length (now mem)) self ≡ 0 ⌝ }
+        ensures { λ r. ⌜ Does reverb (tick (ticked (Set audio) (Set size) (Set damping) (Set mix) (Set predelay))) self (now (mem .entry)) (r .state) (now (mem .exit)) (answerReply (r .answer)) ⌝ }
+    {
+        let input = common::sanitize_audio(audio);
+        let feedback = 0.28 + float64::clamp(size, 0.0, 1.0) * 0.7;
+        let damp = float64::clamp(damping, 0.0, 1.0) * 0.4;
+        let wet = float64::clamp(mix, 0.0, 1.0);
+        let control = float64::clamp(predelay, 0.0, 1.0);
+        let samples = Reverb::predelay_samples(control, self.sample_rate);
+        let w = self.predelay_pos;
+        let o: usize = 77536;
+        let e: usize = 87136;
+        let delayed = Reverb::process_predelay(&mut mem[o..e], w, samples, input);
+        let combs = self.combs(n, mem, delayed, feedback, damp);
+        let passes = self.allpasses(n, mem, combs.sum_l * 0.125, combs.sum_r * 0.125);
+        let comb_pos_l = combs.pos_l;
+        let comb_pos_r = combs.pos_r;
+        let comb_filter_state_l = combs.filter_state_l;
+        let comb_filter_state_r = combs.filter_state_r;
+        let allpass_pos_l = passes.pos_l;
+        let allpass_pos_r = passes.pos_r;
+        let left = common::blend(input, passes.output_l, wet);
+        let right = common::blend(input, passes.output_r, wet);
+        Ticked {
+            state: Reverb {
+                comb_pos_l,
+                comb_pos_r,
+                comb_filter_state_l,
+                comb_filter_state_r,
+                allpass_pos_l,
+                allpass_pos_r,
+                predelay_pos: common::next_place(9600, w),
+                sample_rate: self.sample_rate,
+            },
+            answer: Answer::Two(left, right),
+        }
+    }
+
+    // One sample.
+    pub fn tick(
+        self,
+        mem: &mut [f64],
+        audio: Port,
+        size: Port,
+        damping: Port,
+        mix: Port,
+        predelay: Port,
+    ) -> Ticked
+        ensures { λ r. ⌜ Does reverb (tick (ticked audio size damping mix predelay)) self (now (mem .entry)) (r .state) (now (mem .exit)) (answerReply (r .answer)) ⌝ }
+    {
+        let n = Reverb::lengths(self.sample_rate);
+        let refusal = self.refusal(n, mem.len());
+        if let Outcome::Refused(cause) = refusal {
+            return Ticked {
+                state: self,
+                answer: Answer::Refused(cause),
+            };
+        }
+        let audio = if let Port::Set(x) = audio { x } else { 0.0 };
+        let size = if let Port::Set(x) = size { x } else { 0.5 };
+        let damping = if let Port::Set(x) = damping { x } else { 0.5 };
+        let mix = if let Port::Set(x) = mix { x } else { 0.5 };
+        let predelay = if let Port::Set(x) = predelay { x } else { 0.0 };
+        let causes = common::tick_causes(
+            float64::is_nan(size)
+                | (float64::is_nan(damping) | (float64::is_nan(mix) | float64::is_nan(predelay))),
+            true,
+        );
+        if let Outcome::Refused(cause) = causes {
+            return Ticked {
+                state: self,
+                answer: Answer::Refused(cause),
+            };
+        }
+        self.advance(n, mem, audio, size, damping, mix, predelay)
     }
 }
