@@ -4,3 +4,5 @@ pub mod Predelay
 pub mod Laws
 pub mod Tank
 pub mod Ticks
+pub mod Demand1
+pub mod Bench

@@ -2,21 +2,22 @@
 use Prim.Native.Nat.{ℕ, zero, suc, _≤_, _<_}
 use native.Mathlib.Nat.{le-of-suc-le-suc, not-suc-le-zero, min-le-right}
 use native.Mathlib.Omega.{arith}
-use mathlib.Core.Path.{_≡_}
+use mathlib.Core.Path.{_≡_, refl}
 use mathlib.Core.Bool.{true, _&&_}
 use mathlib.Core.List.{List, [], _∷_, map}
 use lib.Dec.{T, leb}
-use lib.ListN.{length, getD, length-map}
-use lib.Ieee.{Float, binary64, mul, div, le, lt, ofInt, round}
+use lib.ListN.{length, getD, replicate, length-map}
+use lib.Ieee.{Float, binary64, mul, div, le, lt, ofInt, round, toUnsigned}
 use lib.Ieee as Ieee
-use borrow.Author.Tests.{leb-true}
+use borrow.Author.Tests.{leb-true, lt-ltb}
 use Rattle.float64.specs.Number.{whole, fraction, inRange, rateFits}
 use Rattle.float64.proofs.Tests.{both}
-use Rattle.float64.proofs.Interval.{In, point, mul-in, div-in}
+use Rattle.float64.proofs.Interval.{In, point, mul-in, div-in, cut-in}
 use Rattle.float64.proofs.Ranges.{rate-in, range-in, in-range}
 use Rattle.float64.proofs.Parts.{whole-between}
 use Rattle.common.proofs.Sweep.{small}
 use Rattle.reverb.specs.Tunings.{Side, left, right, ratio, scaled, spread, beside, lineLengths, tuned}
+use Rattle.reverb.specs.Reverb.{allBelow}
 
 -- ---- the ratio
 
@@ -34,6 +35,15 @@ module _ (r : Float) (base : ℕ) (low : 225 ≤ base) (high : base ≤ 1617) (h
   -- it is small enough for the quick whole part
   pub product-small : T (le (whole 1) (mul binary64 (whole base) r)) × T (lt (mul binary64 (whole base) r) (whole 9007199254740992))
   product-small = small product-in
+
+-- so is its whole part at least 1, under any cap, and beside it too
+scaled-some : (most : ℕ) (r : Float) (base : ℕ) → 1 ≤ most → 225 ≤ base → base ≤ 1617 → inRange r (fraction 1 8) (whole 5) ≡ true → 1 ≤ scaled most r base
+unfolding scaled Ieee.fits le ofInt toUnsigned
+scaled-some most r base h low high k = let c = cut-in 64 tt (product-in r base low high k) in omega (arith, c .0)
+
+beside-some : (most wide n : ℕ) → 1 ≤ most → 1 ≤ n → 1 ≤ beside most wide n
+unfolding beside
+beside-some most wide n h k = omega arith
 
 -- every tuning lies where that holds
 pub tuned-at : (l : List ℕ) (i : ℕ) → tuned l ≡ true → i < length l → (225 ≤ getD l i 0) × (getD l i 0 ≤ 1617)
@@ -62,3 +72,21 @@ lines-most most tunings right rate i =
 pub length-lines : (most : ℕ) (tunings : List ℕ) (side : Side) (rate : Float) → length (lineLengths most tunings side rate) ≡ length tunings
 length-lines most tunings left rate = length-map tunings _
 length-lines most tunings right rate = length-map tunings _
+
+-- each has a place at least, at an accepted rate
+zeros-below : (f : ℕ → ℕ) (l : List ℕ) → ((i : ℕ) → i < length l → 1 ≤ f (getD l i 0)) → allBelow (replicate (length l) 0) (map f l) ≡ true
+unfolding allBelow
+zeros-below f [] h = refl
+zeros-below f (b ∷ l) h = rw (lt-ltb 0 (f b) (h 0 (omega arith))) (zeros-below f l (λ i k. h (suc i) (omega arith)))
+
+pub lines-some : (most : ℕ) (tunings : List ℕ) (side : Side) (rate : Float) → 1 ≤ most → tuned tunings ≡ true → rateFits rate ≡ true
+    → allBelow (replicate (length tunings) 0) (lineLengths most tunings side rate) ≡ true
+lines-some most tunings side rate h t k = go side
+  where
+    some : (i : ℕ) → i < length tunings → 1 ≤ scaled most (ratio rate) (getD tunings i 0)
+    some i l = let b = tuned-at tunings i t l in scaled-some most (ratio rate) (getD tunings i 0) h (b .0) (b .1) (ratio-fits rate k)
+
+    go : (w : Side) → allBelow (replicate (length tunings) 0) (lineLengths most tunings w rate) ≡ true
+    go left = zeros-below (scaled most (ratio rate)) tunings some
+    go right =
+        zeros-below (λ base. beside most (spread (ratio rate)) (scaled most (ratio rate) base)) tunings (λ i l. beside-some most (spread (ratio rate)) _ h (some i l))

@@ -1,3 +1,4 @@
 pub mod Freeverb
 pub mod Tunings
 pub mod Reverb
+pub mod Bench
