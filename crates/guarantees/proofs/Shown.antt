@@ -9,6 +9,7 @@ use Rattle.vibrato.specs.Vibrato.{vibrato}
 use Rattle.vibrato.proofs.Demand1 as vibrato1
 use Rattle.vibrato.proofs.Demand3 as vibrato3
 use Rattle.tremolo.proofs.Demand1 as tremolo1
+use Rattle.reverb.proofs.Demand1 as reverb1
 use Rattle.guarantees.specs.CleanMemory.{CleanMemory}
 use Rattle.guarantees.specs.RecentPasts.{RecentPasts}
 
@@ -20,6 +21,7 @@ clean-memory =
       flangers = flanger1.shown;
       vibratos = vibrato1.shown;
       tremolos = tremolo1.shown;
+      reverbs = reverb1.shown;
     }
 
 pub recent-pasts : RecentPasts

@@ -6,6 +6,7 @@ use Rattle.chorus.specs.Chorus.{chorus}
 use Rattle.flanger.specs.Flanger.{flanger}
 use Rattle.vibrato.specs.Vibrato.{vibrato}
 use Rattle.tremolo.specs.Tremolo.{tremolo}
+use Rattle.reverb.specs.Reverb.{reverb}
 
 pub record CleanMemory : Type 0 where
   pub delay-lines : Demand1 delayLine
@@ -13,3 +14,4 @@ pub record CleanMemory : Type 0 where
   pub flangers : Demand1 flanger
   pub vibratos : Demand1 vibrato
   pub tremolos : Demand1 tremolo
+  pub reverbs : Demand1 reverb

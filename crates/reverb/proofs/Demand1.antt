@@ -1,10 +1,9 @@
 -- Demand 1 for the reverb, by the laws of its parts. Assumes nothing.
 use Prim.Native.Nat.{ℕ, zero, suc, _<_}
 use native.Mathlib.Omega.{arith}
-use mathlib.Core.Path.{_≡_, refl, ap, _∙_}
+use mathlib.Core.Path.{_≡_, refl}
 use mathlib.Core.Bool.{true, false}
 use mathlib.Core.List.{List, [], _∷_, _++_}
-use lib.ListN.{length}
 use lib.Ieee.{Float, le, ofInt}
 use lib.Ieee as Ieee
 use Rattle.float64.specs.Number.{rateFits, inRange}
@@ -17,7 +16,7 @@ use Rattle.effect.proofs.Laws.{Laws, Below}
 use Rattle.effect.proofs.Demand1.{demand-1}
 use Rattle.reverb.specs.declared.Reverb.{Reverb}
 use Rattle.reverb.specs.Tunings.{Side, left, right, combTunings, allpassTunings, combLengths, allpassLengths, tuned}
-use Rattle.reverb.specs.Reverb.{Tick, reverb, combPositions, allpassPositions, cleared, blank, fits, input, damping, feedback, predelayed, summed, combStored, combWrite, combMoved, allpassWrite, allpassMoved, bySides, next, writes}
+use Rattle.reverb.specs.Reverb.{Tick, reverb, combPositions, allpassPositions, cleared, blank, fits, damping, feedback, predelayed, summed, combStored, combWrite, combMoved, allpassWrite, allpassMoved, bySides, next, writes}
 use Rattle.reverb.proofs.Scaling.{lines-some}
 use Rattle.reverb.proofs.Lists.{moved-below}
 use Rattle.reverb.proofs.Laws.{Fits, SideFits, fits-parts, fit}
@@ -90,11 +89,11 @@ unfolding next
 laws =
     record {
       blank-refused = blank-refused;
-      settings-fit = λ s e. rw (fits-parts s e .rate);
       fresh-settings = λ k. refl;
       retuned-settings = λ k s. refl;
       next-settings = λ t s m. refl;
-      fresh-fits = λ k e. cleared-fits k (none-1 (rateFits k) e);
+      start-fits = λ k e. cleared-fits k (none-1 (rateFits k) e);
+      reset-fits = λ s e. cleared-fits (s .«sample_rate») (fits-parts s e .rate);
       retuned-fits = λ k s e f. cleared-fits k (none-1 (rateFits k) e);
       next-fits = λ t s m e r n. next-fits t s m e;
       inside = inside;

@@ -1,13 +1,12 @@
 -- The tank's lines lie apart: a tick that passes the state test works, in each, on a place of its own. So a line is read as it was before the stores in the
 -- others, and what a step of comb i or all-pass i leaves is what the page says. Assumes nothing.
-use Prim.Native.Nat.{ℕ, zero, suc, _+_, _*_, _≤_, _<_}
-use native.Mathlib.Nat.{le-of-suc-le-suc}
+use Prim.Native.Nat.{ℕ, zero, suc, _+_, _≤_, _<_}
 use native.Mathlib.Numerals.{add-one}
 use native.Mathlib.Omega.{arith}
 use mathlib.Core.Path.{_≡_, refl, sym, ap, _∙_}
 use mathlib.Core.Logic.{_≢_}
 use mathlib.Core.List.{List, [], _∷_}
-use lib.ListN.{length, getD, set}
+use lib.ListN.{getD, set}
 use lib.Seq.{getD-set-other}
 use lib.Ieee.{Float, nan, binary64, add}
 use Rattle.common.specs.Line.{nextPlace}

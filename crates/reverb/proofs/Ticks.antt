@@ -1,6 +1,6 @@
 -- An accepted tick from its steps: the predelay's store, the combs', the all-passes'. Each reads its own line, which the steps before left as it was.
 -- And a tick with unset ports. Assumes nothing.
-use Prim.Native.Nat.{ℕ, zero, suc, _+_, _≤_, _<_}
+use Prim.Native.Nat.{ℕ, zero, suc, _+_, _<_}
 use native.Mathlib.Omega.{arith}
 use mathlib.Core.Path.{_≡_, refl, sym, ap, _∙_}
 use mathlib.Core.List.{List, [], _∷_, _++_}

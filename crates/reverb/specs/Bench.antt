@@ -1,5 +1,4 @@
 -- The proved bench cases of the reverb and of its leaves. Definitions only. Assumes nothing.
-use Prim.Native.Nat.{ℕ}
 use mathlib.Core.Path.{_≡_}
 use mathlib.Core.List.{[], _∷_}
 use lib.ListN.{getD}

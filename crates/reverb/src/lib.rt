@@ -8,10 +8,11 @@ ghost use lib.Ieee.{nan};
 ghost use Rattle.float64.specs.Number.{whole, fraction, inRange, rateFits};
 ghost use Rattle.port.specs.declared.Port.the-variants.{Set};
 ghost use Rattle.port.specs.Answer.{numberOf, outcomeReply, answerReply, silenceReply};
-ghost use Rattle.common.specs.Line.{table, nextPlace};
+ghost use Rattle.common.specs.Line.{table};
 ghost use Rattle.effect.specs.Effect.{laid};
 ghost use Rattle.effect.specs.Run.{tick, retune, reset, ask, startNumber, numberIn};
 ghost use Rattle.effect.specs.Contract.{Does, Starts};
+ghost use Rattle.effect.specs.Needed.{placesNeeded};
 ghost use Rattle.reverb.specs.Freeverb.{combed, combLine, passed, passLine};
 ghost use Rattle.reverb.specs.Tunings.{left, right, scaled, spread, beside, lengthsAt, noLengths, tuned};
 ghost use Rattle.reverb.specs.Reverb.{reverb, ticked, cleared, allBelow, fits, delaySamples, delayed, combHeld, sumOf, combStored, combWrite, combMoved, passedOn, sided, allpassWrite, allpassMoved, bySides, linesZero, silence};
@@ -182,6 +183,16 @@ impl Reverb {
             allpass_l,
             allpass_r,
         }
+    }
+
+    // The places that a start needs, the same at every rate; 2^64 - 1 for a rate that is refused.
+    pub fn places_needed(rate: f64) -> u64
+        ensures { λ r. ⌜ r ≡ placesNeeded reverb rate ⌝ }
+    {
+        if !float64::rate_fits(rate) {
+            return 0xffff_ffff_ffff_ffff;
+        }
+        87136
     }
 
     // ---- start, retune, reset, silent

@@ -3,5 +3,6 @@
 mod chorus_calls;
 mod delay_calls;
 mod flanger_calls;
+mod reverb_calls;
 mod tremolo_calls;
 mod vibrato_calls;

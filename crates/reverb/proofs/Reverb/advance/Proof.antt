@@ -1,9 +1,9 @@
 -- `Reverb::advance` is an accepted tick with all its ports set: the predelay writes and reads, then the combs step, then the all-passes. Assumes nothing.
-use Prim.Native.Nat.{ℕ, _+_, _≤_, _<_}
+use Prim.Native.Nat.{_+_}
 use native.Mathlib.Omega.{arith}
-use mathlib.Core.Path.{_≡_, refl, sym, ap, _∙_}
+use mathlib.Core.Path.{_≡_, refl, ap, _∙_}
 use mathlib.Core.List.{List, [], _∷_}
-use lib.ListN.{length, take, drop, set, length-set}
+use lib.ListN.{length, set, length-set}
 use lib.Ieee.{Float, binary64, add, mul, isNan, ofBits, ofInt, round}
 use lib.Ieee as Ieee
 use borrow.Rule.Slice.PartMut.{putMid}

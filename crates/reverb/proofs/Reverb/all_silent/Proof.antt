@@ -1,8 +1,7 @@
 -- `Reverb::all_silent` is `silence`: the lines of a side, those of the other, and the predelay. Assumes nothing.
-use Prim.Native.Nat.{ℕ, _≤_}
 use native.Mathlib.Omega.{arith}
 use mathlib.Core.Path.{_≡_, sym, ap, _∙_}
-use mathlib.Core.Bool.{true, false}
+use mathlib.Core.Bool.{true}
 use lib.ListN.{length, getD}
 use borrow.Author.Tests.{not-true, not-false}
 use Rattle.reverb.specs.declared.Lengths.{Lengths}

@@ -1,11 +1,10 @@
 -- `Reverb::allpass_at` is a step of an all-pass on the part of the tank that starts at place o, said of the whole tank. Assumes nothing.
-use Prim.Native.Nat.{ℕ, _+_, _-_}
+use Prim.Native.Nat.{_+_, _-_}
 use native.Mathlib.Omega.{arith}
-use mathlib.Core.Path.{_≡_, ap, _∙_}
-use lib.ListN.{getD}
+use mathlib.Core.Path.{ap, _∙_}
 use lib.Ieee.{Float, nan}
 use Rattle.common.proofs.Slices.{part-getD, part-set}
-use Rattle.reverb.specs.Freeverb.{passFed, passed, passLine}
+use Rattle.reverb.specs.Freeverb.{passed, passLine}
 use borrow.Author.Needs.{needs}
 use Rattle.reverb.proofs.Reverb.allpass_at.Statement.{statement}
 use Rattle.reverb.proofs.Reverb.allpass_at.Tie as tie

@@ -1,17 +1,16 @@
 -- `Reverb::combs` steps the eight combs of each side: the loop's invariant is that the first i of each side have stepped. Assumes nothing.
-use Prim.Native.Nat.{ℕ, _+_, _-_, _≤_, _<_}
+use Prim.Native.Nat.{ℕ, _-_, _≤_, _<_}
 use native.Mathlib.Omega.{arith}
-use mathlib.Core.Path.{_≡_, refl, sym, ap, _∙_}
+use mathlib.Core.Path.{_≡_, refl, ap, _∙_}
 use mathlib.Core.Logic.{_≢_}
-use mathlib.Core.List.{List}
-use lib.ListN.{length, getD}
-use lib.Ieee.{Float, nan, ofBits}
+use lib.ListN.{length}
+use lib.Ieee.{ofBits}
 use Rattle.common.proofs.Tables.{tabled, tabled-none, tabled-more, tabled-all}
-use Rattle.effect.specs.Effect.{Write, laid}
+use Rattle.effect.specs.Effect.{laid}
 use Rattle.reverb.specs.declared.Combed.{Combed}
 use Rattle.reverb.specs.Tunings.{Side, left, right}
 use Rattle.reverb.specs.Reverb.{combHeld, sumOf, combStored, combWrite, combMoved, bySides}
-use Rattle.reverb.proofs.Laws.{Fits, fits-parts}
+use Rattle.reverb.proofs.Laws.{fits-parts}
 use Rattle.reverb.proofs.Tank.{comb-asks, comb-apart, comb-across, first-held, then-held, turned, comb-gives, comb-writes, sum-more}
 use borrow.Author.Needs.{needs}
 use Rattle.reverb.proofs.Reverb.combs.Statement.{statement}

@@ -1,11 +1,8 @@
 -- `Reverb::process_predelay` writes the audio and answers what stands so many samples back, branch by branch. Assumes nothing.
-use Prim.Native.Nat.{ℕ, _+_, _-_, _≤_, _<_}
+use Prim.Native.Nat.{_-_}
 use native.Mathlib.Omega.{arith}
-use mathlib.Core.Path.{_≡_, refl, _∙_}
-use mathlib.Core.Logic.{_≢_}
-use lib.ListN.{length, getD, set, length-set}
-use lib.Ieee.{Float, nan}
-use Rattle.reverb.specs.Reverb.{delayed}
+use mathlib.Core.Path.{refl}
+use lib.ListN.{length-set}
 use Rattle.reverb.proofs.Predelay.{delayed-none, delayed-low, delayed-high}
 use borrow.Author.Needs.{needs}
 use Rattle.reverb.proofs.Reverb.process_predelay.Statement.{statement}

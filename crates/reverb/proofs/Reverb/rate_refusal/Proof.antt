@@ -1,6 +1,6 @@
 -- `Reverb::rate_refusal` is the table's row of a start: causes 1 and 3. Assumes nothing.
 use native.Mathlib.Omega.{arith}
-use mathlib.Core.Path.{_≡_, sym, _∙_}
+use mathlib.Core.Path.{sym, _∙_}
 use borrow.Author.Tests.{not-true, not-false}
 use Rattle.effect.proofs.Contract.{start-settings, start-memory}
 use Rattle.reverb.specs.Reverb.{reverb}

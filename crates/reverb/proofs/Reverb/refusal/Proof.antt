@@ -1,5 +1,5 @@
 -- `Reverb::refusal` is the row that reset and silent have, and that a tick starts with: causes 4 and 3. Assumes nothing.
-use mathlib.Core.Path.{_≡_, sym, _∙_}
+use mathlib.Core.Path.{sym, _∙_}
 use borrow.Author.Tests.{not-true, not-false}
 use Rattle.effect.specs.Run.{reset}
 use Rattle.effect.proofs.Contract.{state-refused, reset-memory}

@@ -1,7 +1,7 @@
 -- `Reverb::scale` works out the left and right lengths of the lines with these tunings: the loop's invariant is that the first i of each are. Assumes nothing.
 use Prim.Native.Nat.{ℕ, _-_, _≤_}
 use native.Mathlib.Omega.{arith}
-use mathlib.Core.Path.{_≡_, refl, sym, ap, _∙_}
+use mathlib.Core.Path.{_≡_, refl, ap, _∙_}
 use lib.ListN.{length, getD, length-set}
 use Rattle.common.proofs.Tables.{tabled, tabled-none, tabled-more, tabled-all, table-map}
 use Rattle.reverb.specs.Tunings.{scaled, beside}

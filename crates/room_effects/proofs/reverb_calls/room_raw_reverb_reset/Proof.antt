@@ -1,0 +1,54 @@
+-- `room_raw_reverb_reset` is `Reverb::reset`, its state without the rate written back where it is accepted. Assumes nothing.
+use mathlib.Core.Path.{ap, sym, _∙_}
+use lib.Ieee.{Float}
+use borrow.Author.Needs.{needs}
+use Rattle.effect.specs.Run.{Device, reset}
+use Rattle.reverb.specs.declared.Reverb.{Reverb}
+use Rattle.reverb.specs.Reverb.{reverb}
+use Rattle.reverb.proofs.Demand1.{laws}
+use Rattle.room_effects.specs.Units.{reverbOf, reverbUnit}
+use Rattle.room_effects.proofs.Laws.{stored, kept, reset-settings}
+use Rattle.room_effects.proofs.reverb_calls.room_raw_reverb_reset.Statement.{statement}
+use Rattle.room_effects.proofs.reverb_calls.room_raw_reverb_reset.Tie as tie
+
+-- the reverb handed over
+abbrev unit : tie.Start → Device Reverb
+unit s =
+    let a = s .args in
+    reverbUnit (a .comb-pos-l .now) (a .comb-pos-r .now) (a .stores-l .now) (a .stores-r .now) (a .allpass-pos-l .now) (a .allpass-pos-r .now) (a .predelay-pos .now) (a .rate) (a .memory .now)
+
+reset-requires : tie.Need-reset-requires
+reset-requires c κs = search needs
+
+-- the call that is made
+abbrev start : tie.After-reset → tie.Start
+start c = c .before .before .before .before .before .before .before .before .before .before
+
+number-requires : tie.Need-number-requires
+number-requires c κs = search needs
+
+same-length : tie.Need-same-length
+same-length c = search needs
+
+returns : tie.Need-returns
+returns c =
+    let inner = c .before .before .before .before in
+    kept reverb reset (unit (start inner)) (inner .reset .ensures) (c .before .number .ensures) (c .if1 .taken)
+
+put-reverb-requires : tie.Need-put-reverb-requires
+put-reverb-requires c κs = search needs
+
+same-length-2 : tie.Need-same-length-2
+same-length-2 c = search needs
+
+returns-2 : tie.Need-returns-2
+returns-2 c =
+    let tested = c .before .before .before .before .before .before .before .before in
+    let inner = tested .before .before .before .before in
+    let put = c .put-reverb .last .1 in
+    let left : Float → Reverb = reverbOf (put .0) (put .1 .0) (put .1 .1 .0) (put .1 .1 .1 .0) (put .1 .1 .1 .1 .0) (put .1 .1 .1 .1 .1 .0) (put .1 .1 .1 .1 .1 .1 .0) in
+    stored reverb reset (unit (start inner)) (inner .reset .ensures) (sym (tested .if1 .left) ∙ tested .before .number .ensures)
+    (ap left (reset-settings reverb laws (inner .reset .ensures)) ∙ c .put-reverb .ensures)
+
+pub room-raw-reverb-reset-spec : {M : Type 1} → statement M
+room-raw-reverb-reset-spec = tie.close (tie.spec reset-requires number-requires same-length returns put-reverb-requires same-length-2 returns-2)

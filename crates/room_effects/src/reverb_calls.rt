@@ -1,0 +1,246 @@
+// The reverb's calls. Its state crosses as lent arrays: the combs' and all-passes' positions, the combs' damping stores; and the predelay's position.
+ghost use mathlib.Core.Path.{_≡_};
+ghost use Rattle.effect.specs.Run.{retune, reset};
+ghost use Rattle.reverb.specs.Reverb.{reverb, ticked};
+ghost use Rattle.room_effects.specs.Lent.{Began, Called, Ticked, Asked};
+ghost use Rattle.room_effects.specs.Units.{reverbOf, reverbUnit};
+ghost use Rattle.room_effects.specs.Ports.{portAt};
+use port::port_if;
+use reverb::Reverb;
+
+// A reverb's state into lent arrays; the rate is written, or kept, beside.
+fn put_reverb(
+    state: Reverb,
+    comb_pos_l: &mut [u64; 8],
+    comb_pos_r: &mut [u64; 8],
+    stores_l: &mut [f64; 8],
+    stores_r: &mut [f64; 8],
+    allpass_pos_l: &mut [u64; 4],
+    allpass_pos_r: &mut [u64; 4],
+    predelay_pos: &mut u64,
+)
+    ensures { λ _. ⌜ reverbOf (now («comb_pos_l» .exit)) (now («comb_pos_r» .exit)) (now («stores_l» .exit)) (now («stores_r» .exit)) (now («allpass_pos_l» .exit)) (now («allpass_pos_r» .exit)) (now («predelay_pos» .exit)) (state .«sample_rate») ≡ state ⌝ }
+{
+    let combs_l = state.comb_pos_l;
+    let combs_r = state.comb_pos_r;
+    let damping_l = state.comb_filter_state_l;
+    let damping_r = state.comb_filter_state_r;
+    let passes_l = state.allpass_pos_l;
+    let passes_r = state.allpass_pos_r;
+    *comb_pos_l = combs_l;
+    *comb_pos_r = combs_r;
+    *stores_l = damping_l;
+    *stores_r = damping_r;
+    *allpass_pos_l = passes_l;
+    *allpass_pos_r = passes_r;
+    *predelay_pos = state.predelay_pos;
+}
+
+// Start of a reverb. A refused one writes the state of zeros too, and leaves the memory as it was.
+#[no_mangle]
+pub extern "C" fn room_raw_reverb_start(
+    sample_rate: f64,
+    memory: &mut [f64],
+    comb_pos_l: &mut [u64; 8],
+    comb_pos_r: &mut [u64; 8],
+    stores_l: &mut [f64; 8],
+    stores_r: &mut [f64; 8],
+    allpass_pos_l: &mut [u64; 4],
+    allpass_pos_r: &mut [u64; 4],
+    predelay_pos: &mut u64,
+    rate: &mut f64,
+) -> u32
+    ensures { λ r. ⌜ Began reverb «sample_rate» (now (memory .entry)) (reverbUnit (now («comb_pos_l» .exit)) (now («comb_pos_r» .exit)) (now («stores_l» .exit)) (now («stores_r» .exit)) (now («allpass_pos_l» .exit)) (now («allpass_pos_r» .exit)) (now («predelay_pos» .exit)) (now (rate .exit)) (now (memory .exit))) r ⌝ }
+{
+    let started = Reverb::new(sample_rate, memory);
+    put_reverb(
+        started.state,
+        comb_pos_l,
+        comb_pos_r,
+        stores_l,
+        stores_r,
+        allpass_pos_l,
+        allpass_pos_r,
+        predelay_pos,
+    );
+    *rate = started.state.sample_rate;
+    let outcome = started.outcome;
+    outcome.number()
+}
+
+#[no_mangle]
+pub extern "C" fn room_raw_reverb_retune(
+    sample_rate: f64,
+    memory: &mut [f64],
+    comb_pos_l: &mut [u64; 8],
+    comb_pos_r: &mut [u64; 8],
+    stores_l: &mut [f64; 8],
+    stores_r: &mut [f64; 8],
+    allpass_pos_l: &mut [u64; 4],
+    allpass_pos_r: &mut [u64; 4],
+    predelay_pos: &mut u64,
+    rate: &mut f64,
+) -> u32
+    ensures { λ r. ⌜ Called reverb (retune «sample_rate») (reverbUnit (now («comb_pos_l» .entry)) (now («comb_pos_r» .entry)) (now («stores_l» .entry)) (now («stores_r» .entry)) (now («allpass_pos_l» .entry)) (now («allpass_pos_r» .entry)) (now («predelay_pos» .entry)) (now (rate .entry)) (now (memory .entry))) (reverbUnit (now («comb_pos_l» .exit)) (now («comb_pos_r» .exit)) (now («stores_l» .exit)) (now («stores_r» .exit)) (now («allpass_pos_l» .exit)) (now («allpass_pos_r» .exit)) (now («predelay_pos» .exit)) (now (rate .exit)) (now (memory .exit))) r ⌝ }
+{
+    let state = Reverb {
+        comb_pos_l: *comb_pos_l,
+        comb_pos_r: *comb_pos_r,
+        comb_filter_state_l: *stores_l,
+        comb_filter_state_r: *stores_r,
+        allpass_pos_l: *allpass_pos_l,
+        allpass_pos_r: *allpass_pos_r,
+        predelay_pos: *predelay_pos,
+        sample_rate: *rate,
+    };
+    let cleared = state.set_sample_rate(sample_rate, memory);
+    let outcome = cleared.outcome;
+    let number = outcome.number();
+    if number != 0 {
+        return number;
+    }
+    put_reverb(
+        cleared.state,
+        comb_pos_l,
+        comb_pos_r,
+        stores_l,
+        stores_r,
+        allpass_pos_l,
+        allpass_pos_r,
+        predelay_pos,
+    );
+    *rate = cleared.state.sample_rate;
+    0
+}
+
+#[no_mangle]
+pub extern "C" fn room_raw_reverb_reset(
+    memory: &mut [f64],
+    comb_pos_l: &mut [u64; 8],
+    comb_pos_r: &mut [u64; 8],
+    stores_l: &mut [f64; 8],
+    stores_r: &mut [f64; 8],
+    allpass_pos_l: &mut [u64; 4],
+    allpass_pos_r: &mut [u64; 4],
+    predelay_pos: &mut u64,
+    rate: f64,
+) -> u32
+    ensures { λ r. ⌜ Called reverb reset (reverbUnit (now («comb_pos_l» .entry)) (now («comb_pos_r» .entry)) (now («stores_l» .entry)) (now («stores_r» .entry)) (now («allpass_pos_l» .entry)) (now («allpass_pos_r» .entry)) (now («predelay_pos» .entry)) rate (now (memory .entry))) (reverbUnit (now («comb_pos_l» .exit)) (now («comb_pos_r» .exit)) (now («stores_l» .exit)) (now («stores_r» .exit)) (now («allpass_pos_l» .exit)) (now («allpass_pos_r» .exit)) (now («predelay_pos» .exit)) rate (now (memory .exit))) r ⌝ }
+{
+    let state = Reverb {
+        comb_pos_l: *comb_pos_l,
+        comb_pos_r: *comb_pos_r,
+        comb_filter_state_l: *stores_l,
+        comb_filter_state_r: *stores_r,
+        allpass_pos_l: *allpass_pos_l,
+        allpass_pos_r: *allpass_pos_r,
+        predelay_pos: *predelay_pos,
+        sample_rate: rate,
+    };
+    let cleared = state.reset(memory);
+    let outcome = cleared.outcome;
+    let number = outcome.number();
+    if number != 0 {
+        return number;
+    }
+    put_reverb(
+        cleared.state,
+        comb_pos_l,
+        comb_pos_r,
+        stores_l,
+        stores_r,
+        allpass_pos_l,
+        allpass_pos_r,
+        predelay_pos,
+    );
+    0
+}
+
+// A tick. The mask's bits say which ports are set: 1 audio, 2 size, 4 damping, 8 mix, 16 predelay.
+#[no_mangle]
+pub extern "C" fn room_raw_reverb_tick(
+    comb_pos_l: &mut [u64; 8],
+    comb_pos_r: &mut [u64; 8],
+    stores_l: &mut [f64; 8],
+    stores_r: &mut [f64; 8],
+    allpass_pos_l: &mut [u64; 4],
+    allpass_pos_r: &mut [u64; 4],
+    predelay_pos: &mut u64,
+    rate: f64,
+    memory: &mut [f64],
+    set: u32,
+    audio: f64,
+    size: f64,
+    damping: f64,
+    mix: f64,
+    predelay: f64,
+    out: &mut [f64; 2],
+) -> u32
+    ensures { λ r. ⌜ Ticked reverb 2 (ticked (portAt set 1 audio) (portAt set 2 size) (portAt set 4 damping) (portAt set 8 mix) (portAt set 16 predelay)) (reverbUnit (now («comb_pos_l» .entry)) (now («comb_pos_r» .entry)) (now («stores_l» .entry)) (now («stores_r» .entry)) (now («allpass_pos_l» .entry)) (now («allpass_pos_r» .entry)) (now («predelay_pos» .entry)) rate (now (memory .entry))) (reverbUnit (now («comb_pos_l» .exit)) (now («comb_pos_r» .exit)) (now («stores_l» .exit)) (now («stores_r» .exit)) (now («allpass_pos_l» .exit)) (now («allpass_pos_r» .exit)) (now («predelay_pos» .exit)) rate (now (memory .exit))) (now (out .exit)) r ⌝ }
+{
+    let state = Reverb {
+        comb_pos_l: *comb_pos_l,
+        comb_pos_r: *comb_pos_r,
+        comb_filter_state_l: *stores_l,
+        comb_filter_state_r: *stores_r,
+        allpass_pos_l: *allpass_pos_l,
+        allpass_pos_r: *allpass_pos_r,
+        predelay_pos: *predelay_pos,
+        sample_rate: rate,
+    };
+    let played = state.tick(
+        memory,
+        port_if(set / 1 % 2 == 1, audio),
+        port_if(set / 2 % 2 == 1, size),
+        port_if(set / 4 % 2 == 1, damping),
+        port_if(set / 8 % 2 == 1, mix),
+        port_if(set / 16 % 2 == 1, predelay),
+    );
+    let answer = played.answer;
+    let number = answer.number();
+    *out = [answer.first(), answer.second()];
+    if number != 0 {
+        return number;
+    }
+    put_reverb(
+        played.state,
+        comb_pos_l,
+        comb_pos_r,
+        stores_l,
+        stores_r,
+        allpass_pos_l,
+        allpass_pos_r,
+        predelay_pos,
+    );
+    0
+}
+
+#[no_mangle]
+pub extern "C" fn room_raw_reverb_silent(
+    comb_pos_l: &[u64; 8],
+    comb_pos_r: &[u64; 8],
+    stores_l: &[f64; 8],
+    stores_r: &[f64; 8],
+    allpass_pos_l: &[u64; 4],
+    allpass_pos_r: &[u64; 4],
+    predelay_pos: u64,
+    rate: f64,
+    memory: &[f64],
+    out: &mut u32,
+) -> u32
+    ensures { λ r. ⌜ Asked reverb (reverbUnit (now («comb_pos_l» .entry)) (now («comb_pos_r» .entry)) (now («stores_l» .entry)) (now («stores_r» .entry)) (now («allpass_pos_l» .entry)) (now («allpass_pos_r» .entry)) «predelay_pos» rate (now (memory .entry))) (now (out .exit)) r ⌝ }
+{
+    let state = Reverb {
+        comb_pos_l: *comb_pos_l,
+        comb_pos_r: *comb_pos_r,
+        comb_filter_state_l: *stores_l,
+        comb_filter_state_r: *stores_r,
+        allpass_pos_l: *allpass_pos_l,
+        allpass_pos_r: *allpass_pos_r,
+        predelay_pos,
+        sample_rate: rate,
+    };
+    let silence = state.silent(memory);
+    *out = silence.flag();
+    silence.number()
+}
