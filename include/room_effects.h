@@ -46,9 +46,10 @@
  * The host keeps them. It lends a unit the same places each time, writes nothing there between calls, and keeps them apart
  * from the state and from `out`. What they hold before a start is of no account.
  *
- * A line has L places, by the sample rate: the whole part of n x rate / 1000, plus 10, with n as the effect says. A unit's
- * lines follow each other from place 0. The memory may be longer than that. Start, retune and reset put +0 into every place,
- * spare ones too; a tick writes one place of each line and never a spare one.
+ * A line has L places, by the sample rate: the whole part of n x rate / 1000, plus 10, with n as the effect says; the delay's
+ * has the whole part of rate x maximum, plus 1. A unit's lines follow each other from place 0. The memory may be longer than
+ * that. Start, retune and reset put +0 into every place, spare ones too; a tick writes one place of each line and never a
+ * spare one.
  *
  * Ports
  *
@@ -58,7 +59,8 @@
  * Curve numbers
  *
  * The host computes them before the tick: a frequency in Hz from its rate control, and the sine of 2 pi times the phase that
- * the state holds before the tick. (The flanger's second sine is of a phase further on: see there.)
+ * the state holds before the tick. (The flanger's second sine is of a phase further on: see there.) The delay's are others: a
+ * time in milliseconds before each tick, and a glide coefficient before each start and retune.
  */
 #ifndef ROOM_EFFECTS_H
 #define ROOM_EFFECTS_H
@@ -147,6 +149,20 @@ uint32_t room_raw_flanger_tick(uint64_t *pos, double *phase, double rate, double
                                double sine1, double out[3]);
 uint32_t room_raw_flanger_silent(uint64_t pos, double phase, double rate, const double *memory, uint64_t places,
                                  uint32_t *out);
+
+uint32_t room_raw_delay_start(double sample_rate, double max_delay_secs, double coef, uint32_t linear_time, double *memory,
+                              uint64_t places, uint64_t *pos, double *distance, uint32_t *primed, double *rate,
+                              double *coefficient, double *maximum, uint32_t *linear);
+uint32_t room_raw_delay_retune(double sample_rate, double coef, double *memory, uint64_t places, uint64_t *pos,
+                               double *distance, uint32_t *primed, double *rate, double *coefficient, double maximum,
+                               uint32_t linear);
+uint32_t room_raw_delay_reset(double *memory, uint64_t places, uint64_t *pos, double *distance, uint32_t *primed,
+                              double rate, double coefficient, double maximum, uint32_t linear);
+uint32_t room_raw_delay_tick(uint64_t *pos, double *distance, uint32_t *primed, double rate, double coefficient,
+                             double maximum, uint32_t linear, double *memory, uint64_t places, uint32_t set, double audio,
+                             double time, double feedback, double mix, double milliseconds, double *out);
+uint32_t room_raw_delay_silent(uint64_t pos, double distance, uint32_t primed, double rate, double coefficient,
+                               double maximum, uint32_t linear, const double *memory, uint64_t places, uint32_t *out);
 
 #ifdef __cplusplus
 }
@@ -345,6 +361,87 @@ static inline uint32_t room_flanger_silent(const room_flanger *state, const doub
     uint32_t yes = 0u;
     const uint32_t number =
         room_raw_flanger_silent(state->write_pos, state->lfo_phase, state->sample_rate, memory, places, &yes);
+    *silent = yes != 0u;
+    return number;
+}
+
+/*
+ * The delay. One line of L places, the whole part of rate x maximum, plus 1: for 2 s at 44,100 it needs 88,201 places, for
+ * 0.001 s at 8,000 9, for 60 s at 192,000 11,520,001.
+ *
+ * A flag is off where it is 0 and on where it is any other number; a call that writes one writes 0 or 1.
+ *
+ * The glide coefficient is the host's: exp(-1 / (0.005 x rate)) glides to a new time in a few ms, 0 jumps there at once.
+ */
+
+typedef struct room_delay {
+    uint64_t write_pos; /* below L */
+    double distance;    /* how many places back the last tick read: 1 to L - 1; +0, sign included, while not primed */
+    uint32_t primed;    /* a flag: whether a tick has read since the last start, retune or reset */
+    double sample_rate; /* 8,000 to 192,000 */
+    double coefficient; /* of the glide: at least 0 and below 1 */
+    double maximum;     /* seconds: 0.001 to 60 */
+    uint32_t linear;    /* a flag: whether ticks take their time from the time port, in seconds, and not in milliseconds */
+} room_delay;
+
+/*
+ * A delay at this rate with this glide coefficient: position 0, not primed, distance +0, +0 in every place. The maximum, in
+ * seconds, is clamped to 0.001 to 60; an infinite one, and NaN, means 2. It is the state's `maximum` that L goes by.
+ * `linear` is a flag. Refusals: 1, 2, 3.
+ */
+static inline uint32_t room_delay_start(room_delay *state, double *memory, uint64_t places, double sample_rate,
+                                        double maximum, double coefficient, uint32_t linear)
+{
+    return room_raw_delay_start(sample_rate, maximum, coefficient, linear, memory, places, &state->write_pos,
+                                &state->distance, &state->primed, &state->sample_rate, &state->coefficient,
+                                &state->maximum, &state->linear);
+}
+
+/*
+ * The same rate or another, and the coefficient that goes with it: position 0, not primed, distance +0, +0 in every place;
+ * the maximum and `linear` stay. Refusals: 4, 1, 2, 3.
+ */
+static inline uint32_t room_delay_retune(room_delay *state, double *memory, uint64_t places, double sample_rate,
+                                         double coefficient)
+{
+    return room_raw_delay_retune(sample_rate, coefficient, memory, places, &state->write_pos, &state->distance,
+                                 &state->primed, &state->sample_rate, &state->coefficient, state->maximum, state->linear);
+}
+
+/* Position 0, not primed, distance +0, +0 in every place; the rest stays. Refusals: 4, 3. */
+static inline uint32_t room_delay_reset(room_delay *state, double *memory, uint64_t places)
+{
+    return room_raw_delay_reset(memory, places, &state->write_pos, &state->distance, &state->primed, state->sample_rate,
+                                state->coefficient, state->maximum, state->linear);
+}
+
+/*
+ * One sample in out[0]: `audio` blended with what the line plays. Audio that is NaN or infinite counts as +0. The line stores
+ * the audio plus what it played times the feedback; with huge audio that may overflow.
+ * time: read where `linear` is on, and there alone: seconds, 0 to the maximum; 0.5 if unset. milliseconds: read where
+ * `linear` is off, and there alone: the host's curve number from its time control, as 1 x (maximum x 1000)^time; any but NaN.
+ * Either goes as milliseconds x rate / 1000 places back, clamped to 1 to L - 1, so that a time of 0 is one sample. The first
+ * tick after a start, a retune or a reset reads there; later ones glide there, and read at that target + (the last distance -
+ * the target) x coefficient.
+ * feedback: 0 to 0.99; 0 if unset. mix: 0 dry to 1 wet; 0.5 if unset. Audio is 0 if unset.
+ * Refusals: 4, 3, 5, 6.
+ */
+static inline uint32_t room_delay_tick(room_delay *state, double *memory, uint64_t places, room_port audio, room_port time,
+                                       room_port feedback, room_port mix, double milliseconds, double out[1])
+{
+    return room_raw_delay_tick(&state->write_pos, &state->distance, &state->primed, state->sample_rate, state->coefficient,
+                               state->maximum, state->linear, memory, places,
+                               room_set_mask(audio, time, feedback) | room_set_bit(mix, 8u), audio.value, time.value,
+                               feedback.value, mix.value, milliseconds, out);
+}
+
+/* Whether the unit is silent: every place of its line is +0 or -0. On a refusal *silent is 0. Refusals: 4, 3. */
+static inline uint32_t room_delay_silent(const room_delay *state, const double *memory, uint64_t places, int *silent)
+{
+    uint32_t yes = 0u;
+    const uint32_t number =
+        room_raw_delay_silent(state->write_pos, state->distance, state->primed, state->sample_rate, state->coefficient,
+                              state->maximum, state->linear, memory, places, &yes);
     *silent = yes != 0u;
     return number;
 }

@@ -143,6 +143,7 @@ int main(void)
     test("vibrato", vibrato);
     test("chorus", chorus);
     test("flanger", flanger);
+    test("delay", delay);
     printf("%u passed, %u failed\n", passed, failed);
     return failed != 0;
 }

@@ -54,5 +54,6 @@ void tremolo(void);
 void vibrato(void);
 void chorus(void);
 void flanger(void);
+void delay(void);
 
 #endif

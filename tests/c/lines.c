@@ -1,4 +1,4 @@
-/* What holds of every effect with lines: its places, its clearings, its refusals and their order, its question. */
+/* What holds of every effect with sweeps: its places, its clearings, its refusals and their order, its question. */
 #include "lines.h"
 
 #include <string.h>
@@ -20,8 +20,7 @@ int memory_kept(void)
     return all_same(memory, kept, ROOM);
 }
 
-/* Whether these places hold +0, and those beyond them what `fill` left. */
-static int cleared(unsigned places)
+int cleared(unsigned places)
 {
     unsigned i;
     for (i = 0; i < places; i++) {

@@ -1,4 +1,5 @@
-/* The calls of an effect with lines in one form, so that what holds of all such effects is tested once. */
+/* The calls of an effect with sweeps in one form, so that what holds of all such effects is tested once. The delay, whose
+   settings are more than a rate, shares the memory. */
 #ifndef LINES_H
 #define LINES_H
 
@@ -80,7 +81,7 @@ struct lined {
         return number;                                                                                                  \
     }
 
-/* The memory of all these tests: the most that a unit needs, 3 x 6,154 places, and some more. */
+/* The memory of all these tests: the most that a unit with a sweep needs, 3 x 6,154 places, and some more. */
 #define ROOM 18500u
 extern double memory[ROOM];
 
@@ -89,6 +90,9 @@ void fill(void);
 
 /* Whether every place is as `fill` left it. */
 int memory_kept(void);
+
+/* Whether these places hold +0, and those beyond them what `fill` left. */
+int cleared(unsigned places);
 
 /* A state at 8,000 with this position, its phases 0.25, 0.5 and 0.75. */
 struct unit unit_at(uint64_t write_pos);
@@ -103,7 +107,7 @@ void tick_plays(const struct lined *e, uint64_t write_pos, struct tick t, const 
 /* Every phase at `phase`, a tick at this frequency: what the phases then are. */
 void tick_moves(const struct lined *e, double phase, double frequency, const double next[MOST], const char *what, unsigned i);
 
-/* The whole of what holds of every effect with lines. */
+/* The whole of what holds of every effect with sweeps. */
 void lines(const struct lined *e);
 
 #endif
