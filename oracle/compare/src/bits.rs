@@ -45,3 +45,10 @@ pub fn untouched(what: &str, before: f64, after: f64) -> Result<(), String> {
         shown(&[("should be", before), ("is", after)])
     ))
 }
+
+pub fn same_count(what: &str, ours: u64, rust: usize) -> Result<(), String> {
+    if ours == rust as u64 {
+        return Ok(());
+    }
+    Err(format!("{what} is {ours}, and should be {rust}"))
+}

@@ -1,20 +1,19 @@
-//! Effects with lines: ours, in memory that it is lent, beside the Rust's.
+//! Effects with sweeps: ours, in memory that it is lent, beside the Rust's.
 //!
 //! Of the memory, a tick's own places are compared with the Rust's lines at once. All of it, spare places too, is held against
 //! what it should be at every clearing, at every refusal, at every 64th tick of a unit and at the end of the run.
 
 mod call;
 mod draw;
-mod memory;
 mod record;
 
-use crate::bits::{agree, untouched, JUNK};
+use crate::bits::{agree, same_count, untouched, JUNK};
+use crate::memory::{self, Memory, Quiet};
 use crate::random::Random;
 use crate::run::{number_agrees, silent_agrees, Made, Pair};
 use crate::table;
 use crate::tick::Form;
-use call::{Call, Quiet, What};
-use memory::Memory;
+use call::{Call, What};
 use quiver_oracle::{Effect as _, Lined as _};
 use room_effects::{Lined as _, State, Tick, MOST};
 
@@ -83,7 +82,7 @@ impl<E: Effect> Pair for Lines<E> {
     ];
     type Call = Call;
 
-    fn start(sample_rate: f64) -> Result<Self, String> {
+    fn start(sample_rate: f64, _random: &mut Random) -> Result<Self, String> {
         let call = Call::start_in(needed::<E>(sample_rate), sample_rate, 0);
         let mut unit = Self {
             state: junk_state(),
@@ -254,18 +253,10 @@ impl<E: Effect> Lines<E> {
         let length = self.length() as usize;
         let lines = self.memory.shown(E::LINES * length).chunks_exact(length);
         for (ours, rust) in lines.zip(self.rust.lines()) {
-            lines_agree(ours, rust)?;
+            memory::line_agrees(ours, rust)?;
         }
         Ok(())
     }
-}
-
-fn lines_agree(ours: &[f64], rust: &[f64]) -> Result<(), String> {
-    same_count("length of a line", ours.len() as u64, rust.len())?;
-    for (i, (ours, rust)) in ours.iter().zip(rust).enumerate() {
-        agree("a line", *ours, *rust).map_err(|differs| format!("place {i} of {differs}"))?;
-    }
-    Ok(())
 }
 
 fn zero_state() -> State {
@@ -289,28 +280,13 @@ fn state_untouched<E: Effect>(should: &State, is: &State) -> Result<(), String> 
     untouched("rate after a refusal", should.sample_rate, is.sample_rate)
 }
 
-fn same_count(what: &str, ours: u64, rust: usize) -> Result<(), String> {
-    if ours == rust as u64 {
-        return Ok(());
-    }
-    Err(format!("{what} is {ours}, and should be {rust}"))
-}
-
 fn silent_in_quiet<E: Effect>(call: &Call, quiet: &Quiet, number: u32) -> Result<(), String> {
-    let mut random = Random::new(quiet.seed);
-    let mut memory: Vec<f64> = (0..call.lent).map(|_| random.of(&[0.0, -0.0])).collect();
-    if let Some(place) = memory.get_mut(quiet.place) {
-        *place = quiet.sound;
-    }
-    silent_ours::<E>(&call.state, &memory, number)
+    silent_ours::<E>(&call.state, &quiet.memory(call.lent), number)
 }
 
-/// Document 01: yes when every place in use of the unit's lines is +0 or −0.
 fn silent_ours<E: Effect>(state: &State, memory: &[f64], number: u32) -> Result<(), String> {
     let mut silent = JUNK as u32;
     number_agrees(E::Ours::silent(state, memory, &mut silent), number)?;
-    let zeros = [0.0f64, -0.0].map(f64::to_bits);
-    let in_use = || memory[..needed::<E>(state.sample_rate)].iter();
-    let yes = number == 0 && in_use().all(|place| zeros.contains(&place.to_bits()));
+    let yes = number == 0 && memory::silent(&memory[..needed::<E>(state.sample_rate)]);
     silent_agrees(silent, yes)
 }

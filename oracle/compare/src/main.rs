@@ -1,14 +1,17 @@
 //! Ticks our effects and the Rust's side by side and compares them bit for bit.
 //!
-//!     compare EFFECT --ticks N [--seed S]        compare N accepted ticks, and refused calls between them
+//!     compare EFFECT --ticks N [--seed S]        compare N accepted ticks, and refused calls between them; the delay's rows are
+//!                                                delay, linear_delay and long_delay
 //!     compare EFFECT --record FILE --ticks N     write the Rust's answers to N ticks, for the program that replays them
 //!
 //! Exit status: 0 all agree; 1 a difference, which is printed; 2 bad usage.
 
 mod bits;
 mod chorus;
+mod delay;
 mod flanger;
 mod lines;
+mod memory;
 mod random;
 mod run;
 mod table;
@@ -27,7 +30,7 @@ struct Effect {
     record: fn(ticks: u64, seed: u64) -> Result<Vec<u64>, String>,
 }
 
-const EFFECTS: [Effect; 4] = [
+const EFFECTS: [Effect; 7] = [
     Effect {
         name: "tremolo",
         run: run::run::<tremolo::Tremolo>,
@@ -47,6 +50,21 @@ const EFFECTS: [Effect; 4] = [
         name: "flanger",
         run: run::run::<Lines<flanger::Flanger>>,
         record: lines::record::<flanger::Flanger>,
+    },
+    Effect {
+        name: "delay",
+        run: delay::run::<false>,
+        record: delay::record::<false>,
+    },
+    Effect {
+        name: "linear_delay",
+        run: delay::run::<true>,
+        record: delay::record::<true>,
+    },
+    Effect {
+        name: "long_delay",
+        run: delay::run_long,
+        record: |_, _| Err("the long line has no list of answers".into()),
     },
 ];
 

@@ -138,6 +138,47 @@ impl Random {
         }
     }
 
+    /// A feedback that is no NaN, in and around 0 to 0.99.
+    pub fn unit_feedback(&mut self) -> f64 {
+        match self.below(8) {
+            0 => self.of(&[0.99, 0.99f64.next_down(), 0.99f64.next_up(), 1.0, 0.0, -0.0]),
+            1 => self.control(),
+            _ => self.within(-0.1, 1.0),
+        }
+    }
+
+    /// A glide coefficient: at least 0 and below 1.
+    pub fn coefficient(&mut self) -> f64 {
+        match self.below(8) {
+            0 => self.of(&ZEROS),
+            1 => self.of(&[0.5, 1.0f64.next_down(), SMALLEST, 1.0 - f64::EPSILON]),
+            2 => self.subnormal(),
+            3 => self.small(),
+            4 => self.within(0.99, 1.0),
+            _ => self.within(0.0, 1.0),
+        }
+    }
+
+    /// A glide distance in a line of this length: 1 to length − 1.
+    pub fn distance(&mut self, length: u64) -> f64 {
+        let last = (length - 1) as f64;
+        match self.below(4) {
+            0 => self.of(&[1.0, 1.0f64.next_up(), last, last.next_down()]),
+            1 => (1 + self.below(length - 1)) as f64,
+            _ => self.within(1.0, last),
+        }
+    }
+
+    /// A flag that is on.
+    pub fn on(&mut self) -> u32 {
+        self.of(&[1, 1, 1, 2, 1 << 31, u32::MAX])
+    }
+
+    pub fn flag(&mut self) -> u32 {
+        let on = self.on();
+        self.of(&[0, on])
+    }
+
     pub fn frequency(&mut self) -> f64 {
         match self.below(16) {
             0 => self.of(&ZEROS),
@@ -244,6 +285,43 @@ impl Random {
             f64::NEG_INFINITY,
             nan,
         ])
+    }
+
+    pub fn wrong_coefficient(&mut self) -> f64 {
+        let nan = self.nan();
+        let wrong = [1.0, 1.0f64.next_up(), 2.0, -SMALLEST, -0.5, f64::INFINITY];
+        let wrong = self.of(&wrong);
+        self.of(&[wrong, wrong, f64::NEG_INFINITY, nan])
+    }
+
+    pub fn wrong_maximum(&mut self) -> f64 {
+        let nan = self.nan();
+        let nearly = [0.001f64.next_down(), 60.0f64.next_up(), 0.0, -0.0];
+        let far = [-1.0, SMALLEST, 1e308, f64::INFINITY, f64::NEG_INFINITY, nan];
+        if self.one_in(2) {
+            self.of(&nearly)
+        } else {
+            self.of(&far)
+        }
+    }
+
+    /// No distance of a primed state with a line of this length.
+    pub fn wrong_distance(&mut self, length: u64) -> f64 {
+        let nan = self.nan();
+        let last = (length - 1) as f64;
+        let nearly = [1.0f64.next_down(), last.next_up(), last + 1.0, 0.0, -0.0];
+        let far = [SMALLEST, -1.0, 1e308, f64::INFINITY, f64::NEG_INFINITY, nan];
+        if self.one_in(2) {
+            self.of(&nearly)
+        } else {
+            self.of(&far)
+        }
+    }
+
+    /// No distance of an unprimed state.
+    pub fn no_plus_zero(&mut self) -> f64 {
+        let nan = self.nan();
+        self.of(&[-0.0, -0.0, SMALLEST, -SMALLEST, 1.0, f64::INFINITY, nan])
     }
 
     pub fn wrong_frequency(&mut self) -> f64 {

@@ -13,8 +13,8 @@ pub trait Pair: Sized {
     /// A call with its arguments, the state handed to it among them.
     type Call;
 
-    /// An accepted start at this rate.
-    fn start(sample_rate: f64) -> Result<Self, String>;
+    /// An accepted start at this rate; what else it takes is drawn.
+    fn start(sample_rate: f64, random: &mut Random) -> Result<Self, String>;
 
     /// A call for this unit: mostly ticks, now and then one that must be refused.
     fn draw(&self, random: &mut Random) -> Self::Call;
@@ -86,7 +86,7 @@ pub fn run<P: Pair>(ticks: u64, seed: u64) -> Result<String, String> {
     rates.push(random.sample_rate());
     let mut units = rates
         .into_iter()
-        .map(P::start)
+        .map(|rate| P::start(rate, &mut random))
         .collect::<Result<Vec<_>, _>>()?;
     let mut tally = Tally::default();
     while tally.ticks < ticks {

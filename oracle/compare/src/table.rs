@@ -1,6 +1,7 @@
 //! The table of refusals, read from document 01 and from nothing else: of each cause, whether it applies.
 
 pub const SAMPLE_RATE: u32 = 1;
+pub const COEFFICIENT: u32 = 2;
 pub const MEMORY: u32 = 3;
 pub const STATE: u32 = 4;
 pub const CONTROL: u32 = 5;
@@ -55,4 +56,46 @@ pub fn frequency(frequency: f64) -> bool {
 /// "curve number NaN, a sine outside −1 to 1"
 pub fn sine(sine: f64) -> bool {
     sine.is_nan() || sine < -1.0 || sine > 1.0
+}
+
+/// "glide coefficient NaN or outside 0 ≤ c < 1 (delay only)"
+pub fn coefficient(coefficient: f64) -> bool {
+    coefficient.is_nan() || coefficient < 0.0 || coefficient >= 1.0
+}
+
+/// "The delay's maximum in seconds: not finite means 2.0, else clamped to 0.001 to 60."
+pub fn held_maximum(maximum: f64) -> f64 {
+    if !maximum.is_finite() {
+        2.0
+    } else if maximum < 0.001 {
+        0.001
+    } else if maximum > 60.0 {
+        60.0
+    } else {
+        maximum
+    }
+}
+
+/// "A line has L places: the whole part of rate × maximum, plus 1 (delay)". What is refused must not stop the program.
+pub fn delay_length(rate: f64, maximum: f64) -> u64 {
+    ((rate * maximum).trunc() as u64).saturating_add(1)
+}
+
+/// "maximum 0.001 to 60": the state test fails where this is true.
+pub fn maximum(maximum: f64) -> bool {
+    !(maximum >= 0.001 && maximum <= 60.0)
+}
+
+/// "glide distance +0 while unprimed, else 1 to L − 1": the state test fails where this is true.
+pub fn distance(primed: bool, distance: f64, length: u64) -> bool {
+    if primed {
+        !(distance >= 1.0 && distance <= (length - 1) as f64)
+    } else {
+        distance.to_bits() != 0
+    }
+}
+
+/// "curve number NaN"
+pub fn curve(number: f64) -> bool {
+    number.is_nan()
 }

@@ -59,7 +59,7 @@ impl Pair for Tremolo {
     ];
     type Call = Call;
 
-    fn start(sample_rate: f64) -> Result<Self, String> {
+    fn start(sample_rate: f64, _random: &mut Random) -> Result<Self, String> {
         let mut unit = Self {
             ours: State {
                 lfo_phase: JUNK,

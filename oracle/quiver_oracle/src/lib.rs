@@ -1,4 +1,4 @@
-//! quiver's five files as published (build.rs puts them in), with a way in for tests: `tremolo`, `vibrato`, `chorus`, `flanger`.
+//! quiver's five files as published (build.rs puts them in), with a way in for tests: a module for each effect.
 //! Private fields are read and written by child modules of the Rust's own, in `inside/`.
 
 // Of quiver's text: parts that we don't use, features that we don't declare.
@@ -20,4 +20,4 @@ pub mod port;
 include!(concat!(env!("OUT_DIR"), "/quiver.rs"));
 
 pub use effect::{Effect, Lined, MOST_PORTS, MOST_SAMPLES};
-pub use modules::timefx::inside::{chorus, flanger, tremolo, vibrato};
+pub use modules::timefx::inside::{chorus, delay, flanger, tremolo, vibrato};

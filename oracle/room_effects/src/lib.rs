@@ -4,6 +4,7 @@
 mod lined;
 
 pub mod chorus;
+pub mod delay;
 pub mod flanger;
 pub mod tremolo;
 pub mod vibrato;

@@ -2,6 +2,7 @@
 
 use super::{junk_state, length, Effect};
 use crate::bits::shown;
+use crate::memory::Quiet;
 use crate::table;
 use room_effects::{State, Tick};
 
@@ -26,13 +27,6 @@ pub enum What {
     /// Of the unit's memory or of one that hardly sounds.
     Silent(Option<Quiet>),
     Tick(Tick),
-}
-
-/// A memory of +0 and −0 by the seed, but for one place.
-pub struct Quiet {
-    pub seed: u64,
-    pub place: usize,
-    pub sound: f64,
 }
 
 impl Call {

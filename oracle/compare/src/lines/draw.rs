@@ -1,7 +1,8 @@
 //! Calls for a unit with lines: mostly ticks, now and then one that must be refused.
 
-use super::call::{Call, Quiet, What};
+use super::call::{Call, What};
 use super::{length, needed, Effect, Lines};
+use crate::memory::Quiet;
 use crate::random::Random;
 use crate::table;
 use room_effects::{State, Tick};
@@ -187,16 +188,10 @@ impl<E: Effect> Lines<E> {
         }
     }
 
-    /// Whether a memory is silent that holds zeros but for one place: in use, spare, or not even lent.
+    /// Whether a memory is silent that holds zeros but for one place.
     fn question_of_quiet(&self, random: &mut Random) -> Call {
         let lent = self.memory.count();
-        let in_use = needed::<E>(self.state.sample_rate);
-        let any = random.below(lent as u64 + 1) as usize;
-        let quiet = Quiet {
-            seed: random.bits(),
-            place: random.of(&[any, any, in_use - 1, in_use, 0]),
-            sound: random.audio(),
-        };
+        let quiet = Quiet::drawn(lent, needed::<E>(self.state.sample_rate), random);
         Call {
             state: self.state,
             planted: None,

@@ -1,6 +1,6 @@
 //! The memory that a unit of ours is lent, with what it must hold, to the bit.
 
-use crate::bits::{agree, untouched};
+use crate::bits::{agree, same_count, untouched};
 use crate::random::Random;
 
 /// Places after the last that is ever lent: no call may touch them.
@@ -62,5 +62,48 @@ impl Memory {
             }
         }
         Ok(())
+    }
+}
+
+/// A line of ours beside the Rust's, place by place.
+pub fn line_agrees(ours: &[f64], rust: &[f64]) -> Result<(), String> {
+    same_count("length of a line", ours.len() as u64, rust.len())?;
+    for (i, (ours, rust)) in ours.iter().zip(rust).enumerate() {
+        agree("a line", *ours, *rust).map_err(|differs| format!("place {i} of {differs}"))?;
+    }
+    Ok(())
+}
+
+/// Document 01 of a unit whose places in use these are: silent when every one is +0 or −0.
+pub fn silent(in_use: &[f64]) -> bool {
+    let zeros = [0.0f64, -0.0].map(f64::to_bits);
+    in_use.iter().all(|place| zeros.contains(&place.to_bits()))
+}
+
+/// A memory of +0 and −0 by the seed, but for one place.
+pub struct Quiet {
+    pub seed: u64,
+    pub place: usize,
+    pub sound: f64,
+}
+
+impl Quiet {
+    /// One place of it sounds: in use, spare, or not even lent.
+    pub fn drawn(lent: usize, in_use: usize, random: &mut Random) -> Self {
+        let any = random.below(lent as u64 + 1) as usize;
+        Self {
+            seed: random.bits(),
+            place: random.of(&[any, any, in_use - 1, in_use, 0]),
+            sound: random.audio(),
+        }
+    }
+
+    pub fn memory(&self, lent: usize) -> Vec<f64> {
+        let mut random = Random::new(self.seed);
+        let mut memory: Vec<f64> = (0..lent).map(|_| random.of(&[0.0, -0.0])).collect();
+        if let Some(place) = memory.get_mut(self.place) {
+            *place = self.sound;
+        }
+        memory
     }
 }
