@@ -1,4 +1,5 @@
-// Replays stored answers of the Rust and compares them, with no Rust at hand. A file of data/ for each effect; units.rt says what a record has.
+// Replays stored answers of the Rust and compares them, with no Rust at hand. A file of data/ for each effect, two for the delay's modes; units.rt says
+// what a record has.
 mod units;
 mod words;
 
@@ -6,6 +7,7 @@ use libc::STDOUT_FILENO;
 use units::Unit;
 use words::Tally;
 use words::float;
+use words::word;
 ghost use Prim.Native.Nat.{_≤_};
 ghost use lib.ListN.{length};
 
@@ -23,7 +25,14 @@ fn opened(fd: i32, effect: u64, mem: &mut [f64]) -> Unit {
     }
     let mut start = [0u8; 24];
     io::read_full(fd, &mut start);
-    units::started(effect, float(&start, 1), mem)
+    let rate = float(&start, 1);
+    if effect == 1 {
+        let mut rest = [0u8; 24];
+        io::read_full(fd, &mut rest);
+        let linear = word(&rest, 2) == 1;
+        return units::started_delay(rate, float(&rest, 0), float(&rest, 1), linear, mem);
+    }
+    units::started(effect, rate, mem)
 }
 
 // Replays the records of an open file, a million at the most.
@@ -77,4 +86,6 @@ fn main() {
     replay(b"vibrato.bin", b"vibrato: ", 4, 80);
     replay(b"chorus.bin", b"chorus: ", 2, 128);
     replay(b"flanger.bin", b"flanger: ", 3, 112);
+    replay(b"delay.bin", b"delay: ", 1, 88);
+    replay(b"linear_delay.bin", b"linear delay: ", 1, 88);
 }

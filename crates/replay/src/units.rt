@@ -3,13 +3,16 @@
 //   vibrato, 10: the call; the mask; audio, depth, mix; frequency, sine; the sample; the position and the phase after
 //   chorus, 16: the call; the mask; audio, depth, mix; frequency, three sines; three samples; the position and the three phases after
 //   flanger, 14: the call; the mask; audio, depth, feedback, mix; frequency, two sines; three samples; the position and the phase after
-// The call is 0 tick, 1 retune (the new rate stands for the mix) or 2 reset. A tremolo's record has its own state before the tick; the others are calls
-// of one unit from its start on, which stands before them in three words: 2 chorus, 3 flanger or 4 vibrato; the rate; the places that the Rust needed.
+//   delay, 11: the call; the mask; audio, time, feedback, mix; milliseconds; the sample; the position, the glide distance and whether it is primed after
+// The call is 0 tick, 1 retune (the new rate stands for the mix, the delay's new coefficient for the milliseconds) or 2 reset. A tremolo's record has
+// its own state before the tick; the others are calls of one unit from its start on, which stands before them: 1 delay, 2 chorus, 3 flanger or
+// 4 vibrato; the rate; the places that the Rust needed; of a delay also the maximum, the glide coefficient, and 1 for linear mode, else 0.
 ghost use Prim.Native.Nat.{_<_};
 use crate::words::float;
 use crate::words::same;
 use crate::words::word;
 use chorus::Chorus;
+use delay_line::DelayLine;
 use flanger::Flanger;
 use port::Answer;
 use port::Outcome;
@@ -23,6 +26,7 @@ pub enum Unit {
     Vibrato(Vibrato),
     Chorus(Chorus),
     Flanger(Flanger),
+    Delay(DelayLine),
 }
 
 // A unit after a call, and whether the call left and answered what is stored.
@@ -38,7 +42,14 @@ fn port(b: &[u8; 128], set: u64, i: usize) -> Port
     port_if(set % 2 == 1, float(b, i))
 }
 
-// The unit that an accepted start leaves.
+// The delay that an accepted start leaves.
+pub fn started_delay(rate: f64, maximum: f64, coef: f64, linear: bool, mem: &mut [f64]) -> Unit {
+    let started = DelayLine::with_max_delay(rate, maximum, coef, linear, mem);
+    let state = started.state;
+    Unit::Delay(state)
+}
+
+// The unit of any other effect that an accepted start leaves.
 pub fn started(effect: u64, rate: f64, mem: &mut [f64]) -> Unit {
     if effect == 2 {
         let started = Chorus::new(rate, mem);
@@ -70,6 +81,11 @@ fn left(unit: Unit, b: &[u8; 128]) -> bool {
                 & same(c.lfo_phase2, float(b, 15))
         }
         Unit::Flanger(f) => (f.write_pos == word(b, 12)) & same(f.lfo_phase, float(b, 13)),
+        Unit::Delay(d) => {
+            (d.write_pos == word(b, 8))
+                & same(d.smoothed_delay, float(b, 9))
+                & (d.delay_primed == (word(b, 10) == 1))
+        }
     }
 }
 
@@ -167,12 +183,31 @@ fn tick_flanger(state: Flanger, mem: &mut [f64], b: &[u8; 128]) -> Step {
     }
 }
 
+fn tick_delay(state: DelayLine, mem: &mut [f64], b: &[u8; 128]) -> Step {
+    let set = word(b, 1);
+    let ticked = state.tick(
+        mem,
+        port(b, set, 2),
+        port(b, set / 2, 3),
+        port(b, set / 4, 4),
+        port(b, set / 8, 5),
+        float(b, 6),
+    );
+    let next = ticked.state;
+    let answer = ticked.answer;
+    Step {
+        unit: Unit::Delay(next),
+        equal: one_sample(answer, b, 7),
+    }
+}
+
 fn tick(unit: Unit, mem: &mut [f64], b: &[u8; 128]) -> Step {
     match unit {
         Unit::Tremolo => tick_tremolo(b),
         Unit::Vibrato(v) => tick_vibrato(v, mem, b),
         Unit::Chorus(c) => tick_chorus(c, mem, b),
         Unit::Flanger(f) => tick_flanger(f, mem, b),
+        Unit::Delay(d) => tick_delay(d, mem, b),
     }
 }
 
@@ -186,10 +221,7 @@ fn cleared(unit: Unit, outcome: Outcome) -> Step {
 
 fn retune(unit: Unit, mem: &mut [f64], b: &[u8; 128]) -> Step {
     match unit {
-        Unit::Tremolo => Step {
-            unit,
-            equal: false,
-        },
+        Unit::Tremolo => Step { unit, equal: false },
         Unit::Vibrato(v) => {
             let r = v.set_sample_rate(float(b, 4), mem);
             let next = r.state;
@@ -208,15 +240,18 @@ fn retune(unit: Unit, mem: &mut [f64], b: &[u8; 128]) -> Step {
             let outcome = r.outcome;
             cleared(Unit::Flanger(next), outcome)
         }
+        Unit::Delay(d) => {
+            let r = d.set_sample_rate(float(b, 5), float(b, 6), mem);
+            let next = r.state;
+            let outcome = r.outcome;
+            cleared(Unit::Delay(next), outcome)
+        }
     }
 }
 
 fn reset(unit: Unit, mem: &mut [f64]) -> Step {
     match unit {
-        Unit::Tremolo => Step {
-            unit,
-            equal: false,
-        },
+        Unit::Tremolo => Step { unit, equal: false },
         Unit::Vibrato(v) => {
             let r = v.reset(mem);
             let next = r.state;
@@ -234,6 +269,12 @@ fn reset(unit: Unit, mem: &mut [f64]) -> Step {
             let next = r.state;
             let outcome = r.outcome;
             cleared(Unit::Flanger(next), outcome)
+        }
+        Unit::Delay(d) => {
+            let r = d.reset(mem);
+            let next = r.state;
+            let outcome = r.outcome;
+            cleared(Unit::Delay(next), outcome)
         }
     }
 }
