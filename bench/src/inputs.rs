@@ -9,6 +9,8 @@ pub struct Input {
     pub ports: [f64; MOST_PORTS],
     pub frequency: f64,
     pub sines: [f64; MOST],
+    /// Up to a second: the delay's curve number.
+    pub milliseconds: f64,
 }
 
 impl Input {
@@ -44,10 +46,13 @@ pub fn inputs() -> Vec<Input> {
     };
     let mut input = |_| {
         let [first, second, third] = [(); 3].map(|()| within(0.0, 1.0));
+        let audio = within(-5.0, 5.0);
+        let frequency = within(0.1, 20.0);
         Input {
-            ports: [within(-5.0, 5.0), first, second, third],
-            frequency: within(0.1, 20.0),
+            ports: [audio, first, second, third],
+            frequency,
             sines: [(); 3].map(|()| within(-1.0, 1.0)),
+            milliseconds: frequency * 50.0,
         }
     };
     (0..COUNT).map(&mut input).collect()

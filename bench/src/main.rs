@@ -1,6 +1,7 @@
 //! What a tick costs: the Rust's and ours, in one process, from one driver.
 //!
 //!     bench time                       ns per tick of every effect
+//!     bench clear                      ms per clearing and question of the longest line, beside memset and a plain loop
 //!     bench count EFFECT SIDE TICKS    only these ticks, for callgrind; SIDE is rust or ours
 //!
 //! How it is taken:
@@ -12,13 +13,16 @@
 //! - Curve numbers are handed to both, to each in its own way. Ours gets them as arguments. For the Rust the driver leaves them
 //!   in memory before the call: the frequency in the memo, under the key that the tick will ask for, and the sines where the shim
 //!   of libm takes each by one load. "Rust, curves still" is the Rust without these stores, its curve numbers the same in every
-//!   tick: what they cost it. What is left on the Rust's side is the memo's own test, which is part of its tick.
+//!   tick: what they cost it. What is left on the Rust's side is the memo's own test, which is part of its tick. Of the delay the
+//!   curve number is the milliseconds, and its time port is the memo's key; in linear mode there is none.
 //! - Audio, controls, frequencies and sines move from tick to tick; the state is fed back, the lines too; the samples are summed
 //!   up, and both sides must come to the same sum.
 //! - Rounds are interleaved, so that a machine that slows down slows both. The lowest is what the code can do; the median says
 //!   how noisy the machine was. "Driver" is a tick that copies its audio: what the loop and a call cost alone.
 
 mod chorus;
+mod clear;
+mod delay;
 mod flanger;
 mod inputs;
 mod lines;
@@ -26,6 +30,7 @@ mod tremolo;
 mod vibrato;
 
 use chorus::Chorus;
+use delay::Delay;
 use flanger::Flanger;
 use inputs::{inputs, Input};
 use lines::Row;
@@ -61,18 +66,30 @@ fn main() {
         ["time"] => {
             print_row(
                 "ns a tick",
-                ["driver", "Rust, curves still", "Rust", "ours", "ours / Rust"].map(String::from),
+                [
+                    "driver",
+                    "Rust, curves still",
+                    "Rust",
+                    "ours",
+                    "ours / Rust",
+                ]
+                .map(String::from),
             );
             time::<Tremolo, 1>();
             time::<Row<Vibrato, 1>, 1>();
             time::<Row<Chorus, 3>, 3>();
             time::<Row<Flanger, 3>, 3>();
+            time::<Delay<false>, 1>();
+            time::<Delay<true>, 1>();
         }
+        ["clear"] => clear::time(),
         ["count", "tremolo", side, ticks] => count::<Tremolo, 1>(side, ticks),
         ["count", "vibrato", side, ticks] => count::<Row<Vibrato, 1>, 1>(side, ticks),
         ["count", "chorus", side, ticks] => count::<Row<Chorus, 3>, 3>(side, ticks),
         ["count", "flanger", side, ticks] => count::<Row<Flanger, 3>, 3>(side, ticks),
-        _ => panic!("bench time, or bench count EFFECT SIDE TICKS"),
+        ["count", "delay", side, ticks] => count::<Delay<false>, 1>(side, ticks),
+        ["count", "linear_delay", side, ticks] => count::<Delay<true>, 1>(side, ticks),
+        _ => panic!("bench time, bench clear, or bench count EFFECT SIDE TICKS"),
     }
 }
 
@@ -136,10 +153,7 @@ fn time<E: Effect<N>, const N: usize>() {
         }
     }
     let [driver, still, rust, ours] = times.map(Spread::of);
-    let ratio = Spread {
-        lowest: ours.lowest / rust.lowest,
-        median: ours.median / rust.median,
-    };
+    let ratio = ours.over(rust);
     print_row(
         E::NAME,
         [driver, still, rust, ours, ratio].map(Spread::shown),
@@ -148,7 +162,13 @@ fn time<E: Effect<N>, const N: usize>() {
 
 fn print_row(name: &str, columns: [String; 5]) {
     let [driver, still, rust, ours, ratio] = columns;
-    println!("{name:10} {driver:>20} {still:>20} {rust:>20} {ours:>20} {ratio:>20}");
+    println!("{name:12} {driver:>20} {still:>20} {rust:>20} {ours:>20} {ratio:>20}");
+}
+
+/// Named columns of one row.
+fn print_spreads<const N: usize>(name: &str, columns: [(&str, Spread); N]) {
+    let shown = columns.map(|(of, spread)| format!("{of} {}", spread.shown()));
+    println!("{name:12} {}", shown.join("   "));
 }
 
 /// ns per tick of a round, and its sum.
@@ -170,6 +190,13 @@ impl Spread {
         Self {
             lowest: times[0],
             median: times[times.len() / 2],
+        }
+    }
+
+    fn over(self, other: Self) -> Self {
+        Self {
+            lowest: self.lowest / other.lowest,
+            median: self.median / other.median,
         }
     }
 

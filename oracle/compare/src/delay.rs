@@ -17,7 +17,7 @@ use crate::random::Random;
 use crate::run::{self, number_agrees, silent_agrees, Made, Pair};
 use crate::table;
 use call::{read, Call, What};
-use quiver_oracle::delay::{coefficient, Moving, Unit};
+use quiver_oracle::delay::{coefficient, key, Moving, Unit};
 use room_effects::delay as ours;
 use room_effects::delay::{Settings, State, Tick};
 
@@ -309,7 +309,7 @@ impl<const LINEAR: bool> Delay<LINEAR> {
 /// The Rust's tick.
 fn in_rust(rust: &mut Unit, t: &Tick) -> f64 {
     let ports = read(t);
-    rust.plant_milliseconds(ports[1], t.milliseconds);
+    rust.plant_milliseconds(key(ports[1]), t.milliseconds);
     rust.tick(ports)
 }
 

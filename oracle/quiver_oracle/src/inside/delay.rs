@@ -9,8 +9,10 @@ use crate::MOST_PORTS;
 
 pub struct Unit(DelayLine);
 
-/// The time where its port is unset.
-const TIME: f64 = 0.5;
+/// The memo's key in a tick with this time port.
+pub fn key(time: Option<f64>) -> f64 {
+    time.unwrap_or(0.5).clamp(0.0, 1.0)
+}
 
 /// The glide coefficient that the Rust works out at this rate.
 pub fn coefficient(sample_rate: f64) -> f64 {
@@ -93,10 +95,9 @@ impl Unit {
         &mut self.0.buffer
     }
 
-    /// The milliseconds of the next tick, if that is in exponential mode: under the key that a tick with this time asks for.
+    /// The milliseconds of ticks to come in exponential mode whose time comes to this key.
     #[inline(always)]
-    pub fn plant_milliseconds(&mut self, time: Option<f64>, milliseconds: f64) {
-        let key = time.unwrap_or(TIME).clamp(0.0, 1.0);
+    pub fn plant_milliseconds(&mut self, key: f64, milliseconds: f64) {
         plant(&mut self.0.delay_ms_memo, [key], milliseconds);
     }
 
