@@ -1,5 +1,6 @@
 /* A plucked string, one second long, through each effect: how the calls of room_effects.h go together.
-   The host computes the curve numbers, here a steady frequency and sines at the state's phases. */
+   The host computes the curve numbers, here a steady frequency and sines at the state's phases, and for the delay its time in
+   milliseconds and its glide coefficient. */
 #include "room_effects.h"
 
 #include <math.h>
@@ -11,6 +12,8 @@
 #define VIBRATO_PLACES 892
 #define CHORUS_PLACES 4263
 #define FLANGER_PLACES 902
+#define DELAY_SECONDS 1.0
+#define DELAY_PLACES 44101
 
 static double plucked(int i)
 {
@@ -96,6 +99,25 @@ static uint32_t play_flanger(double *places)
     return refused;
 }
 
+/* The time control at 0.8; in linear mode the time port would say seconds, and the milliseconds would not be read. */
+static uint32_t play_delay(double *places)
+{
+    room_delay unit;
+    double y[1];
+    double peak = 0.0;
+    double sum = 0.0;
+    double coefficient = exp(-1.0 / (0.005 * RATE));
+    double milliseconds = pow(DELAY_SECONDS * 1000.0, 0.8);
+    uint32_t refused = room_delay_start(&unit, places, DELAY_PLACES, RATE, DELAY_SECONDS, coefficient, 0);
+    for (int i = 0; i < RATE && refused == 0; i++) {
+        refused = room_delay_tick(&unit, places, DELAY_PLACES, room_set(plucked(i)), room_unset(), room_set(0.6), room_unset(), milliseconds, y);
+        peak = fmax(peak, fabs(y[0]));
+        sum += y[0] * y[0];
+    }
+    print_row("delay", peak, sum, DELAY_PLACES);
+    return refused;
+}
+
 /* What the unit is for: after a song and a reset the next take is +0 in every sample. */
 static uint32_t next_hirer(double *places)
 {
@@ -117,11 +139,11 @@ static uint32_t next_hirer(double *places)
 
 int main(void)
 {
-    double *places = malloc(CHORUS_PLACES * sizeof *places);
+    double *places = malloc(DELAY_PLACES * sizeof *places);
     if (places == NULL)
         return 1;
     puts("one second of a plucked string through each effect");
-    uint32_t wrong = play_tremolo() + play_vibrato(places) + play_chorus(places) + play_flanger(places) + next_hirer(places);
+    uint32_t wrong = play_tremolo() + play_vibrato(places) + play_chorus(places) + play_flanger(places) + play_delay(places) + next_hirer(places);
     free(places);
     return wrong != 0;
 }
