@@ -1,4 +1,3 @@
 pub mod Laws
 pub mod Demand1
 pub mod Demand3
-pub mod Bench

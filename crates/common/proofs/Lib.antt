@@ -6,5 +6,4 @@ pub mod Slices
 pub mod Ring
 pub mod Reading
 pub mod Phases
-pub mod Bench
 pub mod Sweep

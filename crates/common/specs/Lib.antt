@@ -1,3 +1,2 @@
 pub mod Signal
 pub mod Line
-pub mod Bench

@@ -1,2 +1,1 @@
 pub mod DelayLine
-pub mod Bench

@@ -1,3 +1,2 @@
 pub mod Laws
 pub mod Demand1
-pub mod Bench

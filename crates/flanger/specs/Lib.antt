@@ -1,2 +1,1 @@
 pub mod Flanger
-pub mod Bench

@@ -1,2 +1,3 @@
 pub mod CleanMemory
 pub mod RecentPasts
+pub mod Starred

@@ -5,4 +5,3 @@ pub mod Laws
 pub mod Tank
 pub mod Ticks
 pub mod Demand1
-pub mod Bench

@@ -1,4 +1,3 @@
 pub mod Freeverb
 pub mod Tunings
 pub mod Reverb
-pub mod Bench

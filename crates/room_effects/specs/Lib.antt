@@ -1,3 +1,4 @@
 pub mod Ports
 pub mod Lent
 pub mod Units
+pub mod Needed

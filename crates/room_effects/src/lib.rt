@@ -3,6 +3,7 @@
 mod chorus_calls;
 mod delay_calls;
 mod flanger_calls;
+mod places;
 mod reverb_calls;
 mod tremolo_calls;
 mod vibrato_calls;

@@ -1,2 +1,1 @@
 pub mod Tremolo
-pub mod Bench

@@ -2,4 +2,3 @@ pub mod Laws
 pub mod Distance
 pub mod Demand1
 pub mod Demand3
-pub mod Bench
