@@ -1,9 +1,9 @@
-//! The delay: ours, in memory that it is lent, beside the Rust's. The modes are two rows of the program: a unit starts in its own,
-//! and now and then a call is handed a state in the other.
+//! The delay: ours, in memory that it is lent, beside the Rust's. The modes are two rows of the program: a unit starts in its
+//! own, and now and then a call is handed a state in the other.
 //!
-//! Of the memory, a tick's own place is compared with the Rust's line at once. All of it, spare places too, is held against what
-//! it should be at every clearing, at every refusal, at every 64th tick of a unit (of a long line, more seldom) and at the end of
-//! the run.
+//! Of the memory, a tick's own place is compared with the Rust's line at once. All of it, spare places too, is held against
+//! what it should be at every clearing, at every refusal, at every 64th tick of a unit (of a long line, more seldom) and at the
+//! end of the run.
 
 mod call;
 mod directed;
