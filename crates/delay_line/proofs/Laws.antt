@@ -3,7 +3,7 @@
 use Prim.Native.Nat.{ℕ, _-_, _≤_, _<_}
 use native.Mathlib.Omega.{arith}
 use mathlib.Core.Path.{_≡_, refl, _∙_}
-use mathlib.Core.Bool.{Bool, true, false, _&&_, _||_, cond}
+use mathlib.Core.Bool.{Bool, true, false, not, _&&_, _||_, cond}
 use mathlib.Core.List.{List, [], _∷_}
 use lib.Dec.{T, ltb}
 use lib.ListN.{length, take, set}
@@ -12,7 +12,7 @@ use lib.Ieee as Ieee
 use lib.Ieee.Positive.{positive, between}
 use borrow.Author.Tests.{ltb-true, lt-ltb}
 use Rattle.float64.specs.Number.{plusZero, whole, fraction, half, isNumber, isFinite, inRange, rateFits, coefficientFits, clampOf}
-use Rattle.float64.proofs.Tests.{both}
+use Rattle.float64.proofs.Tests.{both, not-not}
 use Rattle.float64.proofs.Interval.{In, mul-in}
 use Rattle.float64.proofs.Ranges.{rate-in, range-in, in-range, in-number, finite-number}
 use Rattle.float64.proofs.Clamped.{clamp-in, clamp-number}
@@ -131,6 +131,15 @@ tick-fits t linear e =
     let v = no-cause (linear && isNanSet (t .time) || others) (linear || isNumber (t .milliseconds)) e in
     let a = neither (linear && isNanSet (t .time)) others (v .0) .0 in
     record { time = λ l. rw l at a; milliseconds = λ l. rw l at (v .1) }
+
+-- of what a tick reads, a NaN is a NaN time in linear mode, and a NaN number of milliseconds in the other
+pub read-nan : (linear : Bool) (time milliseconds : Float) → linear && not (isNumber (cond linear time milliseconds)) ≡ linear && not (isNumber time)
+read-nan true time milliseconds = refl
+read-nan false time milliseconds = refl
+
+pub read-number : (linear : Bool) (time milliseconds : Float) → linear || not (not (isNumber (cond linear time milliseconds))) ≡ linear || isNumber milliseconds
+read-number true time milliseconds = refl
+read-number false time milliseconds = not-not (isNumber milliseconds)
 
 -- ---- the glide
 

@@ -167,7 +167,10 @@ impl DelayLine {
         if self.write_pos >= n {
             return false;
         }
-        float64::coefficient_fits(self.delay_smooth_coef) & self.glide_fits(n)
+        if !float64::coefficient_fits(self.delay_smooth_coef) {
+            return false;
+        }
+        self.glide_fits(n)
     }
 
     // Causes 4 and 3: a state that fails its test, and memory that is too short for it.
@@ -267,6 +270,13 @@ impl DelayLine {
         target + (self.smoothed_delay - target) * self.delay_smooth_coef
     }
 
+    // What the tick reads its delay from: in linear mode the time port, else the milliseconds.
+    fn reads(self, time: f64, milliseconds: f64) -> f64
+        ensures { λ r. ⌜ r ≡ cond (self .«linear_time») time milliseconds ⌝ }
+    {
+        if self.linear_time { time } else { milliseconds }
+    }
+
     // The delay in milliseconds: in linear mode from the time port's seconds, else as handed.
     fn delay_ms(self, time: f64, milliseconds: f64) -> f64
         ensures { λ r. ⌜ r ≡ cond (self .«linear_time») (mul binary64 (clampOf time plusZero (self .«max_delay_secs»)) (whole 1000)) milliseconds ⌝ }
@@ -351,9 +361,10 @@ impl DelayLine {
         let feedback = if let Port::Set(x) = feedback { x } else { 0.0 };
         let mix = if let Port::Set(x) = mix { x } else { 0.5 };
         let linear = self.linear_time;
+        let unread = float64::is_nan(self.reads(time, milliseconds));
         let causes = common::tick_causes(
-            (linear & float64::is_nan(time)) | (float64::is_nan(feedback) | float64::is_nan(mix)),
-            linear | !float64::is_nan(milliseconds),
+            (linear & unread) | (float64::is_nan(feedback) | float64::is_nan(mix)),
+            linear | !unread,
         );
         if let Outcome::Refused(cause) = causes {
             return Ticked {

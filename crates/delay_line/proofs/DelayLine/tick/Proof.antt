@@ -3,12 +3,11 @@
 use Prim.Native.Nat.{ℕ}
 use mathlib.Core.Path.{_≡_, refl, sym, ap, _∙_}
 use mathlib.Core.Logic.{inl, inr}
-use mathlib.Core.Bool.{Bool, not, _&&_, _||_}
+use mathlib.Core.Bool.{Bool, not, _&&_, _||_, cond}
 use lib.ListN.{length}
-use lib.Ieee.{ofBits, round, fits, isNan}
+use lib.Ieee.{Float, ofBits, round, fits, isNan}
 use borrow.Author.Needs.{needs}
 use Rattle.float64.specs.Number.{plusZero, half, isNumber}
-use Rattle.float64.proofs.Tests.{not-not}
 use Rattle.port.specs.Port.{valueOr}
 use Rattle.port.specs.Answer.{number, numberOf}
 use Rattle.port.proofs.Laws.{value-set, value-unset, nan-is, number-some}
@@ -18,7 +17,7 @@ use Rattle.effect.proofs.Table.{Accepted, accepted}
 use Rattle.effect.proofs.Contract.{refuses, tick-number}
 use Rattle.effect.proofs.Rows.{unit-refused}
 use Rattle.delay_line.specs.DelayLine.{delayLine, Tick, ticked, tickNumber}
-use Rattle.delay_line.proofs.Laws.{size-fits, allSet, set-does}
+use Rattle.delay_line.proofs.Laws.{size-fits, read-nan, read-number, allSet, set-does}
 use Rattle.delay_line.proofs.DelayLine.tick.Statement.{statement}
 use Rattle.delay_line.proofs.DelayLine.tick.Tie as tie
 
@@ -74,6 +73,9 @@ enum-known-mix c = search needs
 enum-told-5 : tie.Need-enum-told-5
 enum-told-5 c = search needs
 
+reads-requires : tie.Need-reads-requires
+reads-requires c κs = search needs
+
 is-nan-requires : tie.Need-is-nan-requires
 is-nan-requires c κs = search needs
 
@@ -82,9 +84,6 @@ is-nan-requires-2 c κs = search needs
 
 is-nan-requires-3 : tie.Need-is-nan-requires-3
 is-nan-requires-3 c κs = search needs
-
-is-nan-requires-4 : tie.Need-is-nan-requires-4
-is-nan-requires-4 c κs = search needs
 
 tick-causes-requires : tie.Need-tick-causes-requires
 tick-causes-requires c κs = search needs
@@ -145,20 +144,32 @@ module _ (c : tie.After-tick-causes) where
   abbrev linear : Bool
   linear = start values .args .self .«linear_time»
 
-  -- exponential mode reads the milliseconds
-  milliseconds-are : linear || not (c .before .is-nan4 .result) ≡ linear || isNumber (start values .args .milliseconds)
-  milliseconds-are = ap (λ (b : Bool). linear || b) (ap not (c .before .is-nan4 .ensures) ∙ not-not (isNumber (start values .args .milliseconds)))
+  -- the time, or its default
+  abbrev time : Float
+  time = values .before .before .match3 .time
+
+  -- what is read is no number
+  unread-is : c .before .before .before .is-nan .result ≡ not (isNumber (cond linear time (start values .args .milliseconds)))
+  unread-is = c .before .before .before .is-nan .ensures ∙ ap (λ (x : Float). not (isNumber x)) (c .before .before .before .before .reads .ensures)
+
+  -- so in linear mode the time is none
+  time-none : linear && c .before .before .before .is-nan .result ≡ linear && not (isNumber time)
+  time-none = ap (λ (b : Bool). linear && b) unread-is ∙ read-nan linear time (start values .args .milliseconds)
+
+  -- and in the other the milliseconds
+  milliseconds-are : linear || not (c .before .before .before .is-nan .result) ≡ linear || isNumber (start values .args .milliseconds)
+  milliseconds-are = ap (λ (b : Bool). linear || not b) unread-is ∙ read-number linear time (start values .args .milliseconds)
 
   number-is : (k : ℕ) → numberOf (c .tick-causes .result) ≡ k → k ≡ numberIn delayLine (tick (handed (start values))) (length (start values .args .mem .now)) (start values .args .self)
   unfolding tickNumber isNumber fits isNan round
   number-is k e =
       let a = start values .args in
       let u = passed values in
-      let time = nan-is (a .time) half refl (time-is values) (c .before .before .before .before .is-nan .ensures) in
-      let feedback = nan-is (a .feedback) plusZero refl (feedback-is values) (c .before .before .before .is-nan2 .ensures) in
-      let mix = nan-is (a .mix) half refl (mix-is values) (c .before .before .is-nan3 .ensures) in
+      let time-set = time-none ∙ ap (λ (b : Bool). linear && b) (nan-is (a .time) half refl (time-is values) refl) in
+      let feedback = nan-is (a .feedback) plusZero refl (feedback-is values) (c .before .before .is-nan2 .ensures) in
+      let mix = nan-is (a .mix) half refl (mix-is values) (c .before .is-nan3 .ensures) in
       tick-number delayLine (length (a .mem .now)) (a .self) (handed (start values)) (u .fits) (sym (u .number))
-      (sym e ∙ c .tick-causes .ensures ∙ (λ i. causeNumber (linear && time i || (feedback i || mix i)) (milliseconds-are i)))
+      (sym e ∙ c .tick-causes .ensures ∙ (λ i. causeNumber (time-set i || (feedback i || mix i)) (milliseconds-are i)))
 
   -- and by their numbers
   set-number-is : (k : ℕ) → numberOf (c .tick-causes .result) ≡ k → k ≡ numberIn delayLine (tick (all values)) (length (start values .args .mem .now)) (start values .args .self)
@@ -167,7 +178,7 @@ module _ (c : tie.After-tick-causes) where
       let a = start values .args in
       let u = passed values in
       tick-number delayLine (length (a .mem .now)) (a .self) (all values) (u .fits) (sym (u .number))
-      (sym e ∙ c .tick-causes .ensures ∙ (λ i. causeNumber (linear && c .before .before .before .before .is-nan .ensures i || (c .before .before .before .is-nan2 .ensures i || c .before .before .is-nan3 .ensures i)) (milliseconds-are i)))
+      (sym e ∙ c .tick-causes .ensures ∙ (λ i. causeNumber (time-none i || (c .before .before .is-nan2 .ensures i || c .before .is-nan3 .ensures i)) (milliseconds-are i)))
 
 returns-2 : tie.Need-returns-2
 returns-2 c =
@@ -219,10 +230,10 @@ tick-spec =
     enum-told-4
     enum-known-mix
     enum-told-5
+    reads-requires
     is-nan-requires
     is-nan-requires-2
     is-nan-requires-3
-    is-nan-requires-4
     tick-causes-requires
     enum-known-causes
     returns-2
