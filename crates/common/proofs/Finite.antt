@@ -1,26 +1,21 @@
--- A float that lies strictly between the infinities passes the input rule, and no other does. Assumes nothing.
-use mathlib.Core.Path.{_≡_, refl}
+-- A float less itself is equal to 0 where it is finite, and so passes the input rule, and no other is. Assumes nothing.
+use mathlib.Core.Path.{_≡_, refl, ap, _∙_}
 use mathlib.Core.Bool.{true, false}
-use lib.Ieee.{Float, nan, inf, fin, lt}
+use lib.Ieee.{Float, nan, inf, fin, binary64, sub, eq}
 use Rattle.float64.specs.Number.{plusZero}
 use Rattle.float64.proofs.Tests.{clash}
+use Rattle.float64.proofs.Same.{less-itself}
 use Rattle.common.specs.Signal.{sanitized}
 
-pub between : (x : Float) → lt x (inf false) ≡ true → lt (inf true) x ≡ true → x ≡ sanitized x
-unfolding lt
-between nan h k = clash h refl
-between (inf true) h k = clash k refl
-between (inf false) h k = clash h refl
-between (fin s m e) h k = refl
+pub itself : (x : Float) → eq (sub binary64 x x) plusZero ≡ true → x ≡ sanitized x
+unfolding sub eq
+itself nan h = clash h refl
+itself (inf true) h = clash h refl
+itself (inf false) h = clash h refl
+itself (fin s m e) h = refl
 
-pub not-above : (x : Float) → lt (inf true) x ≡ false → plusZero ≡ sanitized x
-unfolding lt
-not-above nan h = refl
-not-above (inf s) h = refl
-not-above (fin s m e) h = clash refl h
-
-pub not-below : (x : Float) → lt x (inf false) ≡ false → plusZero ≡ sanitized x
-unfolding lt
-not-below nan h = refl
-not-below (inf s) h = refl
-not-below (fin s m e) h = clash refl h
+pub not-itself : (x : Float) → eq (sub binary64 x x) plusZero ≡ false → plusZero ≡ sanitized x
+unfolding eq
+not-itself nan h = refl
+not-itself (inf s) h = refl
+not-itself (fin s m e) h = clash (ap (λ (y : Float). eq y plusZero) (less-itself binary64 (fin s m e) tt)) h

@@ -10,17 +10,11 @@ ghost use Rattle.common.specs.Line.{zeros, place, nextPlace, lineAt, rea
 use port::Outcome;
 use port::Refusal;
 
-// The input rule: non-finite audio becomes +0.
+// The input rule: non-finite audio becomes +0. Only a finite number less itself is 0; in this form it compiles without a branch.
 pub fn sanitize_audio(x: f64) -> f64
     ensures { λ r. ⌜ r ≡ sanitized x ⌝ }
 {
-    let infinity = 1.0 / 0.0;
-    if x < infinity {
-        if x > -infinity {
-            return x;
-        }
-    }
-    0.0
+    if x - x == 0.0 { x } else { 0.0 }
 }
 
 // a x (1 - f) + b x f.

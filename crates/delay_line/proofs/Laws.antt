@@ -12,7 +12,7 @@ use lib.Ieee as Ieee
 use lib.Ieee.Positive.{positive, between}
 use borrow.Author.Tests.{ltb-true, lt-ltb}
 use Rattle.float64.specs.Number.{plusZero, whole, fraction, half, isNumber, isFinite, inRange, rateFits, coefficientFits, clampOf}
-use Rattle.float64.proofs.Tests.{both, not-not}
+use Rattle.float64.proofs.Tests.{clash, both, not-not}
 use Rattle.float64.proofs.Interval.{In, mul-in}
 use Rattle.float64.proofs.Ranges.{rate-in, range-in, in-range, in-number, finite-number}
 use Rattle.float64.proofs.Clamped.{clamp-in, clamp-number}
@@ -23,7 +23,7 @@ use Rattle.float64.proofs.Lengths.{line-length}
 use Rattle.port.specs.declared.Port.the-variants.{Set}
 use Rattle.port.specs.Port.{valueOr, isNanSet}
 use Rattle.port.specs.Answer.{Reply, played}
-use Rattle.common.specs.Signal.{sanitized, blended}
+use Rattle.common.specs.Signal.{sanitized, blended, causeNumber}
 use Rattle.common.specs.Line.{lineAt, readAt}
 use Rattle.common.proofs.Sweep.{size-is, size-some, size-tests, small, no-cause, neither, value-number, part-read}
 use Rattle.effect.specs.Effect.{laid}
@@ -140,6 +140,37 @@ read-nan false time milliseconds = refl
 pub read-number : (linear : Bool) (time milliseconds : Float) → linear || not (not (isNumber (cond linear time milliseconds))) ≡ linear || isNumber milliseconds
 read-number true time milliseconds = refl
 read-number false time milliseconds = not-not (isNumber milliseconds)
+
+-- causes 5 and 6 by three tests: whether the time is linear, whether what the delay is read from is NaN, whether another control is
+pub no-nan : (linear unread others : Bool) → not (unread || others) ≡ true → _≡_ {A = ℕ} 0 (causeNumber (linear && unread || others) (linear || not unread))
+no-nan true true true e = clash e refl
+no-nan true true false e = clash e refl
+no-nan true false true e = clash e refl
+no-nan true false false e = refl
+no-nan false true true e = clash e refl
+no-nan false true false e = clash e refl
+no-nan false false true e = clash e refl
+no-nan false false false e = refl
+
+pub nan-control : (linear unread others : Bool) → not (unread || others) ≡ false → others || linear ≡ true → _≡_ {A = ℕ} 5 (causeNumber (linear && unread || others) (linear || not unread))
+nan-control true true true e f = refl
+nan-control true true false e f = refl
+nan-control true false true e f = refl
+nan-control true false false e f = clash refl e
+nan-control false true true e f = refl
+nan-control false true false e f = clash f refl
+nan-control false false true e f = refl
+nan-control false false false e f = clash refl e
+
+pub nan-curve : (linear unread others : Bool) → not (unread || others) ≡ false → others || linear ≡ false → _≡_ {A = ℕ} 6 (causeNumber (linear && unread || others) (linear || not unread))
+nan-curve true true true e f = clash refl f
+nan-curve true true false e f = clash refl f
+nan-curve true false true e f = clash refl f
+nan-curve true false false e f = clash refl e
+nan-curve false true true e f = clash refl f
+nan-curve false true false e f = refl
+nan-curve false false true e f = clash refl f
+nan-curve false false false e f = clash refl e
 
 -- ---- the glide
 

@@ -1,12 +1,13 @@
 // The delay line: one line in lent memory, fed back into itself, read at a distance that glides to the delay time. The state goes in and out by value.
 ghost use mathlib.Core.Path.{_≡_};
-ghost use mathlib.Core.Bool.{true, false, cond, _&&_};
+ghost use mathlib.Core.Bool.{true, false, not, cond, _&&_, _||_};
 ghost use Prim.Native.Nat.{_-_, _≤_, _<_};
 ghost use lib.ListN.{length};
 ghost use lib.Ieee.{binary64, mul};
 ghost use Rattle.float64.specs.Number.{plusZero, whole, rateFits, clampOf};
 ghost use Rattle.port.specs.declared.Port.the-variants.{Set};
 ghost use Rattle.port.specs.Answer.{numberOf, outcomeReply, answerReply, silenceReply};
+ghost use Rattle.common.specs.Signal.{causeNumber};
 ghost use Rattle.effect.specs.Run.{tick, retune, reset, ask, first, memoryNumber, numberIn};
 ghost use Rattle.effect.specs.Contract.{Does, Starts};
 ghost use Rattle.effect.specs.Needed.{placesNeeded};
@@ -277,6 +278,19 @@ impl DelayLine {
         if self.linear_time { time } else { milliseconds }
     }
 
+    // Causes 5 and 6, by whether what the delay is read from is NaN and whether another control is: in linear mode the former is a control too.
+    fn nan_refusal(self, unread: bool, others: bool) -> Outcome
+        ensures { λ r. ⌜ numberOf r ≡ causeNumber ((self .«linear_time» && unread) || others) (self .«linear_time» || not unread) ⌝ }
+    {
+        if !(unread | others) {
+            return Outcome::Accepted;
+        }
+        if others | self.linear_time {
+            return Outcome::Refused(Refusal::Control);
+        }
+        Outcome::Refused(Refusal::Curve)
+    }
+
     // The delay in milliseconds: in linear mode from the time port's seconds, else as handed.
     fn delay_ms(self, time: f64, milliseconds: f64) -> f64
         ensures { λ r. ⌜ r ≡ cond (self .«linear_time») (mul binary64 (clampOf time plusZero (self .«max_delay_secs»)) (whole 1000)) milliseconds ⌝ }
@@ -360,12 +374,9 @@ impl DelayLine {
         let time = if let Port::Set(x) = time { x } else { 0.5 };
         let feedback = if let Port::Set(x) = feedback { x } else { 0.0 };
         let mix = if let Port::Set(x) = mix { x } else { 0.5 };
-        let linear = self.linear_time;
         let unread = float64::is_nan(self.reads(time, milliseconds));
-        let causes = common::tick_causes(
-            (linear & unread) | (float64::is_nan(feedback) | float64::is_nan(mix)),
-            linear | !unread,
-        );
+        let others = float64::is_nan(feedback) | float64::is_nan(mix);
+        let causes = self.nan_refusal(unread, others);
         if let Outcome::Refused(cause) = causes {
             return Ticked {
                 state: self,

@@ -85,8 +85,8 @@ is-nan-requires-2 c κs = search needs
 is-nan-requires-3 : tie.Need-is-nan-requires-3
 is-nan-requires-3 c κs = search needs
 
-tick-causes-requires : tie.Need-tick-causes-requires
-tick-causes-requires c κs = search needs
+nan-refusal-requires : tie.Need-nan-refusal-requires
+nan-refusal-requires c κs = search needs
 
 enum-known-causes : tie.Need-enum-known-causes
 enum-known-causes c = search needs
@@ -137,7 +137,7 @@ module _ (c : tie.At-match5-came) where
   all = allSet (handed start) audio-is time-is feedback-is mix-is
 
 -- the number by the ports
-module _ (c : tie.After-tick-causes) where
+module _ (c : tie.After-nan-refusal) where
   abbrev values : tie.At-match5-came
   values = c .before .before .before .before .before
 
@@ -160,7 +160,7 @@ module _ (c : tie.After-tick-causes) where
   milliseconds-are : linear || not (c .before .before .before .is-nan .result) ≡ linear || isNumber (start values .args .milliseconds)
   milliseconds-are = ap (λ (b : Bool). linear || not b) unread-is ∙ read-number linear time (start values .args .milliseconds)
 
-  number-is : (k : ℕ) → numberOf (c .tick-causes .result) ≡ k → k ≡ numberIn delayLine (tick (handed (start values))) (length (start values .args .mem .now)) (start values .args .self)
+  number-is : (k : ℕ) → numberOf (c .nan-refusal .result) ≡ k → k ≡ numberIn delayLine (tick (handed (start values))) (length (start values .args .mem .now)) (start values .args .self)
   unfolding tickNumber isNumber fits isNan round
   number-is k e =
       let a = start values .args in
@@ -169,16 +169,16 @@ module _ (c : tie.After-tick-causes) where
       let feedback = nan-is (a .feedback) plusZero refl (feedback-is values) (c .before .before .is-nan2 .ensures) in
       let mix = nan-is (a .mix) half refl (mix-is values) (c .before .is-nan3 .ensures) in
       tick-number delayLine (length (a .mem .now)) (a .self) (handed (start values)) (u .fits) (sym (u .number))
-      (sym e ∙ c .tick-causes .ensures ∙ (λ i. causeNumber (time-set i || (feedback i || mix i)) (milliseconds-are i)))
+      (sym e ∙ c .nan-refusal .ensures ∙ (λ i. causeNumber (time-set i || (feedback i || mix i)) (milliseconds-are i)))
 
   -- and by their numbers
-  set-number-is : (k : ℕ) → numberOf (c .tick-causes .result) ≡ k → k ≡ numberIn delayLine (tick (all values)) (length (start values .args .mem .now)) (start values .args .self)
+  set-number-is : (k : ℕ) → numberOf (c .nan-refusal .result) ≡ k → k ≡ numberIn delayLine (tick (all values)) (length (start values .args .mem .now)) (start values .args .self)
   unfolding tickNumber
   set-number-is k e =
       let a = start values .args in
       let u = passed values in
       tick-number delayLine (length (a .mem .now)) (a .self) (all values) (u .fits) (sym (u .number))
-      (sym e ∙ c .tick-causes .ensures ∙ (λ i. causeNumber (time-none i || (c .before .before .is-nan2 .ensures i || c .before .is-nan3 .ensures i)) (milliseconds-are i)))
+      (sym e ∙ c .nan-refusal .ensures ∙ (λ i. causeNumber (time-none i || (c .before .before .is-nan2 .ensures i || c .before .is-nan3 .ensures i)) (milliseconds-are i)))
 
 returns-2 : tie.Need-returns-2
 returns-2 c =
@@ -234,7 +234,7 @@ tick-spec =
     is-nan-requires
     is-nan-requires-2
     is-nan-requires-3
-    tick-causes-requires
+    nan-refusal-requires
     enum-known-causes
     returns-2
     enum-told-6
