@@ -18,3 +18,4 @@ pub mod Rounding
 pub mod Digits
 pub mod Tests
 pub mod Absolute
+pub mod Equal

@@ -3,7 +3,7 @@ use Prim.Native.Nat.{ℕ, zero, suc, _≤_, _<_}
 use native.Mathlib.Nat.{le-of-suc-le-suc, not-suc-le-zero, min-le-right}
 use native.Mathlib.Omega.{arith}
 use mathlib.Core.Path.{_≡_, refl}
-use mathlib.Core.Bool.{true, _&&_}
+use mathlib.Core.Bool.{true, _&&_, cond}
 use mathlib.Core.List.{List, [], _∷_, map}
 use lib.Dec.{T, leb}
 use lib.ListN.{length, getD, replicate, length-map}
@@ -16,7 +16,7 @@ use Rattle.float64.proofs.Interval.{In, point, mul-in, div-in, cut-in}
 use Rattle.float64.proofs.Ranges.{rate-in, range-in, in-range}
 use Rattle.float64.proofs.Parts.{whole-between}
 use Rattle.common.proofs.Sweep.{small}
-use Rattle.reverb.specs.Tunings.{Side, left, right, ratio, scaled, spread, beside, lineLengths, tuned}
+use Rattle.reverb.specs.Tunings.{Side, left, right, ratio, scaled, spread, beside, lineLengths, lengthsAt, noLengths, tuned}
 use Rattle.reverb.specs.Reverb.{allBelow}
 
 -- ---- the ratio
@@ -90,3 +90,8 @@ lines-some most tunings side rate h t k = go side
     go left = zeros-below (scaled most (ratio rate)) tunings some
     go right =
         zeros-below (λ base. beside most (spread (ratio rate)) (scaled most (ratio rate) base)) tunings (λ i l. beside-some most (spread (ratio rate)) _ h (some i l))
+
+-- ---- at a rate that is a whole number and fits
+
+pub lengths-at : (n : ℕ) {rate : Float} → rateFits (whole n) ≡ true → rate ≡ whole n → lengthsAt (whole n) ≡ cond (rateFits rate) (lengthsAt rate) noLengths
+lengths-at n h e = rw (e, h)

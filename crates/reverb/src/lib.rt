@@ -148,8 +148,8 @@ impl Reverb {
         }
     }
 
-    // Every line's length. A refused rate gives 0 for each, so that no position fits.
-    fn lengths(rate: f64) -> Lengths
+    // Every line's length, worked out. A refused rate gives 0 for each, so that no position fits.
+    fn scaled_lengths(rate: f64) -> Lengths
         ensures { λ r. ⌜ r ≡ cond (rateFits rate) (lengthsAt rate) noLengths ⌝ }
     {
         let mut comb_l: [u64; 8] = [0; 8];
@@ -183,6 +183,49 @@ impl Reverb {
             allpass_l,
             allpass_r,
         }
+    }
+
+    fn lengths_44100() -> Lengths
+        ensures { λ r. ⌜ r ≡ lengthsAt (whole 44100) ⌝ }
+    {
+        let comb_l: [u64; 8] = [1116, 1188, 1277, 1356, 1422, 1491, 1557, 1617];
+        let comb_r: [u64; 8] = [1139, 1211, 1300, 1379, 1445, 1514, 1580, 1640];
+        let allpass_l: [u64; 4] = [556, 441, 341, 225];
+        let allpass_r: [u64; 4] = [579, 464, 364, 248];
+        Lengths {
+            comb_l,
+            comb_r,
+            allpass_l,
+            allpass_r,
+        }
+    }
+
+    fn lengths_48000() -> Lengths
+        ensures { λ r. ⌜ r ≡ lengthsAt (whole 48000) ⌝ }
+    {
+        let comb_l: [u64; 8] = [1214, 1293, 1389, 1475, 1547, 1622, 1694, 1760];
+        let comb_r: [u64; 8] = [1239, 1318, 1414, 1500, 1572, 1647, 1719, 1785];
+        let allpass_l: [u64; 4] = [605, 480, 371, 244];
+        let allpass_r: [u64; 4] = [630, 505, 396, 269];
+        Lengths {
+            comb_l,
+            comb_r,
+            allpass_l,
+            allpass_r,
+        }
+    }
+
+    // Every line's length. The two usual rates have theirs at hand: to work them out takes a third of a tick.
+    fn lengths(rate: f64) -> Lengths
+        ensures { λ r. ⌜ r ≡ cond (rateFits rate) (lengthsAt rate) noLengths ⌝ }
+    {
+        if rate == 44100.0 {
+            return Reverb::lengths_44100();
+        }
+        if rate == 48000.0 {
+            return Reverb::lengths_48000();
+        }
+        Reverb::scaled_lengths(rate)
     }
 
     // The places that a start needs, the same at every rate; 2^64 - 1 for a rate that is refused.

@@ -44,22 +44,22 @@ module _ (s : tie.Start) where
   row = tick-accepted reverb (length (s .args .mem .now)) handed (s .args .self .«sample_rate») (taken .number)
 
 sanitize-audio-requires : tie.Need-sanitize-audio-requires
-sanitize-audio-requires c κs = search needs
+sanitize-audio-requires c κs = tt
 
 clamp-requires : tie.Need-clamp-requires
-clamp-requires c κs = search needs
+clamp-requires c κs = tt
 
 clamp-requires-2 : tie.Need-clamp-requires-2
-clamp-requires-2 c κs = search needs
+clamp-requires-2 c κs = tt
 
 clamp-requires-3 : tie.Need-clamp-requires-3
-clamp-requires-3 c κs = search needs
+clamp-requires-3 c κs = tt
 
 clamp-requires-4 : tie.Need-clamp-requires-4
-clamp-requires-4 c κs = search needs
+clamp-requires-4 c κs = tt
 
 predelay-samples-requires : tie.Need-predelay-samples-requires
-predelay-samples-requires c κs = search needs
+predelay-samples-requires c κs = tt
 
 mul-process-predelay : tie.Need-mul-process-predelay
 mul-process-predelay c = search needs
@@ -161,10 +161,10 @@ allpasses-requires c κs =
     (taken s .fits, (s .pre .0, rw (k .combs .kept .1 .1 .0, first-is p) (simp length-set (row s .enough))))
 
 blend-requires : tie.Need-blend-requires
-blend-requires c κs = search needs
+blend-requires c κs = tt
 
 blend-requires-2 : tie.Need-blend-requires-2
-blend-requires-2 c κs = search needs
+blend-requires-2 c κs = tt
 
 next-place-requires : tie.Need-next-place-requires
 next-place-requires c κs = unit (c .before .before .before .before .before .before .before .before .before .before .before .before .before .before .before .before .before .before .before .before .before .before .before .before .before .before .before .before .before) .predelay

@@ -1,90 +1,51 @@
--- `Reverb::lengths` is `lengthsAt` at an accepted rate, and all 0 at another. Assumes nothing.
-use mathlib.Core.Path.{_≡_, refl, sym, ap, _∙_}
-use mathlib.Core.Bool.{true}
-use mathlib.Core.List.{map}
-use Prim.Native.Nat.{ℕ}
-use lib.Ieee.{ofBits, ofInt}
-use borrow.Author.Tests.{not-true, not-false}
-use Rattle.float64.specs.Number.{rateFits}
-use Rattle.reverb.specs.Tunings.{combTunings, allpassTunings, ratio, scaled, beside, tuned}
-use Rattle.reverb.proofs.Scaling.{ratio-fits}
+-- `Reverb::lengths` is `lengthsAt` at an accepted rate, and all 0 at another: a rate that equals a usual one is that one. Assumes nothing.
+use native.Mathlib.Omega.{arith}
+use mathlib.Core.Path.{_≡_, refl, sym, subst, _∙_}
+use lib.Dec.{T}
+use lib.Ieee.{binary64, le, ofBits, ofInt}
+use lib.Ieee as Ieee
+use Rattle.float64.specs.Number.{inRange}
+use Rattle.float64.proofs.Equal.{equal-whole}
+use Rattle.reverb.proofs.Scaling.{lengths-at}
 use borrow.Author.Needs.{needs}
 use Rattle.reverb.proofs.Reverb.lengths.Statement.{statement}
 use Rattle.reverb.proofs.Reverb.lengths.Tie as tie
 
-rate-fits-requires : tie.Need-rate-fits-requires
-rate-fits-requires c κs = search needs
+-- the rate is an f64
+held : (s : tie.Start) → T (Ieee.fits binary64 (s .args .rate))
+held s = subst T (sym (s .good .0 .1)) tt
+
+lengths-44100-requires : tie.Need-lengths-44100-requires
+lengths-44100-requires c κs = search needs
 
 returns : tie.Need-returns
-returns c = rw (sym (c .before .rate-fits .ensures) ∙ not-true _ (c .if1 .taken))
+unfolding inRange le ofBits ofInt Ieee.fits
+returns c =
+    let s = c .before .before in
+    c .lengths-44100 .ensures ∙ lengths-at 44100 refl (equal-whole (s .args .rate) 44100 (held s) (omega arith) (omega arith) (c .before .if1 .taken))
 
--- past the test the rate fits
-rate-passed : (c : tie.Else1) → rateFits (c .before .before .args .rate) ≡ true
-rate-passed c = sym (c .before .rate-fits .ensures) ∙ not-false _ (c .if1 .left)
-
-stereo-spread-requires : tie.Need-stereo-spread-requires
-stereo-spread-requires c κs = search needs
-
-slice-aggregate-scale : tie.Need-slice-aggregate-scale
-slice-aggregate-scale c = search needs
-
-slice-aggregate-scale-2 : tie.Need-slice-aggregate-scale-2
-slice-aggregate-scale-2 c = search needs
-
-slice-aggregate-scale-3 : tie.Need-slice-aggregate-scale-3
-slice-aggregate-scale-3 c = search needs
-
-scale-requires : tie.Need-scale-requires
-unfolding tuned ratio ofBits ofInt
-scale-requires c κs =
-    let p = c .before .before .before .before in
-    (refl, (ratio-fits (p .before .before .args .rate) (rate-passed p), (refl, refl)))
-
-slice-aggregate-scale-4 : tie.Need-slice-aggregate-scale-4
-slice-aggregate-scale-4 c = search needs
-
-slice-aggregate-scale-5 : tie.Need-slice-aggregate-scale-5
-slice-aggregate-scale-5 c = search needs
-
-slice-aggregate-scale-6 : tie.Need-slice-aggregate-scale-6
-slice-aggregate-scale-6 c = search needs
-
-scale-requires-2 : tie.Need-scale-requires-2
-unfolding tuned ratio ofBits ofInt
-scale-requires-2 c κs =
-    let p = c .before .before .before .before .before .before .before .before .before .before in
-    (refl, (ratio-fits (p .before .before .args .rate) (rate-passed p), (refl, refl)))
+lengths-48000-requires : tie.Need-lengths-48000-requires
+lengths-48000-requires c κs = search needs
 
 returns-2 : tie.Need-returns-2
-unfolding ratio ofBits ofInt
+unfolding inRange le ofBits ofInt Ieee.fits
 returns-2 c =
-    let p = c .before .before .before .before .before .before .before .before .before .before .before .before .before in
-    let rate = p .before .before .args .rate in
-    let r = ratio rate in
-    let combs = c .before .before .before .before .before .before .before .before .scale .ensures in
-    let allpasses = c .before .before .scale2 .ensures in
-    let wide = c .before .before .before .before .before .before .before .before .before .before .before .before .stereo-spread .ensures in
-    rw (rate-passed p) (λ i.
-    record {
-      «comb_l» = combs .0 i;
-      «comb_r» = (combs .1 ∙ ap (λ (w : ℕ). map (λ base. beside 4095 w (scaled 4095 r base)) combTunings) wide) i;
-      «allpass_l» = allpasses .0 i;
-      «allpass_r» = (allpasses .1 ∙ ap (λ (w : ℕ). map (λ base. beside 1499 w (scaled 1499 r base)) allpassTunings) wide) i;
-    })
+    let s = c .before .before .before in
+    c .lengths-48000 .ensures ∙ lengths-at 48000 refl (equal-whole (s .args .rate) 48000 (held s) (omega arith) (omega arith) (c .before .if2 .taken))
+
+scaled-lengths-requires : tie.Need-scaled-lengths-requires
+scaled-lengths-requires c κs = search needs
+
+returns-3 : tie.Need-returns-3
+returns-3 c = search needs
 
 pub lengths-spec : {M : Type 1} → statement M
 lengths-spec =
     tie.close
     (tie.spec
-    rate-fits-requires
+    lengths-44100-requires
     returns
-    stereo-spread-requires
-    slice-aggregate-scale
-    slice-aggregate-scale-2
-    slice-aggregate-scale-3
-    scale-requires
-    slice-aggregate-scale-4
-    slice-aggregate-scale-5
-    slice-aggregate-scale-6
-    scale-requires-2
-    returns-2)
+    lengths-48000-requires
+    returns-2
+    scaled-lengths-requires
+    returns-3)
