@@ -61,6 +61,7 @@ pub struct Passes {
     pub output_r: f64,
 }
 
+// Positions and damping stores, a side at a time, and the rate.
 pub struct Reverb {
     pub comb_pos_l: [u64; 8],
     pub comb_pos_r: [u64; 8],
@@ -96,6 +97,25 @@ impl Reverb {
     pub const MAX_ALLPASS_SIZE: usize = 1500;
 
     pub const MAX_PREDELAY_SIZE: usize = 9600;
+
+    // The longest lines: one place is left over.
+    pub const MAX_COMB_LENGTH: u64 = 4095;
+
+    pub const MAX_ALLPASS_LENGTH: u64 = 1499;
+
+    // The places needed, at every rate.
+    pub const PLACES: u64 = 87136;
+
+    // Where the right combs, the left and right all-passes and the predelay start in the tank, and where it ends.
+    const COMBS_R: usize = 32768;
+
+    const ALLPASSES_L: usize = 65536;
+
+    const ALLPASSES_R: usize = 71536;
+
+    const PREDELAY: usize = 77536;
+
+    const END: usize = 87136;
 
     // ---- lengths
 
@@ -168,12 +188,19 @@ impl Reverb {
         let allpasses = Reverb::ALLPASS_TUNINGS_44100;
         let ratio = rate / 44100.0;
         let wide = Reverb::stereo_spread(ratio);
-        Reverb::scale(&combs, ratio, wide, 4095, &mut comb_l, &mut comb_r);
+        Reverb::scale(
+            &combs,
+            ratio,
+            wide,
+            Reverb::MAX_COMB_LENGTH,
+            &mut comb_l,
+            &mut comb_r,
+        );
         Reverb::scale(
             &allpasses,
             ratio,
             wide,
-            1499,
+            Reverb::MAX_ALLPASS_LENGTH,
             &mut allpass_l,
             &mut allpass_r,
         );
@@ -185,6 +212,7 @@ impl Reverb {
         }
     }
 
+    // Every line's length at 44,100.
     fn lengths_44100() -> Lengths
         ensures { λ r. ⌜ r ≡ lengthsAt (whole 44100) ⌝ }
     {
@@ -200,6 +228,7 @@ impl Reverb {
         }
     }
 
+    // Every line's length at 48,000.
     fn lengths_48000() -> Lengths
         ensures { λ r. ⌜ r ≡ lengthsAt (whole 48000) ⌝ }
     {
@@ -269,7 +298,7 @@ impl Reverb {
         if !float64::rate_fits(rate) {
             return Outcome::Refused(Refusal::SampleRate);
         }
-        effect::check_memory(87136, places)
+        effect::check_memory(Reverb::PLACES, places)
     }
 
     // Start: a clearing at the rate.
@@ -330,7 +359,7 @@ impl Reverb {
         if !self.state_fits(n) {
             return Outcome::Refused(Refusal::State);
         }
-        effect::check_memory(87136, places)
+        effect::check_memory(Reverb::PLACES, places)
     }
 
     // Retune: a clearing at another rate.
@@ -406,18 +435,18 @@ impl Reverb {
         let n1 = n.allpass_l;
         let n2 = n.comb_r;
         let n3 = n.allpass_r;
-        let o: usize = 77536;
-        let e: usize = 87136;
-        if !Reverb::lines_zero(mem, 0, 4096, &n0) {
+        let o = Reverb::PREDELAY;
+        let e = Reverb::END;
+        if !Reverb::lines_zero(mem, 0, Reverb::MAX_COMB_SIZE, &n0) {
             return false;
         }
-        if !Reverb::lines_zero(mem, 65536, 1500, &n1) {
+        if !Reverb::lines_zero(mem, Reverb::ALLPASSES_L, Reverb::MAX_ALLPASS_SIZE, &n1) {
             return false;
         }
-        if !Reverb::lines_zero(mem, 32768, 4096, &n2) {
+        if !Reverb::lines_zero(mem, Reverb::COMBS_R, Reverb::MAX_COMB_SIZE, &n2) {
             return false;
         }
-        if !Reverb::lines_zero(mem, 71536, 1500, &n3) {
+        if !Reverb::lines_zero(mem, Reverb::ALLPASSES_R, Reverb::MAX_ALLPASS_SIZE, &n3) {
             return false;
         }
         common::all_zero(&mem[o..e])
@@ -552,7 +581,7 @@ impl Reverb {
             pos_l[i] = l.pos;
             filter_state_l[i] = l.filter_state;
             sum_l = sum_l + l.output;
-            let o = 32768 + i * Reverb::MAX_COMB_SIZE;
+            let o = Reverb::COMBS_R + i * Reverb::MAX_COMB_SIZE;
             let w = self.comb_pos_r[i];
             let store = self.comb_filter_state_r[i];
             let r = Reverb::comb_at(mem, o, w, store, input, n.comb_r[i], feedback, damping);
@@ -588,12 +617,12 @@ impl Reverb {
         let mut output_r = input_r;
         let mut i: usize = 0;
         while i < 4 {
-            let o = 65536 + i * Reverb::MAX_ALLPASS_SIZE;
+            let o = Reverb::ALLPASSES_L + i * Reverb::MAX_ALLPASS_SIZE;
             let w = self.allpass_pos_l[i];
             let l = Reverb::allpass_at(mem, o, w, output_l, n.allpass_l[i]);
             pos_l[i] = l.pos;
             output_l = l.output;
-            let o = 71536 + i * Reverb::MAX_ALLPASS_SIZE;
+            let o = Reverb::ALLPASSES_R + i * Reverb::MAX_ALLPASS_SIZE;
             let w = self.allpass_pos_r[i];
             let r = Reverb::allpass_at(mem, o, w, output_r, n.allpass_r[i]);
             pos_r[i] = r.pos;
@@ -659,8 +688,8 @@ impl Reverb {
         let control = float64::clamp(predelay, 0.0, 1.0);
         let samples = Reverb::predelay_samples(control, self.sample_rate);
         let w = self.predelay_pos;
-        let o: usize = 77536;
-        let e: usize = 87136;
+        let o = Reverb::PREDELAY;
+        let e = Reverb::END;
         let delayed = Reverb::process_predelay(&mut mem[o..e], w, samples, input);
         let combs = self.combs(n, mem, delayed, feedback, damp);
         let passes = self.allpasses(n, mem, combs.sum_l * 0.125, combs.sum_r * 0.125);
