@@ -264,7 +264,7 @@ impl Reverb {
         if !float64::rate_fits(rate) {
             return 0xffff_ffff_ffff_ffff;
         }
-        87136
+        Reverb::PLACES
     }
 
     // ---- start, retune, reset, silent
