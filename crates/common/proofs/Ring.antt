@@ -30,6 +30,16 @@ place-high L w d h k = mod-eq-of-lt (omega arith)
 pub place-lt : (L w d : ℕ) → w < L → place L w d < L
 place-lt L w d h = mod-lt (w + L - d) (omega arith)
 
+-- one further back than d samples back
+pub place-again : (L w d : ℕ) → w < L → 1 ≤ d → d < L → place L (place L w d) 1 ≡ place L w (d + 1)
+place-again L w d h a b = go (decLe d w) (decLe (d + 1) w)
+  where
+    go : Dec (d ≤ w) → Dec (d + 1 ≤ w) → place L (place L w d) 1 ≡ place L w (d + 1)
+    go (yes k) (yes l) = rw (place-low L w d h k) (place-low L (w - d) 1 (omega arith) (omega arith) ∙ (omega arith) ∙ sym (place-low L w (d + 1) h l))
+    go (yes k) (no l) = rw (place-low L w d h k) (place-high L (w - d) 1 (omega arith) (omega arith) ∙ (omega arith) ∙ sym (place-high L w (d + 1) (omega arith) (omega arith)))
+    go (no k) (yes l) = absurd (omega arith)
+    go (no k) (no l) = rw (place-high L w d (omega arith) (omega arith)) (place-low L (w + L - d) 1 (omega arith) (omega arith) ∙ (omega arith) ∙ sym (place-high L w (d + 1) (omega arith) (omega arith)))
+
 -- the next position
 pub next-low : (L w : ℕ) → w + 1 < L → nextPlace L w ≡ w + 1
 next-low L w h = mod-eq-of-lt h

@@ -67,6 +67,18 @@ fn place_back(n: usize, w: usize, d: usize) -> usize
     w + n - d
 }
 
+// The place before p in a line of n places.
+fn place_before(n: usize, p: usize) -> usize
+    requires { ⌜ p < n ⌝ }
+    ensures { λ r. ⌜ r ≡ place n p 1 ⌝ }
+    ensures { λ r. ⌜ r < n ⌝ }
+{
+    if p == 0 {
+        return n - 1;
+    }
+    p - 1
+}
+
 // The position after w in a line of n places.
 pub fn next_place(n: u64, w: u64) -> u64
     requires { ⌜ w < n ⌝ }
@@ -91,7 +103,7 @@ pub fn read_interpolated(line: &[f64], w: usize, distance: f64) -> f64
     let d = whole as usize;
     let f = distance - std::num::nearest_u64_to_f64(whole as u32 as u64);
     let p = place_back(n, w, d);
-    let q = place_back(n, w, d + 1);
+    let q = place_before(n, p);
     blend(line[p], line[q], f)
 }
 

@@ -1,7 +1,7 @@
 -- `common::read_interpolated` is `readAt` of the line: a distance from 1 to L − 1 has its whole part there, so both places lie in the line. Assumes nothing.
-use Prim.Native.Nat.{ℕ, _-_, _≤_, _<_}
+use Prim.Native.Nat.{ℕ, _+_, _-_, _≤_, _<_}
 use native.Mathlib.Omega.{arith}
-use mathlib.Core.Path.{_≡_, sym, subst}
+use mathlib.Core.Path.{_≡_, sym, ap, subst, _∙_}
 use lib.ListN.{length}
 use lib.Ieee.{binary64}
 use borrow.Author.Needs.{needs}
@@ -9,6 +9,8 @@ use Rattle.float64.specs.Number.{whole, wholePart}
 use Rattle.float64.proofs.Interval.{In}
 use Rattle.float64.proofs.Ranges.{range-in}
 use Rattle.float64.proofs.Parts.{Parts, parts-of, whole-ends}
+use Rattle.common.specs.Line.{place}
+use Rattle.common.proofs.Ring.{place-again}
 use Rattle.common.proofs.Reading.{read-is}
 use Rattle.common.proofs.read_interpolated.Statement.{statement}
 use Rattle.common.proofs.read_interpolated.Tie as tie
@@ -51,11 +53,8 @@ nearest-u64-to-f64-requires c κs = search needs
 place-back-requires : tie.Need-place-back-requires
 place-back-requires c κs = let r = in-line (c .before) in (c .before .before .before .pre .0, (omega (arith, r .1), (r .0, omega (arith, c .before .before .before .pre .1 .0))))
 
-add-place-back : tie.Need-add-place-back
-add-place-back c = omega (arith, in-line (c .before .before) .1, c .before .before .before .before .pre .1 .0)
-
-place-back-requires-2 : tie.Need-place-back-requires-2
-place-back-requires-2 c κs = let r = in-line (c .before .before) in (c .before .before .before .before .pre .0, (omega (arith, r .1), (omega arith, omega (arith, c .before .before .before .before .pre .1 .0))))
+place-before-requires : tie.Need-place-before-requires
+place-before-requires c κs = c .place-back .ensures .1
 
 mul-blend : tie.Need-mul-blend
 mul-blend c = search needs
@@ -72,12 +71,22 @@ shared-slice-read-blend-2 c = search needs
 blend-requires : tie.Need-blend-requires
 blend-requires c κs = search needs
 
+-- one place before d samples back lies d + 1 samples back
+one-before : (q : tie.After-place-before) → q .place-before .result ≡ place (length (q .before .before .before .before .before .args .line .now)) (q .before .before .before .before .before .args .w) (q .before .before .before .whole-part-small .result + 1)
+one-before q =
+    let d = q .before .before .before in
+    let a = d .before .before .args in
+    let n = length (a .line .now) in
+    q .place-before .ensures .0
+    ∙ ap (λ (p : ℕ). place n p 1) (q .before .place-back .ensures .0)
+    ∙ place-again n (a .w) (d .whole-part-small .result) (d .before .before .pre .0) (in-line d .0) (in-line d .1)
+
 returns : tie.Need-returns
 returns c =
     let q = c .before .before .before in
     let d = q .before .before .before in
     let a = d .before .before .args in
-    read-is (a .line .now) (a .w) (a .distance) _ _ _ _ _ (d .whole-part-small .ensures) (q .before .place-back .ensures .0) (q .place-back2 .ensures .0)
+    read-is (a .line .now) (a .w) (a .distance) _ _ _ _ _ (d .whole-part-small .ensures) (q .before .place-back .ensures .0) (one-before q)
     (q .before .before .nearest-u64-to-f64 .ensures) (c .blend .ensures)
 
 pub read-interpolated-spec : {M : Type 1} → statement M
@@ -89,8 +98,7 @@ read-interpolated-spec =
     cast-nearest-u64-to-f64-2
     nearest-u64-to-f64-requires
     place-back-requires
-    add-place-back
-    place-back-requires-2
+    place-before-requires
     mul-blend
     shared-slice-read-blend
     mul-blend-2
