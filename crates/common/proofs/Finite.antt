@@ -1,5 +1,5 @@
 -- A float less itself is equal to 0 where it is finite, and so passes the input rule, and no other is. Assumes nothing.
-use mathlib.Core.Path.{_≡_, refl, ap, _∙_}
+use mathlib.Core.Path.{_≡_, refl, ap}
 use mathlib.Core.Bool.{true, false}
 use lib.Ieee.{Float, nan, inf, fin, binary64, sub, eq}
 use Rattle.float64.specs.Number.{plusZero}

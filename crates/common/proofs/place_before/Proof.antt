@@ -1,7 +1,6 @@
 -- `common::place_before` is one place back, with no remainder to take. Assumes nothing.
-use Prim.Native.Nat.{_≤_, _<_}
 use native.Mathlib.Omega.{arith}
-use mathlib.Core.Path.{_≡_, sym, _∙_}
+use mathlib.Core.Path.{sym}
 use Rattle.common.proofs.Ring.{place-low, place-high}
 use Rattle.common.proofs.place_before.Statement.{statement}
 use Rattle.common.proofs.place_before.Tie as tie

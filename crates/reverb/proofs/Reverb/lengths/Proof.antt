@@ -1,6 +1,6 @@
 -- `Reverb::lengths` is `lengthsAt` at an accepted rate, and all 0 at another: a rate that equals a usual one is that one. Assumes nothing.
 use native.Mathlib.Omega.{arith}
-use mathlib.Core.Path.{_≡_, refl, sym, subst, _∙_}
+use mathlib.Core.Path.{refl, sym, subst, _∙_}
 use lib.Dec.{T}
 use lib.Ieee.{binary64, le, ofBits, ofInt}
 use lib.Ieee as Ieee
