@@ -47,9 +47,9 @@
  * from the state and from `out`. What they hold before a start is of no account.
  *
  * A line has L places, by the sample rate: the whole part of n x rate / 1000, plus 10, with n as the effect says; the delay's
- * has the whole part of rate x maximum, plus 1. A unit's lines follow each other from place 0. The memory may be longer than
- * that. Start, retune and reset put +0 into every place, spare ones too; a tick writes one place of each line and never a
- * spare one.
+ * has the whole part of rate x maximum, plus 1. A unit's lines follow each other from place 0. The reverb's lie in a tank of
+ * one size: see there. The memory may be longer than that. Start, retune and reset put +0 into every place, spare ones too; a
+ * tick writes one place of each line and never a spare one.
  *
  * Ports
  *
@@ -60,7 +60,7 @@
  *
  * The host computes them before the tick: a frequency in Hz from its rate control, and the sine of 2 pi times the phase that
  * the state holds before the tick. (The flanger's second sine is of a phase further on: see there.) The delay's are others: a
- * time in milliseconds before each tick, and a glide coefficient before each start and retune.
+ * time in milliseconds before each tick, and a glide coefficient before each start and retune. The reverb has none.
  */
 #ifndef ROOM_EFFECTS_H
 #define ROOM_EFFECTS_H
@@ -105,8 +105,8 @@ static inline uint32_t room_set_mask(room_port first, room_port second, room_por
  * What the library exports. The functions further down are what a host calls; they put a struct together from these.
  * A state comes as its fields, a number that may change by its address; ports come as a mask of those that are set and
  * their numbers; memory comes as the address of its first place and the count of places. Numbers returned, and what is
- * written on a refusal, are as said above. Masks: 1 is the tick's first port, 2 the second, 4 the third, 8 the fourth; bits
- * beyond its ports are not read. A silent's `out` gets 1 for yes, else 0; 0 on a refusal.
+ * written on a refusal, are as said above. Masks: 1 is the tick's first port, 2 the second, 4 the third, 8 the fourth, 16 the
+ * fifth; bits beyond its ports are not read. A silent's `out` gets 1 for yes, else 0; 0 on a refusal.
  */
 #ifdef __cplusplus
 extern "C" {
@@ -163,6 +163,24 @@ uint32_t room_raw_delay_tick(uint64_t *pos, double *distance, uint32_t *primed, 
                              double time, double feedback, double mix, double milliseconds, double *out);
 uint32_t room_raw_delay_silent(uint64_t pos, double distance, uint32_t primed, double rate, double coefficient,
                                double maximum, uint32_t linear, const double *memory, uint64_t places, uint32_t *out);
+
+uint32_t room_raw_reverb_start(double sample_rate, double *memory, uint64_t places, uint64_t comb_pos_l[8],
+                               uint64_t comb_pos_r[8], double stores_l[8], double stores_r[8], uint64_t allpass_pos_l[4],
+                               uint64_t allpass_pos_r[4], uint64_t *predelay_pos, double *rate);
+uint32_t room_raw_reverb_retune(double sample_rate, double *memory, uint64_t places, uint64_t comb_pos_l[8],
+                                uint64_t comb_pos_r[8], double stores_l[8], double stores_r[8], uint64_t allpass_pos_l[4],
+                                uint64_t allpass_pos_r[4], uint64_t *predelay_pos, double *rate);
+uint32_t room_raw_reverb_reset(double *memory, uint64_t places, uint64_t comb_pos_l[8], uint64_t comb_pos_r[8],
+                               double stores_l[8], double stores_r[8], uint64_t allpass_pos_l[4],
+                               uint64_t allpass_pos_r[4], uint64_t *predelay_pos, double rate);
+uint32_t room_raw_reverb_tick(uint64_t comb_pos_l[8], uint64_t comb_pos_r[8], double stores_l[8], double stores_r[8],
+                              uint64_t allpass_pos_l[4], uint64_t allpass_pos_r[4], uint64_t *predelay_pos, double rate,
+                              double *memory, uint64_t places, uint32_t set, double audio, double size, double damping,
+                              double mix, double predelay, double out[2]);
+uint32_t room_raw_reverb_silent(const uint64_t comb_pos_l[8], const uint64_t comb_pos_r[8], const double stores_l[8],
+                                const double stores_r[8], const uint64_t allpass_pos_l[4],
+                                const uint64_t allpass_pos_r[4], uint64_t predelay_pos, double rate, const double *memory,
+                                uint64_t places, uint32_t *out);
 
 #ifdef __cplusplus
 }
@@ -442,6 +460,89 @@ static inline uint32_t room_delay_silent(const room_delay *state, const double *
     const uint32_t number =
         room_raw_delay_silent(state->write_pos, state->distance, state->primed, state->sample_rate, state->coefficient,
                               state->maximum, state->linear, memory, places, &yes);
+    *silent = yes != 0u;
+    return number;
+}
+
+/*
+ * The reverb. Its lines lie in a tank of 87,136 places, the same at every rate:
+ *
+ *   left comb i        from place i x 4,096 on            i from 0 to 7, 4,096 places
+ *   right comb i       from 32,768 + i x 4,096 on         i from 0 to 7, 4,096 places
+ *   left all-pass i    from 65,536 + i x 1,500 on         i from 0 to 3, 1,500 places
+ *   right all-pass i   from 71,536 + i x 1,500 on         i from 0 to 3, 1,500 places
+ *   predelay           from 77,536 on                     9,600 places
+ *
+ * Of a comb or an all-pass the first places are in use, as many as its length at the rate: on the left 1116, 1188, 1277, 1356,
+ * 1422, 1491, 1557, 1617 and 556, 441, 341, 225, each x rate / 44,100 cut to its whole part; on the right as many and the
+ * spread, 23 x rate / 44,100 rounded, at least 1; at most 4,095 and 1,499. The predelay is in use entirely.
+ */
+
+typedef struct room_reverb {
+    uint64_t comb_pos_l[8]; /* each below its comb's length, left and right */
+    uint64_t comb_pos_r[8];
+    double comb_store_l[8]; /* the combs' damping stores: any floats */
+    double comb_store_r[8];
+    uint64_t allpass_pos_l[4]; /* each below its all-pass's length */
+    uint64_t allpass_pos_r[4];
+    uint64_t predelay_pos; /* below 9,600 */
+    double sample_rate;    /* 8,000 to 192,000 */
+} room_reverb;
+
+/* A reverb at this rate: positions 0, damping stores +0, +0 in every place. Refusals: 1, 3. */
+static inline uint32_t room_reverb_start(room_reverb *state, double *memory, uint64_t places, double sample_rate)
+{
+    return room_raw_reverb_start(sample_rate, memory, places, state->comb_pos_l, state->comb_pos_r, state->comb_store_l,
+                                 state->comb_store_r, state->allpass_pos_l, state->allpass_pos_r, &state->predelay_pos,
+                                 &state->sample_rate);
+}
+
+/* As a new start: positions 0, damping stores +0, +0 in every place, the same rate or another. Refusals: 4, 1, 3. */
+static inline uint32_t room_reverb_retune(room_reverb *state, double *memory, uint64_t places, double sample_rate)
+{
+    return room_raw_reverb_retune(sample_rate, memory, places, state->comb_pos_l, state->comb_pos_r, state->comb_store_l,
+                                  state->comb_store_r, state->allpass_pos_l, state->allpass_pos_r, &state->predelay_pos,
+                                  &state->sample_rate);
+}
+
+/* Positions 0, damping stores +0, +0 in every place; the rate stays. Refusals: 4, 3. */
+static inline uint32_t room_reverb_reset(room_reverb *state, double *memory, uint64_t places)
+{
+    return room_raw_reverb_reset(memory, places, state->comb_pos_l, state->comb_pos_r, state->comb_store_l,
+                                 state->comb_store_r, state->allpass_pos_l, state->allpass_pos_r, &state->predelay_pos,
+                                 state->sample_rate);
+}
+
+/*
+ * Two samples, left and right: `audio` blended with what the room plays. Audio that is NaN or infinite counts as +0. It goes
+ * through the predelay into the eight combs of each side, whose sum times 0.125 goes through that side's four all-passes. One
+ * place of each line is written, 25 in all; with huge audio that may overflow.
+ * size: 0 to 1, the combs' feedback is 0.28 + size x 0.7; 0.5 if unset. damping: 0 bright to 1 dark; 0.5 if unset. mix: 0 dry
+ * to 1 wet; 0.5 if unset. predelay: 0 to 1, the whole part of predelay x 0.1 x rate samples, at most 9,599; 0 if unset; at 0
+ * samples the combs get the audio itself. Audio is 0 if unset.
+ * Refusals: 4, 3, 5.
+ */
+static inline uint32_t room_reverb_tick(room_reverb *state, double *memory, uint64_t places, room_port audio, room_port size,
+                                        room_port damping, room_port mix, room_port predelay, double out[2])
+{
+    return room_raw_reverb_tick(state->comb_pos_l, state->comb_pos_r, state->comb_store_l, state->comb_store_r,
+                                state->allpass_pos_l, state->allpass_pos_r, &state->predelay_pos, state->sample_rate, memory,
+                                places,
+                                room_set_mask(audio, size, damping) | room_set_bit(mix, 8u) | room_set_bit(predelay, 16u),
+                                audio.value, size.value, damping.value, mix.value, predelay.value, out);
+}
+
+/*
+ * Whether the unit is silent: every place in use is +0 or -0. The damping stores are no places. On a refusal *silent is 0.
+ * Refusals: 4, 3.
+ */
+static inline uint32_t room_reverb_silent(const room_reverb *state, const double *memory, uint64_t places, int *silent)
+{
+    uint32_t yes = 0u;
+    const uint32_t number =
+        room_raw_reverb_silent(state->comb_pos_l, state->comb_pos_r, state->comb_store_l, state->comb_store_r,
+                               state->allpass_pos_l, state->allpass_pos_r, state->predelay_pos, state->sample_rate, memory,
+                               places, &yes);
     *silent = yes != 0u;
     return number;
 }

@@ -144,6 +144,7 @@ int main(void)
     test("chorus", chorus);
     test("flanger", flanger);
     test("delay", delay);
+    test("reverb", reverb);
     printf("%u passed, %u failed\n", passed, failed);
     return failed != 0;
 }

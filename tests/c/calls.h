@@ -55,5 +55,6 @@ void vibrato(void);
 void chorus(void);
 void flanger(void);
 void delay(void);
+void reverb(void);
 
 #endif
