@@ -13,6 +13,7 @@ mod flanger;
 mod lines;
 mod memory;
 mod random;
+mod reverb;
 mod run;
 mod table;
 mod tick;
@@ -30,7 +31,7 @@ struct Effect {
     record: fn(ticks: u64, seed: u64) -> Result<Vec<u64>, String>,
 }
 
-const EFFECTS: [Effect; 7] = [
+const EFFECTS: [Effect; 8] = [
     Effect {
         name: "tremolo",
         run: run::run::<tremolo::Tremolo>,
@@ -65,6 +66,11 @@ const EFFECTS: [Effect; 7] = [
         name: "long_delay",
         run: delay::run_long,
         record: |_, _| Err("the long line has no list of answers".into()),
+    },
+    Effect {
+        name: "reverb",
+        run: reverb::run,
+        record: reverb::record,
     },
 ];
 

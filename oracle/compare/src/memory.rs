@@ -56,6 +56,9 @@ impl Memory {
 
     /// Every place holds what it should.
     pub fn check(&self) -> Result<(), String> {
+        if same_bits(&self.should, &self.places) {
+            return Ok(());
+        }
         for (i, (should, is)) in self.should.iter().zip(&self.places).enumerate() {
             if should.to_bits() != is.to_bits() {
                 return untouched(&format!("place {i}"), *should, *is);
@@ -65,9 +68,22 @@ impl Memory {
     }
 }
 
+/// Equal to the bit, many places at a time: most of what is compared is.
+fn same_bits(a: &[f64], b: &[f64]) -> bool {
+    let differing = |a: &[f64], b: &[f64]| {
+        let pairs = a.iter().zip(b);
+        pairs.fold(0, |bits, (a, b)| bits | (a.to_bits() ^ b.to_bits()))
+    };
+    let mut parts = a.chunks(256).zip(b.chunks(256));
+    a.len() == b.len() && parts.all(|(a, b)| differing(a, b) == 0)
+}
+
 /// A line of ours beside the Rust's, place by place.
 pub fn line_agrees(ours: &[f64], rust: &[f64]) -> Result<(), String> {
     same_count("length of a line", ours.len() as u64, rust.len())?;
+    if same_bits(ours, rust) {
+        return Ok(());
+    }
     for (i, (ours, rust)) in ours.iter().zip(rust).enumerate() {
         agree("a line", *ours, *rust).map_err(|differs| format!("place {i} of {differs}"))?;
     }

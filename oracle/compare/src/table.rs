@@ -99,3 +99,48 @@ pub fn distance(primed: bool, distance: f64, length: u64) -> bool {
 pub fn curve(number: f64) -> bool {
     number.is_nan()
 }
+
+/// "The tank lies as eight left combs of 4,096 places, eight right, four left all-passes of 1,500, four right, predelay 9,600":
+/// where each line starts and how many places lie there for it.
+pub const TANK: [(usize, usize); 25] = {
+    let mut lines = [(0, 0); 25];
+    let (mut line, mut start) = (0, 0);
+    while line < 25 {
+        let places = match line {
+            0..16 => 4_096,
+            16..24 => 1_500,
+            _ => 9_600,
+        };
+        lines[line] = (start, places);
+        start += places;
+        line += 1;
+    }
+    lines
+};
+
+/// The tank's places, the same at every rate.
+pub const TANK_PLACES: usize = TANK[24].0 + TANK[24].1;
+
+/// "Lengths at 44,100: combs 1116, ...; all-passes 556, ... Each is multiplied by rate/44100 and cut to its whole part, at most
+/// 4,095 and 1,499. Spread: 23 × ratio rounded half away from zero, at least 1; right lengths are left plus spread, under the
+/// same caps." What is refused must not stop the program.
+pub fn tank_lengths(rate: f64) -> [u64; 25] {
+    const COMBS: [u64; 8] = [1116, 1188, 1277, 1356, 1422, 1491, 1557, 1617];
+    const ALLPASSES: [u64; 4] = [556, 441, 341, 225];
+    let ratio = rate / 44_100.0;
+    let spread = {
+        let wide = 23.0 * ratio;
+        let below = wide.trunc();
+        let up = wide - below >= 0.5;
+        (below as u64).saturating_add(u64::from(up)).max(1)
+    };
+    let left = |base: u64, most: u64| ((base as f64 * ratio).trunc() as u64).min(most);
+    let right = |base: u64, most: u64| left(base, most).saturating_add(spread).min(most);
+    std::array::from_fn(|line| match line {
+        0..8 => left(COMBS[line], 4_095),
+        8..16 => right(COMBS[line - 8], 4_095),
+        16..20 => left(ALLPASSES[line - 16], 1_499),
+        20..24 => right(ALLPASSES[line - 20], 1_499),
+        _ => 9_600,
+    })
+}

@@ -20,4 +20,4 @@ pub mod port;
 include!(concat!(env!("OUT_DIR"), "/quiver.rs"));
 
 pub use effect::{Effect, Lined, MOST_PORTS, MOST_SAMPLES};
-pub use modules::timefx::inside::{chorus, delay, flanger, tremolo, vibrato};
+pub use modules::timefx::inside::{chorus, delay, flanger, reverb, tremolo, vibrato};

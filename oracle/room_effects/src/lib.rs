@@ -6,6 +6,7 @@ mod lined;
 pub mod chorus;
 pub mod delay;
 pub mod flanger;
+pub mod reverb;
 pub mod tremolo;
 pub mod vibrato;
 

@@ -3,5 +3,6 @@
 pub mod chorus;
 pub mod delay;
 pub mod flanger;
+pub mod reverb;
 pub mod tremolo;
 pub mod vibrato;
