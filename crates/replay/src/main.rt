@@ -1,9 +1,11 @@
 // Replays stored answers of the Rust and compares them, with no Rust at hand. A file of data/ for each effect, two for the delay's modes; units.rt says
 // what a record has.
+mod reverbs;
 mod units;
 mod words;
 
 use libc::STDOUT_FILENO;
+use reverb::Reverb;
 use units::Unit;
 use words::Tally;
 use words::float;
@@ -57,6 +59,34 @@ fn replayed(fd: i32, effect: u64, size: usize, mem: &mut [f64]) -> Tally
     tally
 }
 
+// The reverb at the start of its file.
+fn opened_reverb(fd: i32, mem: &mut [f64]) -> Reverb {
+    let mut start = [0u8; 24];
+    io::read_full(fd, &mut start);
+    reverbs::started(float(&start, 1), mem)
+}
+
+// Replays the reverb's records, a million at the most.
+fn replayed_reverb(fd: i32, mem: &mut [f64]) -> Tally
+    ensures { λ r. ⌜ r .differ ≤ r .calls ⌝ }
+{
+    let mut tally = Tally {
+        calls: 0,
+        differ: 0,
+    };
+    let mut state = opened_reverb(fd, mem);
+    let mut buffer = [0u8; 128];
+    while tally.calls < 1000000 {
+        if !read_record(fd, &mut buffer, 128) {
+            break;
+        }
+        let after = reverbs::called(state, mem, &buffer);
+        state = after.state;
+        tally = words::counted(tally, after.equal);
+    }
+    tally
+}
+
 fn report(name: &[u8], tally: Tally)
     requires { ⌜ tally .differ ≤ tally .calls ⌝ }
 {
@@ -81,6 +111,17 @@ fn replay(path: &[u8], name: &[u8], effect: u64, size: usize)
     libc::close(fd);
 }
 
+fn replay_reverb(path: &[u8], name: &[u8]) {
+    let fd = os::open_read(path);
+    if fd < 0 {
+        os::fail(path);
+        return;
+    }
+    let mut mem = [0.0f64; 87136];
+    report(name, replayed_reverb(fd, &mut mem));
+    libc::close(fd);
+}
+
 fn main() {
     replay(b"tremolo.bin", b"tremolo: ", 5, 88);
     replay(b"vibrato.bin", b"vibrato: ", 4, 80);
@@ -88,4 +129,5 @@ fn main() {
     replay(b"flanger.bin", b"flanger: ", 3, 112);
     replay(b"delay.bin", b"delay: ", 1, 88);
     replay(b"linear_delay.bin", b"linear delay: ", 1, 88);
+    replay_reverb(b"reverb.bin", b"reverb: ");
 }

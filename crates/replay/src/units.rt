@@ -4,9 +4,10 @@
 //   chorus, 16: the call; the mask; audio, depth, mix; frequency, three sines; three samples; the position and the three phases after
 //   flanger, 14: the call; the mask; audio, depth, feedback, mix; frequency, two sines; three samples; the position and the phase after
 //   delay, 11: the call; the mask; audio, time, feedback, mix; milliseconds; the sample; the position, the glide distance and whether it is primed after
+//   reverb, 16: reverbs.rt says
 // The call is 0 tick, 1 retune (the new rate stands for the mix, the delay's new coefficient for the milliseconds) or 2 reset. A tremolo's record has
-// its own state before the tick; the others are calls of one unit from its start on, which stands before them: 1 delay, 2 chorus, 3 flanger or
-// 4 vibrato; the rate; the places that the Rust needed; of a delay also the maximum, the glide coefficient, and 1 for linear mode, else 0.
+// its own state before the tick; the others are calls of one unit from its start on, which stands before them: 1 delay, 2 chorus, 3 flanger, 4 vibrato
+// or 6 reverb; the rate; the places that the Rust needed; of a delay also the maximum, the glide coefficient, and 1 for linear mode, else 0.
 ghost use Prim.Native.Nat.{_<_};
 use crate::words::float;
 use crate::words::same;
@@ -36,7 +37,7 @@ pub struct Step {
 }
 
 // The port of the weight 1, 2, 4, .. in the mask, with the number in word i.
-fn port(b: &[u8; 128], set: u64, i: usize) -> Port
+pub fn port(b: &[u8; 128], set: u64, i: usize) -> Port
     requires { ⌜ i < 16 ⌝ }
 {
     port_if(set % 2 == 1, float(b, i))
@@ -90,7 +91,7 @@ fn left(unit: Unit, b: &[u8; 128]) -> bool {
 }
 
 // Whether a tick was accepted with the samples stored from word i on.
-fn one_sample(answer: Answer, b: &[u8; 128], i: usize) -> bool
+pub fn one_sample(answer: Answer, b: &[u8; 128], i: usize) -> bool
     requires { ⌜ i < 16 ⌝ }
 {
     (answer.number() == 0) & same(answer.first(), float(b, i))
