@@ -1,7 +1,8 @@
 //! What a tick costs: the Rust's and ours, in one process, from one driver.
 //!
 //!     bench time                       ns per tick of every effect
-//!     bench clear                      ms per clearing and question of the longest line, beside memset and a plain loop
+//!     bench clear                      a clearing and a question of the longest line and of the reverb's tank, beside memset and
+//!                                      a plain loop
 //!     bench count EFFECT SIDE TICKS    only these ticks, for callgrind; SIDE is rust or ours
 //!
 //! How it is taken:
@@ -14,7 +15,7 @@
 //!   in memory before the call: the frequency in the memo, under the key that the tick will ask for, and the sines where the shim
 //!   of libm takes each by one load. "Rust, curves still" is the Rust without these stores, its curve numbers the same in every
 //!   tick: what they cost it. What is left on the Rust's side is the memo's own test, which is part of its tick. Of the delay the
-//!   curve number is the milliseconds, and its time port is the memo's key; in linear mode there is none.
+//!   curve number is the milliseconds, and its time port is the memo's key; in linear mode there is none, and in the reverb.
 //! - Audio, controls, frequencies and sines move from tick to tick; the state is fed back, the lines too; the samples are summed
 //!   up, and both sides must come to the same sum.
 //! - Rounds are interleaved, so that a machine that slows down slows both. The lowest is what the code can do; the median says
@@ -26,6 +27,7 @@ mod delay;
 mod flanger;
 mod inputs;
 mod lines;
+mod reverb;
 mod tremolo;
 mod vibrato;
 
@@ -34,6 +36,7 @@ use delay::Delay;
 use flanger::Flanger;
 use inputs::{inputs, Input};
 use lines::Row;
+use reverb::Reverb;
 use std::hint::black_box;
 use std::time::Instant;
 use tremolo::Tremolo;
@@ -81,6 +84,7 @@ fn main() {
             time::<Row<Flanger, 3>, 3>();
             time::<Delay<false>, 1>();
             time::<Delay<true>, 1>();
+            time::<Reverb, 2>();
         }
         ["clear"] => clear::time(),
         ["count", "tremolo", side, ticks] => count::<Tremolo, 1>(side, ticks),
@@ -89,6 +93,7 @@ fn main() {
         ["count", "flanger", side, ticks] => count::<Row<Flanger, 3>, 3>(side, ticks),
         ["count", "delay", side, ticks] => count::<Delay<false>, 1>(side, ticks),
         ["count", "linear_delay", side, ticks] => count::<Delay<true>, 1>(side, ticks),
+        ["count", "reverb", side, ticks] => count::<Reverb, 2>(side, ticks),
         _ => panic!("bench time, bench clear, or bench count EFFECT SIDE TICKS"),
     }
 }
@@ -168,7 +173,7 @@ fn print_row(name: &str, columns: [String; 5]) {
 /// Named columns of one row.
 fn print_spreads<const N: usize>(name: &str, columns: [(&str, Spread); N]) {
     let shown = columns.map(|(of, spread)| format!("{of} {}", spread.shown()));
-    println!("{name:12} {}", shown.join("   "));
+    println!("{name:13} {}", shown.join("   "));
 }
 
 /// ns per tick of a round, and its sum.
