@@ -1,6 +1,6 @@
 /* A plucked string, one second long, through each effect: how the calls of room_effects.h go together.
    The host computes the curve numbers, here a steady frequency and sines at the state's phases, and for the delay its time in
-   milliseconds and its glide coefficient. */
+   milliseconds and its glide coefficient. The reverb has none. */
 #include "room_effects.h"
 
 #include <math.h>
@@ -14,6 +14,7 @@
 #define FLANGER_PLACES 902
 #define DELAY_SECONDS 1.0
 #define DELAY_PLACES 44101
+#define REVERB_PLACES 87136 /* the most of all: every effect here is lent the first of them */
 
 static double plucked(int i)
 {
@@ -118,6 +119,22 @@ static uint32_t play_delay(double *places)
     return refused;
 }
 
+static uint32_t play_reverb(double *places)
+{
+    room_reverb unit;
+    double y[2];
+    double peak = 0.0;
+    double sum = 0.0;
+    uint32_t refused = room_reverb_start(&unit, places, REVERB_PLACES, RATE);
+    for (int i = 0; i < RATE && refused == 0; i++) {
+        refused = room_reverb_tick(&unit, places, REVERB_PLACES, room_set(plucked(i)), room_set(0.8), room_unset(), room_unset(), room_set(0.2), y);
+        peak = fmax(peak, fabs(y[0]));
+        sum += y[0] * y[0];
+    }
+    print_row("reverb", peak, sum, REVERB_PLACES);
+    return refused;
+}
+
 /* What the unit is for: after a song and a reset the next take is +0 in every sample. */
 static uint32_t next_hirer(double *places)
 {
@@ -139,11 +156,11 @@ static uint32_t next_hirer(double *places)
 
 int main(void)
 {
-    double *places = malloc(DELAY_PLACES * sizeof *places);
+    double *places = malloc(REVERB_PLACES * sizeof *places);
     if (places == NULL)
         return 1;
     puts("one second of a plucked string through each effect");
-    uint32_t wrong = play_tremolo() + play_vibrato(places) + play_chorus(places) + play_flanger(places) + play_delay(places) + next_hirer(places);
+    uint32_t wrong = play_tremolo() + play_vibrato(places) + play_chorus(places) + play_flanger(places) + play_delay(places) + play_reverb(places) + next_hirer(places);
     free(places);
     return wrong != 0;
 }
