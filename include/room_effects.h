@@ -49,7 +49,7 @@
  * A line has L places, by the sample rate: the whole part of n x rate / 1000, plus 10, with n as the effect says; the delay's
  * has the whole part of rate x maximum, plus 1. A unit's lines follow each other from place 0. The reverb's lie in a tank of
  * one size: see there. The memory may be longer than that. Start, retune and reset put +0 into every place, spare ones too; a
- * tick writes one place of each line and never a spare one.
+ * tick writes one place of each line and never a spare one. room_places_needed says how many places an effect needs.
  *
  * Ports
  *
@@ -181,6 +181,13 @@ uint32_t room_raw_reverb_silent(const uint64_t comb_pos_l[8], const uint64_t com
                                 const double stores_r[8], const uint64_t allpass_pos_l[4],
                                 const uint64_t allpass_pos_r[4], uint64_t predelay_pos, double rate, const double *memory,
                                 uint64_t places, uint32_t *out);
+
+/*
+ * How many places an effect needs at this rate, for a controller that asks at power-up. effect: 1 delay, 2 chorus, 3 flanger,
+ * 4 vibrato, 5 tremolo, 6 reverb. maximum: the delay's alone, in seconds, held as its start holds it; the others' counts don't
+ * read it. The tremolo needs 0. For another number, and for a rate that is refused, 2^64 - 1. A host calls this one as it is.
+ */
+uint64_t room_places_needed(uint32_t effect, double rate, double maximum);
 
 #ifdef __cplusplus
 }

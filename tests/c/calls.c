@@ -145,6 +145,7 @@ int main(void)
     test("flanger", flanger);
     test("delay", delay);
     test("reverb", reverb);
+    test("places", places);
     printf("%u passed, %u failed\n", passed, failed);
     return failed != 0;
 }

@@ -56,5 +56,6 @@ void chorus(void);
 void flanger(void);
 void delay(void);
 void reverb(void);
+void places(void);
 
 #endif

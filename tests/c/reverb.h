@@ -25,7 +25,7 @@ struct tuning {
     double rate;
     unsigned comb[8], allpass[4], spread;
 };
-#define TUNINGS 7u
+#define TUNINGS 8u
 extern const struct tuning tunings[TUNINGS];
 
 /* How long a line is there. */

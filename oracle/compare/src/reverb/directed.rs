@@ -36,11 +36,13 @@ fn tick(unit: &mut Reverb, state: State, ports: [f64; 5]) -> Result<(), String> 
 }
 
 /// Lengths that the page, the table and the Rust must agree on: the rate, a line, its length there.
-const KNOWN: [(f64, usize, u64); 12] = [
-    (22_100.0, 17, 220),   // 441: by 441 × rate / 44100 it would be 221
-    (12_300.0, 7, 450),    // 1617: likewise 451
-    (22_050.0, 0, 558),    // the spread, 11.5, is rounded away from 0
-    (22_050.0, 8, 570),    // 558 + 12
+const KNOWN: [(f64, usize, u64); 14] = [
+    (22_100.0, 17, 220),  // 441: by 441 × rate / 44100 it would be 221
+    (12_300.0, 7, 450),   // 1617: likewise 451
+    (22_050.0, 0, 558),   // the spread, 11.5, is rounded away from 0
+    (22_050.0, 8, 570),   // 558 + 12
+    (44_100.0, 0, 1_116), // these two are at hand in ours
+    (48_000.0, 0, 1_214),
     (66_150.0, 8, 1_709),  // 1674 + 35, from 34.5
     (110_250.0, 8, 2_848), // 2790 + 58, from 57.5
     (154_350.0, 8, 3_987), // 3906 + 81, from 80.5
