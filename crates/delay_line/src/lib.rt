@@ -42,6 +42,7 @@ pub struct Ticked {
 
 impl DelayLine {
     pub const MAX_DELAY_SECS: f64 = 2.0;
+
     pub const MAX_DELAY_CAP_SECS: f64 = 60.0;
     // The Rust has this limit as a bare number.
     pub const MIN_DELAY_SECS: f64 = 0.001;
@@ -53,13 +54,18 @@ impl DelayLine {
         if !float64::is_finite(seconds) {
             return DelayLine::MAX_DELAY_SECS;
         }
-        float64::clamp(seconds, DelayLine::MIN_DELAY_SECS, DelayLine::MAX_DELAY_CAP_SECS)
+        let most = DelayLine::MAX_DELAY_CAP_SECS;
+        float64::clamp(seconds, DelayLine::MIN_DELAY_SECS, most)
     }
 
     fn maximum_fits(seconds: f64) -> bool
         ensures { λ r. ⌜ r ≡ maximumFits seconds ⌝ }
     {
-        float64::in_range(seconds, DelayLine::MIN_DELAY_SECS, DelayLine::MAX_DELAY_CAP_SECS)
+        float64::in_range(
+            seconds,
+            DelayLine::MIN_DELAY_SECS,
+            DelayLine::MAX_DELAY_CAP_SECS,
+        )
     }
 
     // The places of the line. A refused rate or maximum gives 0, so that no position fits.
@@ -124,8 +130,7 @@ impl DelayLine {
         ensures { λ r. ⌜ Starts delayLine (handing «sample_rate» coefficient «max_delay_secs» linear) (now (mem .entry)) (r .state) (now (mem .exit)) (outcomeReply (r .outcome)) ⌝ }
     {
         let maximum = DelayLine::held_maximum(max_delay_secs);
-        let refusal =
-            DelayLine::settings_refusal(sample_rate, coefficient, maximum, mem.len());
+        let refusal = DelayLine::settings_refusal(sample_rate, coefficient, maximum, mem.len());
         if let Outcome::Refused(cause) = refusal {
             return Cleared {
                 state: DelayLine::cleared(0.0, 0.0, 0.0, false),
@@ -197,8 +202,7 @@ impl DelayLine {
                 outcome: Outcome::Refused(Refusal::State),
             };
         }
-        let refusal =
-            DelayLine::settings_refusal(sample_rate, coefficient, maximum, mem.len());
+        let refusal = DelayLine::settings_refusal(sample_rate, coefficient, maximum, mem.len());
         if let Outcome::Refused(cause) = refusal {
             return Cleared {
                 state: self,

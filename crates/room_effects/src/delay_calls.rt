@@ -34,8 +34,13 @@ pub extern "C" fn room_raw_delay_start(
 ) -> u32
     ensures { λ r. ⌜ Began delayLine (handing «sample_rate» coef «max_delay_secs» (isOn «linear_time»)) (now (memory .entry)) (delayUnit (now (pos .exit)) (now (distance .exit)) (now (primed .exit)) (now (rate .exit)) (now (coefficient .exit)) (now (maximum .exit)) (now (linear .exit)) (now (memory .exit))) r ⌝ }
 {
-    let started =
-        DelayLine::with_max_delay(sample_rate, max_delay_secs, coef, linear_time != 0, memory);
+    let started = DelayLine::with_max_delay(
+        sample_rate,
+        max_delay_secs,
+        coef,
+        linear_time != 0,
+        memory,
+    );
     *pos = started.state.write_pos;
     *distance = started.state.smoothed_delay;
     *primed = flag(started.state.delay_primed);
