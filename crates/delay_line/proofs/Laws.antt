@@ -2,17 +2,18 @@
 -- steps, also where ports are unset. Assumes nothing.
 use Prim.Native.Nat.{ℕ, _-_, _≤_, _<_}
 use native.Mathlib.Omega.{arith}
-use mathlib.Core.Path.{_≡_, refl, _∙_}
+use mathlib.Core.Path.{_≡_, refl, ap, _∙_}
 use mathlib.Core.Bool.{Bool, true, false, not, _&&_, _||_, cond}
 use mathlib.Core.List.{List, [], _∷_}
 use lib.Dec.{T, ltb}
 use lib.ListN.{length, take, set}
-use lib.Ieee.{Float, binary64, add, mul, le, lt, ofInt, round, isNan}
+use lib.Ieee.{Float, nan, inf, fin, binary64, add, mul, div, le, lt, ofInt, round, isNan}
 use lib.Ieee as Ieee
+use lib.Ieee.Bits.{is-true}
 use lib.Ieee.Positive.{positive, between}
 use borrow.Author.Tests.{ltb-true, lt-ltb}
 use Rattle.float64.specs.Number.{plusZero, whole, fraction, half, isNumber, isFinite, inRange, rateFits, coefficientFits, clampOf}
-use Rattle.float64.proofs.Tests.{clash, both, not-not}
+use Rattle.float64.proofs.Tests.{clash, both}
 use Rattle.float64.proofs.Interval.{In, mul-in}
 use Rattle.float64.proofs.Ranges.{rate-in, range-in, in-range, in-number, finite-number}
 use Rattle.float64.proofs.Clamped.{clamp-in, clamp-number}
@@ -20,18 +21,17 @@ use Rattle.float64.proofs.Scaled.{mul-number, div-number}
 use Rattle.float64.proofs.Parts.{clamp-whole-in, whole-ends}
 use Rattle.float64.proofs.Glide.{glide-in}
 use Rattle.float64.proofs.Lengths.{line-length}
-use Rattle.port.specs.declared.Port.the-variants.{Set}
+use Rattle.port.specs.declared.Port.the-variants.{Set, Unset}
 use Rattle.port.specs.Port.{valueOr, isNanSet}
 use Rattle.port.specs.Answer.{Reply, played}
+use Rattle.port.proofs.Laws.{nan-is}
 use Rattle.common.specs.Signal.{sanitized, blended, causeNumber}
 use Rattle.common.specs.Line.{lineAt, readAt}
 use Rattle.common.proofs.Sweep.{size-is, size-some, size-tests, small, no-cause, neither, value-number, part-read}
 use Rattle.effect.specs.Effect.{laid}
-use Rattle.effect.specs.Run.{tick, numberIn}
-use Rattle.effect.specs.Contract.{Does}
-use Rattle.effect.proofs.Contract.{accepts}
+use Rattle.effect.specs.Run.{tick, first, memoryNumber, numberIn}
 use Rattle.delay_line.specs.declared.DelayLine.{DelayLine}
-use Rattle.delay_line.specs.DelayLine.{Tick, ticked, delayLine, heldMaximum, maximumFits, lineLength, glideFits, fits, tickNumber, input, feedback, mix, delayMs, targetDelay, glided, distance, delayed, moved, next, writes}
+use Rattle.delay_line.specs.DelayLine.{Tick, delayLine, ticked, heldMaximum, maximumFits, lineLength, glideFits, fits, tickNumber, delayMs, samplesOf, glided, readsAt, distance, delayedBy, delayed, moved, next, writes}
 use Rattle.delay_line.specs.DelayLine as page
 
 -- ---- the maximum, and the length of the line
@@ -132,45 +132,61 @@ tick-fits t linear e =
     let a = neither (linear && isNanSet (t .time)) others (v .0) .0 in
     record { time = λ l. rw l at a; milliseconds = λ l. rw l at (v .1) }
 
--- of what a tick reads, a NaN is a NaN time in linear mode, and a NaN number of milliseconds in the other
-pub read-nan : (linear : Bool) (time milliseconds : Float) → linear && not (isNumber (cond linear time milliseconds)) ≡ linear && not (isNumber time)
-read-nan true time milliseconds = refl
-read-nan false time milliseconds = refl
+-- a tick whose ports are set to the numbers that it takes from them has the same row
+module _ (t : Tick) (linear : Bool) {c f b : Float} (time : c ≡ valueOr (t .time) half) (back : f ≡ valueOr (t .feedback) plusZero) (wet : b ≡ valueOr (t .mix) half) where
+  abbrev pub setTick : Tick
+  setTick = ticked Unset (Set c) (Set f) (Set b) (t .milliseconds)
 
-pub read-number : (linear : Bool) (time milliseconds : Float) → linear || not (not (isNumber (cond linear time milliseconds))) ≡ linear || isNumber milliseconds
-read-number true time milliseconds = refl
-read-number false time milliseconds = not-not (isNumber milliseconds)
+  pub set-row : tickNumber setTick linear ≡ tickNumber t linear
+  unfolding tickNumber isNumber Ieee.fits isNan round
+  set-row =
+      let x = nan-is (t .time) half refl time refl in
+      let y = nan-is (t .feedback) plusZero refl back refl in
+      let z = nan-is (t .mix) half refl wet refl in
+      λ i. causeNumber (linear && x i || (y i || z i)) (linear || isNumber (t .milliseconds))
 
--- causes 5 and 6 by three tests: whether the time is linear, whether what the delay is read from is NaN, whether another control is
-pub no-nan : (linear unread others : Bool) → not (unread || others) ≡ true → _≡_ {A = ℕ} 0 (causeNumber (linear && unread || others) (linear || not unread))
-no-nan true true true e = clash e refl
-no-nan true true false e = clash e refl
-no-nan true false true e = clash e refl
-no-nan true false false e = refl
-no-nan false true true e = clash e refl
-no-nan false true false e = clash e refl
-no-nan false false true e = clash e refl
-no-nan false false false e = refl
+  pub set-number : (n : ℕ) (s : DelayLine) → s .«linear_time» ≡ linear → numberIn delayLine (tick setTick) n s ≡ numberIn delayLine (tick t) n s
+  unfolding fits
+  set-number n s e = rw e (ap (λ (k : ℕ). cond (fits s) (first (memoryNumber (size s) n) k) 4) set-row)
 
-pub nan-control : (linear unread others : Bool) → not (unread || others) ≡ false → others || linear ≡ true → _≡_ {A = ℕ} 5 (causeNumber (linear && unread || others) (linear || not unread))
-nan-control true true true e f = refl
-nan-control true true false e f = refl
-nan-control true false true e f = refl
-nan-control true false false e f = clash refl e
-nan-control false true true e f = refl
-nan-control false true false e f = clash f refl
-nan-control false false true e f = refl
-nan-control false false false e f = clash refl e
+  -- none of its numbers is NaN
+  pub no-nan : cond linear (isNumber c) (isNumber (t .milliseconds)) ≡ true → isNumber f ≡ true → isNumber b ≡ true → tickNumber setTick linear ≡ 0
+  unfolding tickNumber
+  no-nan x y z = rw (y, z) (go linear (isNumber c) (isNumber (t .milliseconds)) x)
+    where
+      go : (l p q : Bool) → cond l p q ≡ true → _≡_ {A = ℕ} (causeNumber (l && not p || false) (l || q)) 0
+      go true true q e = refl
+      go true false q e = clash e refl
+      go false p true e = refl
+      go false p false e = clash e refl
 
-pub nan-curve : (linear unread others : Bool) → not (unread || others) ≡ false → others || linear ≡ false → _≡_ {A = ℕ} 6 (causeNumber (linear && unread || others) (linear || not unread))
-nan-curve true true true e f = clash refl f
-nan-curve true true false e f = clash refl f
-nan-curve true false true e f = clash refl f
-nan-curve true false false e f = clash refl e
-nan-curve false true true e f = clash refl f
-nan-curve false true false e f = refl
-nan-curve false false true e f = clash refl f
-nan-curve false false false e f = clash refl e
+-- ---- a NaN on the way to a number of samples
+
+below-nan : (x : Float) → lt x nan ≡ false
+unfolding lt
+below-nan nan = refl
+below-nan (inf s) = refl
+below-nan (fin s m e) = refl
+
+nan-none : (rate : Float) → isNumber (samplesOf rate nan) ≡ false
+unfolding samplesOf isNumber isNan mul div Ieee.fits
+nan-none rate = refl
+
+nan-clamped : (maximum : Float) → mul binary64 (clampOf nan plusZero maximum) (whole 1000) ≡ nan
+unfolding clampOf lt mul
+nan-clamped maximum = rw (below-nan maximum)
+
+pub plain-read : (rate ms : Float) → T (Ieee.fits binary64 ms) → isNumber (samplesOf rate ms) ≡ true → isNumber ms ≡ true
+unfolding isNumber isNan
+plain-read rate nan h e = clash e (nan-none rate)
+plain-read rate (inf s) h e = rw (is-true (Ieee.fits binary64 (inf s)) h)
+plain-read rate (fin s m d) h e = rw (is-true (Ieee.fits binary64 (fin s m d)) h)
+
+pub linear-read : (rate time maximum : Float) → T (Ieee.fits binary64 time) → isNumber (samplesOf rate (mul binary64 (clampOf time plusZero maximum) (whole 1000))) ≡ true → isNumber time ≡ true
+unfolding isNumber isNan
+linear-read rate nan maximum h e = clash e (ap (λ (y : Float). isNumber (samplesOf rate y)) (nan-clamped maximum) ∙ nan-none rate)
+linear-read rate (inf s) maximum h e = rw (is-true (Ieee.fits binary64 (inf s)) h)
+linear-read rate (fin s m d) maximum h e = rw (is-true (Ieee.fits binary64 (fin s m d)) h)
 
 -- ---- the glide
 
@@ -185,22 +201,26 @@ module _ (t : Tick) (s : DelayLine) (f : Fits s) (k : TickFits t (s .«linear_ti
       go true e = mul-number _ (whole 1000) (clamp-number _ plusZero _ (value-number (t .time) half (k .time e) refl) refl (in-number (maximum-in (f .maximum)))) tt
       go false e = k .milliseconds e
 
-  target-in : In binary64 (whole 1) (whole (size s - 1)) (targetDelay (size s) (s .«sample_rate») (delayMs t s))
-  unfolding targetDelay ofInt
-  target-in =
-      let l = length-fits (s .«sample_rate») (s .«max_delay_secs») (f .rate) (f .maximum) in
+  pub samples-number : isNumber (samplesOf (s .«sample_rate») (delayMs t s)) ≡ true
+  unfolding samplesOf ofInt
+  samples-number =
       let r = rate-in (f .rate) in
       let p : T (positive (s .«sample_rate»)) = between (whole 8000) (s .«sample_rate») (whole 192000) tt tt (r .lower) (r .upper) in
-      clamp-whole-in (size s - 1) (omega (arith, l .1)) _ (omega (arith, l .0))
-      (div-number _ (whole 1000) (mul-number (delayMs t s) (s .«sample_rate») ms-number p) tt)
+      div-number _ (whole 1000) (mul-number (delayMs t s) (s .«sample_rate») ms-number p) tt
+
+module _ (s : DelayLine) (f : Fits s) (x : Float) (k : isNumber x ≡ true) where
+  target-in : In binary64 (whole 1) (whole (size s - 1)) (clampOf x (whole 1) (whole (size s - 1)))
+  target-in =
+      let l = length-fits (s .«sample_rate») (s .«max_delay_secs») (f .rate) (f .maximum) in
+      clamp-whole-in (size s - 1) (omega (arith, l .1)) x (omega (arith, l .0)) k
 
   -- the distance stays from 1 to L − 1 by itself, rounding included: so both places that are read lie in the line
-  pub distance-in : In binary64 (whole 1) (whole (size s - 1)) (distance t s)
-  unfolding distance glided glideFits
-  distance-in = go (s .«delay_primed») (f .glide)
+  pub reads-in : In binary64 (whole 1) (whole (size s - 1)) (readsAt s x)
+  unfolding readsAt glided glideFits
+  reads-in = go (s .«delay_primed») (f .glide)
     where
       target : Float
-      target = targetDelay (size s) (s .«sample_rate») (delayMs t s)
+      target = clampOf x (whole 1) (whole (size s - 1))
 
       go : (b : Bool) → glideFits b (s .«smoothed_delay») (size s) ≡ true
           → In binary64 (whole 1) (whole (size s - 1)) (glided b (s .«smoothed_delay») (s .«delay_smooth_coef») target)
@@ -210,70 +230,45 @@ module _ (t : Tick) (s : DelayLine) (f : Fits s) (k : TickFits t (s .«linear_ti
       go false g = target-in
 
   -- by the length n of the line and the distance d that the code works out
-  pub in-line : {n : ℕ} {d : Float} → n ≡ size s → d ≡ distance t s → inRange d (whole 1) (whole (n - 1)) ≡ true
-  in-line e g = (λ i. inRange (g i) (whole 1) (whole (e i - 1))) ∙ in-range distance-in
+  pub in-line : {n : ℕ} {d : Float} → n ≡ size s → d ≡ readsAt s x → inRange d (whole 1) (whole (n - 1)) ≡ true
+  in-line e g = (λ i. inRange (g i) (whole 1) (whole (e i - 1))) ∙ in-range reads-in
+
+pub distance-in : (t : Tick) (s : DelayLine) → Fits s → TickFits t (s .«linear_time») → In binary64 (whole 1) (whole (size s - 1)) (distance t s)
+unfolding distance
+distance-in t s f k = reads-in s f (samplesOf (s .«sample_rate») (delayMs t s)) (samples-number t s f k)
 
 -- ---- an accepted tick from its steps
 
-module _ (t : Tick) (s : DelayLine) (m : List Float) {n : ℕ} (e : n ≡ size s) where
-  pub distance-is : {ms target d : Float} → ms ≡ delayMs t s → target ≡ targetDelay n (s .«sample_rate») ms
+module _ (s : DelayLine) (x : Float) {n : ℕ} (e : n ≡ size s) where
+  pub reads-is : {target d : Float} → target ≡ clampOf x (whole 1) (whole (n - 1))
       → d ≡ glided (s .«delay_primed») (s .«smoothed_delay») (s .«delay_smooth_coef») target
-      → d ≡ distance t s
-  unfolding distance
-  distance-is a b c =
-      c ∙ (λ i. glided (s .«delay_primed») (s .«smoothed_delay») (s .«delay_smooth_coef») ((b ∙ (λ j. targetDelay (e j) (s .«sample_rate») (a j))) i))
+      → d ≡ readsAt s x
+  unfolding readsAt
+  reads-is b c =
+      c ∙ (λ i. glided (s .«delay_primed») (s .«smoothed_delay») (s .«delay_smooth_coef») ((b ∙ (λ j. clampOf x (whole 1) (whole (e j - 1)))) i))
 
   -- a read in the line's part of the memory is what the tick reads
-  pub delayed-is : {d y : Float} → n ≤ length m → s .«write_pos» < n → d ≡ distance t s
+  pub delayed-is : (m : List Float) {d y : Float} → n ≤ length m → s .«write_pos» < n → d ≡ readsAt s x
       → y ≡ readAt (lineAt 0 (length (take n m)) (s .«write_pos») (take n m)) d
-      → y ≡ delayed t s m
-  unfolding delayed
-  delayed-is {d} l h a r =
+      → y ≡ delayedBy s x m
+  unfolding delayedBy
+  delayed-is m {d} l h a r =
       r ∙ part-read n 0 n (s .«write_pos») m d refl (omega (arith, l)) h ∙ (λ i. readAt (lineAt 0 (e i) (s .«write_pos») m) (a i))
 
-  pub next-is : {d : Float} {r : DelayLine} → d ≡ distance t s → r ≡ moved n d s → r ≡ next t s
-  unfolding next
-  next-is a b = b ∙ (λ i. moved (e i) (a i) s)
+-- the tick as its page has it, from the numbers that it takes from its ports and its delay in samples
+module _ (t : Tick) (s : DelayLine) (m : List Float) {a c f b x : Float} (audio : a ≡ valueOr (t .audio) plusZero) (time : c ≡ valueOr (t .time) half) (back : f ≡ valueOr (t .feedback) plusZero) (wet : b ≡ valueOr (t .mix) half) (read : x ≡ samplesOf (s .«sample_rate») (cond (s .«linear_time») (mul binary64 (clampOf c plusZero (s .«max_delay_secs»)) (whole 1000)) (t .milliseconds))) where
+  samples-are : x ≡ samplesOf (s .«sample_rate») (delayMs t s)
+  unfolding delayMs
+  samples-are = read ∙ (λ i. samplesOf (s .«sample_rate») (cond (s .«linear_time») (mul binary64 (clampOf (time i) plusZero (s .«max_delay_secs»)) (whole 1000)) (t .milliseconds)))
 
--- what is stored and played, from the audio, the read and the clamped controls
-module _ (t : Tick) (s : DelayLine) (m : List Float) {x d : Float} (audio : x ≡ input t) (read : d ≡ delayed t s m) where
-  pub stored-is : {f : Float} → f ≡ feedback t → set m (s .«write_pos») (add binary64 x (mul binary64 d f)) ≡ laid (writes t s m) m
-  unfolding writes
-  stored-is f = λ i. set m (s .«write_pos») (add binary64 (audio i) (mul binary64 (read i) (f i)))
+  pub next-is : {n : ℕ} {r : DelayLine} → n ≡ size s → r ≡ moved n (readsAt s x) s → r ≡ next t s
+  unfolding next distance
+  next-is e g = g ∙ (λ i. moved (e i) (readsAt s (samples-are i)) s)
 
-  pub played-is : {b y : Float} → b ≡ mix t → y ≡ blended x d b → played (y ∷ []) ≡ played (page.samples t s m)
-  unfolding page.samples
-  played-is b y = (λ i. played (y i ∷ [])) ∙ (λ i. played (blended (audio i) (read i) (b i) ∷ []))
+  pub stored-is : {m' : List Float} → m' ≡ set m (s .«write_pos») (add binary64 (sanitized a) (mul binary64 (delayedBy s x m) (clampOf f plusZero (fraction 99 100)))) → m' ≡ laid (writes t s m) m
+  unfolding writes delayed
+  stored-is g = g ∙ (λ i. set m (s .«write_pos») (add binary64 (sanitized (audio i)) (mul binary64 (delayedBy s (samples-are i) m) (clampOf (back i) plusZero (fraction 99 100)))))
 
--- ---- ports: a tick is the one with all ports set to the values that it takes from them
-
--- what a tick reads, stores and plays, by those values: audio x, time c, feedback f, mix b
-module _ (t : Tick) (s : DelayLine) (m : List Float) where
-  abbrev distanceBy : Float → Float
-  distanceBy c =
-      glided (s .«delay_primed») (s .«smoothed_delay») (s .«delay_smooth_coef»)
-      (targetDelay (size s) (s .«sample_rate») (cond (s .«linear_time») (mul binary64 (clampOf c plusZero (s .«max_delay_secs»)) (whole 1000)) (t .milliseconds)))
-
-  abbrev delayedBy : Float → Float
-  delayedBy c = readAt (lineAt 0 (size s) (s .«write_pos») m) (distanceBy c)
-
-  abbrev storedBy : Float → Float → Float → List Float
-  storedBy x c f = set m (s .«write_pos») (add binary64 (sanitized x) (mul binary64 (delayedBy c) (clampOf f plusZero (fraction 99 100))))
-
-  abbrev playedBy : Float → Float → Float → Reply
-  playedBy x c b = played (blended (sanitized x) (delayedBy c) (clampOf b plusZero (whole 1)) ∷ [])
-
-module _ (t : Tick) {x c f b : Float} (audio : x ≡ valueOr (t .audio) plusZero) (time : c ≡ valueOr (t .time) half) (back : f ≡ valueOr (t .feedback) plusZero) (wet : b ≡ valueOr (t .mix) half) where
-  abbrev pub allSet : Tick
-  allSet = ticked (Set x) (Set c) (Set f) (Set b) (t .milliseconds)
-
-  pub set-does : {s : DelayLine} {m : List Float} {s' : DelayLine} {m' : List Float} {a : Reply} → numberIn delayLine (tick t) (length m) s ≡ 0
-      → numberIn delayLine (tick allSet) (length m) s ≡ 0
-      → Does delayLine (tick allSet) s m s' m' a
-      → Does delayLine (tick t) s m s' m' a
-  unfolding next writes page.samples delayed distance delayMs
-  set-does {s} {m} n k does =
-      accepts delayLine (tick t) s m n
-      ((rw k at (does .state)) ∙ (λ i. moved (size s) (distanceBy t s m (time i)) s))
-      ((rw k at (does .memory)) ∙ (λ i. storedBy t s m (audio i) (time i) (back i)))
-      ((rw k at (does .answer)) ∙ (λ i. playedBy t s m (audio i) (time i) (wet i)))
+  pub played-is : {q : Reply} → q ≡ played (blended (sanitized a) (delayedBy s x m) (clampOf b plusZero (whole 1)) ∷ []) → q ≡ played (page.samples t s m)
+  unfolding page.samples delayed
+  played-is g = g ∙ (λ i. played (blended (sanitized (audio i)) (delayedBy s (samples-are i) m) (clampOf (wet i) plusZero (whole 1)) ∷ []))

@@ -121,22 +121,29 @@ mix t = clampOf (valueOr (t .mix) half) plusZero (whole 1)
 unfoldable pub delayMs : Tick → DelayLine → Float
 delayMs t s = cond (s .«linear_time») (mul binary64 (clampOf (valueOr (t .time) half) plusZero (s .«max_delay_secs»)) (whole 1000)) (t .milliseconds)
 
--- where the glide goes to, in a line of L places: milliseconds × rate / 1000, clamped to 1 to L − 1
-unfoldable pub targetDelay : ℕ → Float → Float → Float
-targetDelay L rate ms = clampOf (div binary64 (mul binary64 ms rate) (whole 1000)) (whole 1) (whole (L - 1))
+-- milliseconds × rate / 1000
+unfoldable pub samplesOf : Float → Float → Float
+samplesOf rate ms = div binary64 (mul binary64 ms rate) (whole 1000)
 
 -- the distance that is read: the first tick after a clearing reads at the target, later ones at target + (last distance − target) × coefficient
 unfoldable pub glided : Bool → Float → Float → Float → Float
 glided primed last coefficient target = cond primed (add binary64 target (mul binary64 (sub binary64 last target) coefficient)) target
 
-unfoldable pub distance : Tick → DelayLine → Float
-distance t s =
+-- where the target is so many samples, clamped to 1 to L − 1
+unfoldable pub readsAt : DelayLine → Float → Float
+readsAt s samples =
     let L = lineLength (s .«sample_rate») (s .«max_delay_secs») in
-    glided (s .«delay_primed») (s .«smoothed_delay») (s .«delay_smooth_coef») (targetDelay L (s .«sample_rate») (delayMs t s))
+    glided (s .«delay_primed») (s .«smoothed_delay») (s .«delay_smooth_coef») (clampOf samples (whole 1) (whole (L - 1)))
+
+unfoldable pub distance : Tick → DelayLine → Float
+distance t s = readsAt s (samplesOf (s .«sample_rate») (delayMs t s))
 
 -- what the line holds at that distance, before the store
+unfoldable pub delayedBy : DelayLine → Float → List Float → Float
+delayedBy s samples m = readAt (lineAt 0 (lineLength (s .«sample_rate») (s .«max_delay_secs»)) (s .«write_pos») m) (readsAt s samples)
+
 unfoldable pub delayed : Tick → DelayLine → List Float → Float
-delayed t s m = readAt (lineAt 0 (lineLength (s .«sample_rate») (s .«max_delay_secs»)) (s .«write_pos») m) (distance t s)
+delayed t s m = delayedBy s (samplesOf (s .«sample_rate») (delayMs t s)) m
 
 -- the state after a tick that read at a distance, in a line of L places
 abbrev pub moved : ℕ → Float → DelayLine → DelayLine

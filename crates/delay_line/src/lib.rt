@@ -1,17 +1,18 @@
 // The delay line: one line in lent memory, fed back into itself, read at a distance that glides to the delay time. The state goes in and out by value.
 ghost use mathlib.Core.Path.{_≡_};
-ghost use mathlib.Core.Bool.{true, false, not, cond, _&&_, _||_};
+ghost use mathlib.Core.Bool.{true, false, cond, _&&_};
 ghost use Prim.Native.Nat.{_-_, _≤_, _<_};
-ghost use lib.ListN.{length};
-ghost use lib.Ieee.{binary64, mul};
-ghost use Rattle.float64.specs.Number.{plusZero, whole, rateFits, clampOf};
-ghost use Rattle.port.specs.declared.Port.the-variants.{Set};
-ghost use Rattle.port.specs.Answer.{numberOf, outcomeReply, answerReply, silenceReply};
-ghost use Rattle.common.specs.Signal.{causeNumber};
+ghost use mathlib.Core.List.{[], _∷_};
+ghost use lib.ListN.{length, set};
+ghost use lib.Ieee.{binary64, add, mul};
+ghost use Rattle.float64.specs.Number.{plusZero, whole, fraction, isNumber, rateFits, clampOf};
+ghost use Rattle.port.specs.declared.Port.the-variants.{Set, Unset};
+ghost use Rattle.port.specs.Answer.{played, numberOf, outcomeReply, answerReply, silenceReply};
+ghost use Rattle.common.specs.Signal.{sanitized, blended};
 ghost use Rattle.effect.specs.Run.{tick, retune, reset, ask, first, memoryNumber, numberIn};
 ghost use Rattle.effect.specs.Contract.{Does, Starts};
 ghost use Rattle.effect.specs.Needed.{placesNeeded};
-ghost use Rattle.delay_line.specs.DelayLine.{delayLine, handing, startSettings, retuning, ticked, heldMaximum, settingsNumber, maximumFits, lineLength, cleared, glideFits, fits, targetDelay, glided, moved};
+ghost use Rattle.delay_line.specs.DelayLine.{delayLine, handing, startSettings, retuning, ticked, heldMaximum, settingsNumber, maximumFits, lineLength, cleared, glideFits, fits, samplesOf, glided, readsAt, delayedBy, moved};
 use port::Answer;
 use port::Outcome;
 use port::Port;
@@ -254,13 +255,12 @@ impl DelayLine {
         }
     }
 
-    // Milliseconds x rate / 1000, clamped to 1 to n - 1.
-    fn target_delay(n: u64, rate: f64, ms: f64) -> f64
+    // Where the glide goes to: the samples held to 1 to n - 1.
+    fn target_delay(n: u64, samples: f64) -> f64
         requires { ⌜ 2 ≤ n ⌝ }
         requires { ⌜ n ≤ 11520001 ⌝ }
-        ensures { λ r. ⌜ r ≡ targetDelay n rate ms ⌝ }
+        ensures { λ r. ⌜ r ≡ clampOf samples (whole 1) (whole (n - 1)) ⌝ }
     {
-        let samples = ms * rate / 1000.0;
         float64::at_most(float64::at_least(samples, 1.0), DelayLine::last(n))
     }
 
@@ -275,35 +275,41 @@ impl DelayLine {
         target + (self.smoothed_delay - target) * self.delay_smooth_coef
     }
 
-    // What the tick reads its delay from: in linear mode the time port, else the milliseconds.
-    fn reads(self, time: f64, milliseconds: f64) -> f64
-        ensures { λ r. ⌜ r ≡ cond (self .«linear_time») time milliseconds ⌝ }
-    {
-        if self.linear_time { time } else { milliseconds }
-    }
-
-    // Causes 5 and 6, by whether what the delay is read from is NaN and whether another control is: in linear mode the former is a control too.
-    fn nan_refusal(self, unread: bool, others: bool) -> Outcome
-        ensures { λ r. ⌜ numberOf r ≡ causeNumber ((self .«linear_time» && unread) || others) (self .«linear_time» || not unread) ⌝ }
-    {
-        if !(unread | others) {
-            return Outcome::Accepted;
-        }
-        if others | self.linear_time {
-            return Outcome::Refused(Refusal::Control);
-        }
-        Outcome::Refused(Refusal::Curve)
-    }
-
-    // The delay in milliseconds: in linear mode from the time port's seconds, else as handed.
-    fn delay_ms(self, time: f64, milliseconds: f64) -> f64
-        ensures { λ r. ⌜ r ≡ cond (self .«linear_time») (mul binary64 (clampOf time plusZero (self .«max_delay_secs»)) (whole 1000)) milliseconds ⌝ }
+    // The delay in samples, not yet held to the line: milliseconds x rate / 1000, in linear mode of the time port's seconds, else of those handed. It is
+    // NaN where what it is read from is.
+    fn delay_samples(self, time: f64, milliseconds: f64) -> f64
+        ensures { λ r. ⌜ r ≡ samplesOf (self .«sample_rate») (cond (self .«linear_time») (mul binary64 (clampOf time plusZero (self .«max_delay_secs»)) (whole 1000)) milliseconds) ⌝ }
+        ensures { λ r. ⌜ (isNumber r ≡ true → cond (self .«linear_time») (isNumber time) (isNumber milliseconds) ≡ true) ⌝ }
     {
         if self.linear_time {
-            float64::clamp(time, 0.0, self.max_delay_secs) * 1000.0
-        } else {
-            milliseconds
+            return float64::clamp(time, 0.0, self.max_delay_secs) * 1000.0 * self.sample_rate
+                / 1000.0;
         }
+        milliseconds * self.sample_rate / 1000.0
+    }
+
+    // Causes 4, 3, 5 and 6 of a tick with these numbers, in that order: for a tick that met a NaN.
+    fn nan_refusal(
+        self,
+        n: u64,
+        places: usize,
+        time: f64,
+        feedback: f64,
+        mix: f64,
+        milliseconds: f64,
+    ) -> Outcome
+        requires { ⌜ n ≡ cond (rateFits (self .«sample_rate») && maximumFits (self .«max_delay_secs»)) (lineLength (self .«sample_rate») (self .«max_delay_secs»)) 0 ⌝ }
+        ensures { λ r. ⌜ numberOf r ≡ numberIn delayLine (tick (ticked Unset (Set time) (Set feedback) (Set mix) milliseconds)) places self ⌝ }
+    {
+        let refusal = self.refusal(n, places);
+        if let Outcome::Refused(cause) = refusal {
+            return Outcome::Refused(cause);
+        }
+        let linear = self.linear_time;
+        common::tick_causes(
+            (linear & float64::is_nan(time)) | (float64::is_nan(feedback) | float64::is_nan(mix)),
+            linear | !float64::is_nan(milliseconds),
+        )
     }
 
     // The state after a tick that read at the distance.
@@ -322,23 +328,25 @@ impl DelayLine {
         }
     }
 
-    // An accepted tick with all its ports set; n is the length of the line, which is read before the store.
+    // An accepted tick with its ports' numbers and its delay in samples; n is the length of the line, which is read before the store.
     fn advance(
         self,
         n: u64,
         mem: &mut [f64],
         audio: f64,
-        time: f64,
+        samples: f64,
         feedback: f64,
         mix: f64,
-        milliseconds: f64,
     ) -> Ticked
         requires { ⌜ n ≡ lineLength (self .«sample_rate») (self .«max_delay_secs») ⌝ }
-        requires { ⌜ numberIn delayLine (tick (ticked (Set audio) (Set time) (Set feedback) (Set mix) milliseconds)) (length (now mem)) self ≡ 0 ⌝ }
-        ensures { λ r. ⌜ Does delayLine (tick (ticked (Set audio) (Set time) (Set feedback) (Set mix) milliseconds)) self (now (mem .entry)) (r .state) (now (mem .exit)) (answerReply (r .answer)) ⌝ }
+        requires { ⌜ fits self ≡ true ⌝ }
+        requires { ⌜ n ≤ length (now mem) ⌝ }
+        requires { ⌜ isNumber samples ≡ true ⌝ }
+        ensures { λ r. ⌜ r .state ≡ moved n (readsAt self samples) self ⌝ }
+        ensures { λ r. ⌜ answerReply (r .answer) ≡ played (blended (sanitized audio) (delayedBy self samples (now (mem .entry))) (clampOf mix plusZero (whole 1)) ∷ []) ⌝ }
+        ensures { λ _. ⌜ now (mem .exit) ≡ set (now (mem .entry)) (self .«write_pos») (add binary64 (sanitized audio) (mul binary64 (delayedBy self samples (now (mem .entry))) (clampOf feedback plusZero (fraction 99 100)))) ⌝ }
     {
-        let ms = self.delay_ms(time, milliseconds);
-        let target = DelayLine::target_delay(n, self.sample_rate, ms);
+        let target = DelayLine::target_delay(n, samples);
         let distance = self.glided(target);
         let input = common::sanitize_audio(audio);
         let back = float64::clamp(feedback, 0.0, 0.99);
@@ -354,7 +362,8 @@ impl DelayLine {
         }
     }
 
-    // One sample. The milliseconds are the host's curve number, from its time control; linear mode reads the time port in their place.
+    // One sample. The milliseconds are the host's curve number, from its time control; linear mode reads the time port in their place. The delay is worked
+    // out and asked for NaN before the state is tested, as it takes longest; where there is a NaN, the table's order decides.
     pub fn tick(
         self,
         mem: &mut [f64],
@@ -366,7 +375,21 @@ impl DelayLine {
     ) -> Ticked
         ensures { λ r. ⌜ Does delayLine (tick (ticked audio time feedback mix milliseconds)) self (now (mem .entry)) (r .state) (now (mem .exit)) (answerReply (r .answer)) ⌝ }
     {
+        let audio = if let Port::Set(x) = audio { x } else { 0.0 };
+        let time = if let Port::Set(x) = time { x } else { 0.5 };
+        let feedback = if let Port::Set(x) = feedback { x } else { 0.0 };
+        let mix = if let Port::Set(x) = mix { x } else { 0.5 };
+        let samples = self.delay_samples(time, milliseconds);
         let n = DelayLine::line_length(self.sample_rate, self.max_delay_secs);
+        if float64::is_nan(samples) | (float64::is_nan(feedback) | float64::is_nan(mix)) {
+            let met = self.nan_refusal(n, mem.len(), time, feedback, mix, milliseconds);
+            if let Outcome::Refused(cause) = met {
+                return Ticked {
+                    state: self,
+                    answer: Answer::Refused(cause),
+                };
+            }
+        }
         let refusal = self.refusal(n, mem.len());
         if let Outcome::Refused(cause) = refusal {
             return Ticked {
@@ -374,19 +397,6 @@ impl DelayLine {
                 answer: Answer::Refused(cause),
             };
         }
-        let audio = if let Port::Set(x) = audio { x } else { 0.0 };
-        let time = if let Port::Set(x) = time { x } else { 0.5 };
-        let feedback = if let Port::Set(x) = feedback { x } else { 0.0 };
-        let mix = if let Port::Set(x) = mix { x } else { 0.5 };
-        let unread = float64::is_nan(self.reads(time, milliseconds));
-        let others = float64::is_nan(feedback) | float64::is_nan(mix);
-        let causes = self.nan_refusal(unread, others);
-        if let Outcome::Refused(cause) = causes {
-            return Ticked {
-                state: self,
-                answer: Answer::Refused(cause),
-            };
-        }
-        self.advance(n, mem, audio, time, feedback, mix, milliseconds)
+        self.advance(n, mem, audio, samples, feedback, mix)
     }
 }

@@ -1,34 +1,23 @@
--- `DelayLine::advance` is the tick of `delayLine` with all its ports set, where it is accepted: the read lies in the line since the glide stays in range. Assumes nothing.
+-- `DelayLine::advance` reads, stores, moves on and mixes, where the state passes, the memory has the places and the delay is a number: the read lies in the
+-- line since the glide stays in range. Assumes nothing.
 use Prim.Native.Nat.{_≤_, _<_}
 use native.Mathlib.Omega.{arith}
 use mathlib.Core.Path.{_≡_, refl, sym, _∙_}
-use lib.ListN.{length}
-use lib.Ieee.{ofBits, ofInt, round}
+use mathlib.Core.List.{[], _∷_}
+use lib.ListN.{length, set}
+use lib.Ieee.{binary64, add, mul, ofBits, ofInt, round}
 use borrow.Author.Needs.{needs}
-use Rattle.port.specs.declared.Port.the-variants.{Set}
+use Rattle.port.specs.Answer.{played}
+use Rattle.common.specs.Signal.{blended}
 use Rattle.common.proofs.Sweep.{part-length}
-use Rattle.effect.specs.Run.{tick}
-use Rattle.effect.proofs.Table.{Accepted, accepted, TickAccepted, tick-accepted}
-use Rattle.effect.proofs.Contract.{accepts}
-use Rattle.delay_line.specs.DelayLine.{Tick, delayLine, ticked, settings, delayMs, distance}
-use Rattle.delay_line.proofs.Laws.{Fits, fits-parts, length-fits, tick-fits, in-line, distance-is, delayed-is, next-is, stored-is, played-is}
+use Rattle.delay_line.specs.DelayLine.{readsAt, moved}
+use Rattle.delay_line.proofs.Laws.{Fits, fits-parts, length-fits, in-line, reads-is, delayed-is}
 use Rattle.delay_line.proofs.DelayLine.advance.Statement.{statement}
 use Rattle.delay_line.proofs.DelayLine.advance.Tie as tie
 
 module _ (s : tie.Start) where
-  -- the tick, all its ports set
-  abbrev handed : Tick
-  handed = let a = s .args in ticked (Set (a .audio)) (Set (a .time)) (Set (a .feedback)) (Set (a .mix)) (a .milliseconds)
-
-  -- it is accepted, so that the state passes its test, the memory has the places and what is read is a number
-  taken : Accepted delayLine (length (s .args .mem .now)) (tick handed) (s .args .self)
-  taken = accepted delayLine (length (s .args .mem .now)) (tick handed) (s .args .self) (s .pre .1)
-
   unit : Fits (s .args .self)
-  unit = fits-parts (s .args .self) (taken .fits)
-
-  row : TickAccepted delayLine (length (s .args .mem .now)) handed (settings (s .args .self))
-  row = tick-accepted delayLine (length (s .args .mem .now)) handed (settings (s .args .self)) (taken .number)
+  unit = fits-parts (s .args .self) (s .pre .1 .0)
 
   long : (9 ≤ s .args .n) × (s .args .n ≤ 11520001)
   long = let l = length-fits (s .args .self .«sample_rate») (s .args .self .«max_delay_secs») (unit .rate) (unit .maximum) in (omega (arith, s .pre .0, l .0), omega (arith, s .pre .0, l .1))
@@ -37,13 +26,10 @@ module _ (s : tie.Start) where
   inside = omega (arith, s .pre .0, unit .inside)
 
   room : s .args .n ≤ length (s .args .mem .now)
-  room = omega (arith, s .pre .0, row .enough)
-
-delay-ms-requires : tie.Need-delay-ms-requires
-delay-ms-requires c κs = search needs
+  room = s .pre .1 .1 .0
 
 target-delay-requires : tie.Need-target-delay-requires
-target-delay-requires c κs = let l = long (c .before .before) in (omega (arith, l .0), l .1)
+target-delay-requires c κs = let l = long (c .before) in (omega (arith, l .0), l .1)
 
 glided-requires : tie.Need-glided-requires
 glided-requires c κs = search needs
@@ -51,11 +37,10 @@ glided-requires c κs = search needs
 -- the distance, in the definitions' words
 module _ (c : tie.After-glided) where
   abbrev start : tie.Start
-  start = c .before .before .before .before
+  start = c .before .before .before
 
-  reads-at : c .glided .result ≡ distance (handed start) (start .args .self)
-  unfolding delayMs ofBits ofInt
-  reads-at = distance-is (handed start) (start .args .self) (start .args .mem .now) (start .pre .0) (c .before .before .delay-ms .ensures) (c .before .target-delay .ensures) (c .glided .ensures)
+  reads-at : c .glided .result ≡ readsAt (start .args .self) (start .args .samples)
+  reads-at = reads-is (start .args .self) (start .args .samples) (start .pre .0) (c .before .target-delay .ensures) (c .glided .ensures)
 
 sanitize-audio-requires : tie.Need-sanitize-audio-requires
 sanitize-audio-requires c κs = search needs
@@ -79,8 +64,7 @@ read-interpolated-requires c κs =
     let g = c .before .before .before .before in
     let s = start g in
     let l = part-length (s .args .n) 0 (s .args .n) (s .args .mem .now) refl (omega (arith, room s)) in
-    let k = tick-fits (handed s) (s .args .self .«linear_time») (row s .number) in
-    (omega (arith, l, inside s), (omega (arith, l, long s .1), in-line (handed s) (s .args .self) (unit s) k (l ∙ s .pre .0) (reads-at g)))
+    (omega (arith, l, inside s), (omega (arith, l, long s .1), in-line (s .args .self) (unit s) (s .args .samples) (s .pre .1 .1 .1) (l ∙ s .pre .0) (reads-at g)))
 
 mul-mem : tie.Need-mul-mem
 mul-mem c = let s = start (c .before .before .before .before .before) in omega (arith, inside s, long s .1)
@@ -109,19 +93,19 @@ returns c =
     let s = start g in
     let a = s .args in
     let m = a .mem .now in
-    let t = handed s in
     let x = audio .sanitize-audio .ensures in
-    let d = delayed-is t (a .self) m (s .pre .0) (room s) (inside s) (reads-at g) (read .read-interpolated .ensures) in
-    accepts delayLine (tick t) (a .self) m (s .pre .1)
-    (next-is t (a .self) m (s .pre .0) (reads-at g) (c .next .ensures))
-    (stored-is t (a .self) m x d (back .clamp .ensures))
-    (played-is t (a .self) m x d (wet .clamp2 .ensures) (mixed .blend .ensures))
+    let d = delayed-is (a .self) (a .samples) (s .pre .0) m (room s) (inside s) (reads-at g) (read .read-interpolated .ensures) in (
+      c .next .ensures ∙ (λ i. moved (a .n) (reads-at g i) (a .self)),
+      (
+        (λ i. played ((mixed .blend .ensures ∙ (λ j. blended (x j) (d j) (wet .clamp2 .ensures j))) i ∷ [])),
+        (λ i. set m (a .self .«write_pos») (add binary64 (x i) (mul binary64 (d i) (back .clamp .ensures i)))),
+      ),
+    )
 
 pub advance-spec : {M : Type 1} → statement M
 advance-spec =
     tie.close
     (tie.spec
-    delay-ms-requires
     target-delay-requires
     glided-requires
     sanitize-audio-requires

@@ -1,20 +1,78 @@
--- `DelayLine::nan_refusal` is the row 5, 6 of a tick: of the delay's own NaN the mode says which. Assumes nothing.
-use Rattle.delay_line.proofs.Laws.{no-nan, nan-control, nan-curve}
+-- `DelayLine::nan_refusal` is the whole row of a tick: causes 4 and 3, then 5 and 6. Assumes nothing.
+use mathlib.Core.Path.{sym, ap, _∙_}
+use mathlib.Core.Bool.{not, _&&_, _||_}
+use borrow.Author.Needs.{needs}
+use Rattle.float64.specs.Number.{isNumber}
+use Rattle.float64.proofs.Tests.{not-not}
+use Rattle.port.specs.declared.Port.the-variants.{Set, Unset}
+use Rattle.port.specs.Answer.{number, numberOf}
+use Rattle.port.proofs.Laws.{number-some}
+use Rattle.common.specs.Signal.{causeNumber}
+use Rattle.effect.specs.Run.{reset}
+use Rattle.effect.proofs.Table.{accepted}
+use Rattle.effect.proofs.Contract.{tick-number}
+use Rattle.effect.proofs.Rows.{unit-refused}
+use Rattle.delay_line.specs.DelayLine.{Tick, delayLine, ticked, tickNumber}
 use Rattle.delay_line.proofs.DelayLine.nan_refusal.Statement.{statement}
 use Rattle.delay_line.proofs.DelayLine.nan_refusal.Tie as tie
 
+-- the tick with these numbers
+abbrev handed : tie.Start → Tick
+handed s = let a = s .args in ticked Unset (Set (a .time)) (Set (a .feedback)) (Set (a .mix)) (a .milliseconds)
+
+refusal-requires : tie.Need-refusal-requires
+refusal-requires c κs = search needs
+
+enum-known-refusal : tie.Need-enum-known-refusal
+enum-known-refusal c = search needs
+
 returns : tie.Need-returns
-returns c = let a = c .before .args in no-nan (a .self .«linear_time») (a .unread) (a .others) (c .if1 .taken)
+returns c =
+    let refusal = c .before in
+    let s = refusal .before .before .before in
+    let cause = refusal .refusal2 .given .0 .0 in
+    unit-refused delayLine (s .args .places) (s .args .self) (handed s) (sym (ap numberOf (refusal .refusal2 .given .1)) ∙ refusal .before .before .refusal .ensures) (number-some cause)
+
+enum-told : tie.Need-enum-told
+enum-told c = search needs
+
+is-nan-requires : tie.Need-is-nan-requires
+is-nan-requires c κs = search needs
+
+is-nan-requires-2 : tie.Need-is-nan-requires-2
+is-nan-requires-2 c κs = search needs
+
+is-nan-requires-3 : tie.Need-is-nan-requires-3
+is-nan-requires-3 c κs = search needs
+
+is-nan-requires-4 : tie.Need-is-nan-requires-4
+is-nan-requires-4 c κs = search needs
+
+tick-causes-requires : tie.Need-tick-causes-requires
+tick-causes-requires c κs = search needs
 
 returns-2 : tie.Need-returns-2
+unfolding tickNumber
 returns-2 c =
-    let a = c .before .before .before .args in
-    nan-control (a .self .«linear_time») (a .unread) (a .others) (c .before .before .if1 .left) (c .if2 .taken)
-
-returns-3 : tie.Need-returns-3
-returns-3 c =
-    let a = c .before .before .before .args in
-    nan-curve (a .self .«linear_time») (a .unread) (a .others) (c .before .before .if1 .left) (c .if2 .left)
+    let told = c .before .before .before .before .before in
+    let s = told .before .before .before in
+    let linear = s .args .self .«linear_time» in
+    let u = accepted delayLine (s .args .places) reset (s .args .self) (sym (told .before .before .refusal .ensures) ∙ ap numberOf (told .enum-told .given .1)) in
+    let ms = ap not (c .before .is-nan4 .ensures) ∙ not-not (isNumber (s .args .milliseconds)) in
+    tick-number delayLine (s .args .places) (s .args .self) (handed s) (u .fits) (sym (u .number))
+    (c .tick-causes .ensures ∙ (λ i. causeNumber (linear && c .before .before .before .before .is-nan .ensures i || (c .before .before .before .is-nan2 .ensures i || c .before .before .is-nan3 .ensures i)) (linear || ms i)))
 
 pub nan-refusal-spec : {M : Type 1} → statement M
-nan-refusal-spec = tie.close (tie.spec returns returns-2 returns-3)
+nan-refusal-spec =
+    tie.close
+    (tie.spec
+    refusal-requires
+    enum-known-refusal
+    returns
+    enum-told
+    is-nan-requires
+    is-nan-requires-2
+    is-nan-requires-3
+    is-nan-requires-4
+    tick-causes-requires
+    returns-2)

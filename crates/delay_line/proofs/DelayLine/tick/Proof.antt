@@ -1,80 +1,60 @@
--- `DelayLine::tick` is the tick of `delayLine`: causes 4 and 3, then the ports or their defaults, causes 5 and 6, then the tick with all its ports set.
--- Assumes nothing.
-use Prim.Native.Nat.{ℕ}
+-- `DelayLine::tick` is the tick of `delayLine`: the ports or their defaults, the delay in samples, where there is a NaN the table in its order, then causes
+-- 4 and 3, then the tick itself. Assumes nothing.
+use native.Mathlib.Omega.{arith}
 use mathlib.Core.Path.{_≡_, refl, sym, ap, _∙_}
 use mathlib.Core.Logic.{inl, inr}
-use mathlib.Core.Bool.{Bool, not, _&&_, _||_, cond}
+use mathlib.Core.Bool.{Bool, _||_}
 use lib.ListN.{length}
-use lib.Ieee.{Float, ofBits, round, fits, isNan}
+use lib.Ieee.{ofBits, round}
 use borrow.Author.Needs.{needs}
+use borrow.Author.Tests.{not-false}
 use Rattle.float64.specs.Number.{plusZero, half, isNumber}
 use Rattle.port.specs.Port.{valueOr}
 use Rattle.port.specs.Answer.{number, numberOf}
-use Rattle.port.proofs.Laws.{value-set, value-unset, nan-is, number-some}
-use Rattle.common.specs.Signal.{causeNumber}
+use Rattle.port.proofs.Laws.{value-set, value-unset, number-some}
+use Rattle.common.proofs.Sweep.{neither}
 use Rattle.effect.specs.Run.{tick, reset, numberIn}
-use Rattle.effect.proofs.Table.{Accepted, accepted}
-use Rattle.effect.proofs.Contract.{refuses, tick-number}
+use Rattle.effect.proofs.Table.{Accepted, accepted, tick-accepted, enough}
+use Rattle.effect.proofs.Contract.{refuses, accepts, tick-number}
 use Rattle.effect.proofs.Rows.{unit-refused}
-use Rattle.delay_line.specs.DelayLine.{delayLine, Tick, ticked, tickNumber}
-use Rattle.delay_line.proofs.Laws.{size-fits, read-nan, read-number, allSet, set-does}
+use Rattle.delay_line.specs.DelayLine.{Tick, delayLine, ticked, settings, tickNumber, delayMs}
+use Rattle.delay_line.proofs.Laws.{fits-parts, size, size-fits, setTick, set-row, set-number, no-nan, tick-fits, samples-number, next-is, stored-is, played-is}
 use Rattle.delay_line.proofs.DelayLine.tick.Statement.{statement}
 use Rattle.delay_line.proofs.DelayLine.tick.Tie as tie
 
 -- what the tick is handed
 abbrev handed : tie.Start → Tick
-handed s =
-    let a = s .args in
-    ticked (a .audio) (a .time) (a .feedback) (a .mix) (a .milliseconds)
-
-line-length-requires : tie.Need-line-length-requires
-line-length-requires c κs = search needs
-
-refusal-requires : tie.Need-refusal-requires
-refusal-requires c κs = search needs
-
-enum-known-refusal : tie.Need-enum-known-refusal
-enum-known-refusal c = search needs
-
-returns : tie.Need-returns
-returns c =
-    let refusal = c .before in
-    let s = refusal .before .before .before .before .before in
-    let a = s .args in
-    let cause = refusal .refusal2 .given .0 .0 in
-    refuses delayLine (tick (handed s)) (a .self) (a .mem .now) (number cause)
-    (unit-refused delayLine (length (a .mem .now)) (a .self) (handed s) (sym (ap numberOf (refusal .refusal2 .given .1)) ∙ refusal .before .before .refusal .ensures) (number-some cause))
-    (number-some cause)
-
-enum-told : tie.Need-enum-told
-enum-told c = search needs
+handed s = let a = s .args in ticked (a .audio) (a .time) (a .feedback) (a .mix) (a .milliseconds)
 
 enum-known-audio : tie.Need-enum-known-audio
 enum-known-audio c = search needs
 
-enum-told-2 : tie.Need-enum-told-2
-enum-told-2 c = search needs
+enum-told : tie.Need-enum-told
+enum-told c = search needs
 
 enum-known-time : tie.Need-enum-known-time
 enum-known-time c = search needs
 
-enum-told-3 : tie.Need-enum-told-3
-enum-told-3 c = search needs
+enum-told-2 : tie.Need-enum-told-2
+enum-told-2 c = search needs
 
 enum-known-feedback : tie.Need-enum-known-feedback
 enum-known-feedback c = search needs
 
-enum-told-4 : tie.Need-enum-told-4
-enum-told-4 c = search needs
+enum-told-3 : tie.Need-enum-told-3
+enum-told-3 c = search needs
 
 enum-known-mix : tie.Need-enum-known-mix
 enum-known-mix c = search needs
 
-enum-told-5 : tie.Need-enum-told-5
-enum-told-5 c = search needs
+enum-told-4 : tie.Need-enum-told-4
+enum-told-4 c = search needs
 
-reads-requires : tie.Need-reads-requires
-reads-requires c κs = search needs
+delay-samples-requires : tie.Need-delay-samples-requires
+delay-samples-requires c κs = search needs
+
+line-length-requires : tie.Need-line-length-requires
+line-length-requires c κs = search needs
 
 is-nan-requires : tie.Need-is-nan-requires
 is-nan-requires c κs = search needs
@@ -88,117 +68,148 @@ is-nan-requires-3 c κs = search needs
 nan-refusal-requires : tie.Need-nan-refusal-requires
 nan-refusal-requires c κs = search needs
 
-enum-known-causes : tie.Need-enum-known-causes
-enum-known-causes c = search needs
+enum-known-met : tie.Need-enum-known-met
+enum-known-met c = search needs
 
 -- each port's number, or the default
-module _ (c : tie.At-match5-came) where
+module _ (v : tie.At-match4-came) where
   abbrev start : tie.Start
-  start = c .before .before .before .before .before .before .before .before .before
-
-  audio-is : c .before .before .before .match2 .audio ≡ valueOr (start .args .audio) plusZero
-  unfolding ofBits
-  audio-is =
-      elim (c .before .before .before .match2 .came) [
-        | inl w ↦ value-set plusZero (w .1 .given .1) (w .3)
-        | inr w ↦ value-unset plusZero (w .1 .given .1) (w .2)
-      ]
-
-  time-is : c .before .before .match3 .time ≡ valueOr (start .args .time) half
-  unfolding ofBits round
-  time-is =
-      elim (c .before .before .match3 .came) [
-        | inl w ↦ value-set half (w .1 .given .1) (w .3)
-        | inr w ↦ value-unset half (w .1 .given .1) (w .2)
-      ]
-
-  feedback-is : c .before .match4 .feedback ≡ valueOr (start .args .feedback) plusZero
-  unfolding ofBits
-  feedback-is =
-      elim (c .before .match4 .came) [
-        | inl w ↦ value-set plusZero (w .1 .given .1) (w .3)
-        | inr w ↦ value-unset plusZero (w .1 .given .1) (w .2)
-      ]
-
-  mix-is : c .match5 .mix ≡ valueOr (start .args .mix) half
-  unfolding ofBits round
-  mix-is =
-      elim (c .match5 .came) [
-        | inl w ↦ value-set half (w .1 .given .1) (w .3)
-        | inr w ↦ value-unset half (w .1 .given .1) (w .2)
-      ]
-
-  -- causes 4 and 3 do not apply
-  passed : Accepted delayLine (length (start .args .mem .now)) reset (start .args .self)
-  passed = accepted delayLine (length (start .args .mem .now)) reset (start .args .self) (sym (c .before .before .before .before .before .before .refusal .ensures) ∙ ap numberOf (c .before .before .before .before .enum-told .given .1))
-
-  -- the tick with these numbers
-  abbrev all : Tick
-  all = allSet (handed start) audio-is time-is feedback-is mix-is
-
--- the number by the ports
-module _ (c : tie.After-nan-refusal) where
-  abbrev values : tie.At-match5-came
-  values = c .before .before .before .before .before
+  start = v .before .before .before .before .before
 
   abbrev linear : Bool
-  linear = start values .args .self .«linear_time»
+  linear = start .args .self .«linear_time»
 
-  -- the time, or its default
-  abbrev time : Float
-  time = values .before .before .match3 .time
+  audio-is : v .before .before .before .match .audio ≡ valueOr (start .args .audio) plusZero
+  unfolding ofBits
+  audio-is =
+      elim (v .before .before .before .match .came) [
+        | inl w ↦ value-set plusZero (w .1 .given .1) (w .3)
+        | inr w ↦ value-unset plusZero (w .1 .given .1) (w .2)
+      ]
 
-  -- what is read is no number
-  unread-is : c .before .before .before .is-nan .result ≡ not (isNumber (cond linear time (start values .args .milliseconds)))
-  unread-is = c .before .before .before .is-nan .ensures ∙ ap (λ (x : Float). not (isNumber x)) (c .before .before .before .before .reads .ensures)
+  time-is : v .before .before .match2 .time ≡ valueOr (start .args .time) half
+  unfolding ofBits round
+  time-is =
+      elim (v .before .before .match2 .came) [
+        | inl w ↦ value-set half (w .1 .given .1) (w .3)
+        | inr w ↦ value-unset half (w .1 .given .1) (w .2)
+      ]
 
-  -- so in linear mode the time is none
-  time-none : linear && c .before .before .before .is-nan .result ≡ linear && not (isNumber time)
-  time-none = ap (λ (b : Bool). linear && b) unread-is ∙ read-nan linear time (start values .args .milliseconds)
+  feedback-is : v .before .match3 .feedback ≡ valueOr (start .args .feedback) plusZero
+  unfolding ofBits
+  feedback-is =
+      elim (v .before .match3 .came) [
+        | inl w ↦ value-set plusZero (w .1 .given .1) (w .3)
+        | inr w ↦ value-unset plusZero (w .1 .given .1) (w .2)
+      ]
 
-  -- and in the other the milliseconds
-  milliseconds-are : linear || not (c .before .before .before .is-nan .result) ≡ linear || isNumber (start values .args .milliseconds)
-  milliseconds-are = ap (λ (b : Bool). linear || not b) unread-is ∙ read-number linear time (start values .args .milliseconds)
+  mix-is : v .match4 .mix ≡ valueOr (start .args .mix) half
+  unfolding ofBits round
+  mix-is =
+      elim (v .match4 .came) [
+        | inl w ↦ value-set half (w .1 .given .1) (w .3)
+        | inr w ↦ value-unset half (w .1 .given .1) (w .2)
+      ]
 
-  number-is : (k : ℕ) → numberOf (c .nan-refusal .result) ≡ k → k ≡ numberIn delayLine (tick (handed (start values))) (length (start values .args .mem .now)) (start values .args .self)
-  unfolding tickNumber isNumber fits isNan round
-  number-is k e =
-      let a = start values .args in
-      let u = passed values in
-      let time-set = time-none ∙ ap (λ (b : Bool). linear && b) (nan-is (a .time) half refl (time-is values) refl) in
-      let feedback = nan-is (a .feedback) plusZero refl (feedback-is values) (c .before .before .is-nan2 .ensures) in
-      let mix = nan-is (a .mix) half refl (mix-is values) (c .before .is-nan3 .ensures) in
-      tick-number delayLine (length (a .mem .now)) (a .self) (handed (start values)) (u .fits) (sym (u .number))
-      (sym e ∙ c .nan-refusal .ensures ∙ (λ i. causeNumber (time-set i || (feedback i || mix i)) (milliseconds-are i)))
+  -- the tick with these numbers
+  abbrev set : Tick
+  set = setTick (handed start) linear time-is feedback-is mix-is
 
-  -- and by their numbers
-  set-number-is : (k : ℕ) → numberOf (c .nan-refusal .result) ≡ k → k ≡ numberIn delayLine (tick (all values)) (length (start values .args .mem .now)) (start values .args .self)
-  unfolding tickNumber
-  set-number-is k e =
-      let a = start values .args in
-      let u = passed values in
-      tick-number delayLine (length (a .mem .now)) (a .self) (all values) (u .fits) (sym (u .number))
-      (sym e ∙ c .nan-refusal .ensures ∙ (λ i. causeNumber (time-none i || (c .before .before .is-nan2 .ensures i || c .before .is-nan3 .ensures i)) (milliseconds-are i)))
+-- from the numbers to the tests for NaN
+abbrev values : tie.After-is-nan3 → tie.At-match4-came
+values c = c .before .before .before .before .before
+
+returns : tie.Need-returns
+returns c =
+    let met = c .before in
+    let found = met .before .before in
+    let v = values (found .before .before) in
+    let s = start v in
+    let cause = met .met .given .0 .0 in
+    refuses delayLine (tick (handed s)) (s .args .self) (s .args .mem .now) (number cause)
+    (sym (ap numberOf (met .met .given .1)) ∙ found .nan-refusal .ensures ∙ set-number (handed s) (linear v) (time-is v) (feedback-is v) (mix-is v) (length (s .args .mem .now)) (s .args .self) refl)
+    (number-some cause)
+
+enum-told-5 : tie.Need-enum-told-5
+enum-told-5 c = search needs
+
+refusal-requires : tie.Need-refusal-requires
+refusal-requires c κs = search needs
+
+enum-known-refusal : tie.Need-enum-known-refusal
+enum-known-refusal c = search needs
 
 returns-2 : tie.Need-returns-2
 returns-2 c =
-    let causes = c .before .before .before in
-    let cause = c .before .causes .given .0 .0 in
-    let s = start (values causes) in
+    let refusal = c .before in
+    let found = refusal .before .before in
+    let s = start (values (found .before .before)) in
+    let cause = refusal .refusal2 .given .0 .0 in
     refuses delayLine (tick (handed s)) (s .args .self) (s .args .mem .now) (number cause)
-    (number-is causes (number cause) (ap numberOf (c .before .causes .given .1)))
+    (unit-refused delayLine (length (s .args .mem .now)) (s .args .self) (handed s) (sym (ap numberOf (refusal .refusal2 .given .1)) ∙ found .refusal .ensures) (number-some cause))
     (number-some cause)
 
 enum-told-6 : tie.Need-enum-told-6
 enum-told-6 c = search needs
 
+-- past the NaN tests causes 5 and 6 do not apply
+row : (c : tie.Joined1) → tickNumber (set (values (c .before))) (linear (values (c .before))) ≡ 0
+row c =
+    elim (c .if1 .came) [
+      | inl w ↦
+          (let s = start (values (c .before)) in
+          let a = accepted delayLine (length (s .args .mem .now)) (tick (set (values (c .before)))) (s .args .self) (sym (w .1 .ensures) ∙ ap numberOf (w .3 .given .1)) in
+          tick-accepted delayLine (length (s .args .mem .now)) (set (values (c .before))) (settings (s .args .self)) (a .number) .number)
+      | inr w ↦
+          (let third = c .before in
+          let second = third .before in
+          let first = second .before in
+          let v = values third in
+          let p = neither (first .is-nan .result) (second .is-nan2 .result || third .is-nan3 .result) (w .left) in
+          let q = neither (second .is-nan2 .result) (third .is-nan3 .result) (p .1) in
+          no-nan (handed (start v)) (linear v) (time-is v) (feedback-is v) (mix-is v)
+          (first .before .before .delay-samples .ensures .1 (not-false (isNumber (first .before .before .delay-samples .result)) (sym (first .is-nan .ensures) ∙ p .0)))
+          (not-false (isNumber (v .before .match3 .feedback)) (sym (second .is-nan2 .ensures) ∙ q .0))
+          (not-false (isNumber (v .match4 .mix)) (sym (third .is-nan3 .ensures) ∙ q .1)))
+    ]
+
+-- causes 4 and 3 do not apply either
+module _ (c : tie.After-enum-told6) where
+  abbrev joined : tie.Joined1
+  joined = c .before .before .before
+
+  abbrev ports : tie.At-match4-came
+  ports = values (joined .before)
+
+  abbrev unit : tie.Start
+  unit = start ports
+
+  passed : Accepted delayLine (length (unit .args .mem .now)) reset (unit .args .self)
+  passed = accepted delayLine (length (unit .args .mem .now)) reset (unit .args .self) (sym (c .before .before .refusal .ensures) ∙ ap numberOf (c .enum-told6 .given .1))
+
+  sized : joined .before .before .before .before .line-length .result ≡ size (unit .args .self)
+  sized = size-fits (unit .args .self) (joined .before .before .before .before .line-length .ensures) (passed .fits)
+
+  number-is : 0 ≡ numberIn delayLine (tick (handed unit)) (length (unit .args .mem .now)) (unit .args .self)
+  number-is =
+      tick-number delayLine (length (unit .args .mem .now)) (unit .args .self) (handed unit) (passed .fits) (sym (passed .number))
+      (sym (sym (set-row (handed unit) (linear ports) (time-is ports) (feedback-is ports) (mix-is ports)) ∙ row joined))
+
 advance-requires : tie.Need-advance-requires
+unfolding delayMs
 advance-requires c κs =
     let told = c .before in
-    let causes = told .before .before in
-    let v = values causes in (
-      size-fits (start v .args .self) (v .before .before .before .before .before .before .before .line-length .ensures) (passed v .fits),
-      sym (set-number-is causes 0 (ap numberOf (told .enum-told6 .given .1))),
+    let s = unit told .args .self in
+    let fits = passed told .fits in
+    let ms = samples-number (set (ports told)) s (fits-parts s fits) (tick-fits (set (ports told)) (linear (ports told)) (row (joined told))) in (
+      sized told,
+      (
+        fits,
+        (
+          omega (arith, sized told, enough (size s) _ (passed told .number)),
+          ap isNumber (joined told .before .before .before .before .before .delay-samples .ensures .0) ∙ ms,
+        ),
+      ),
     )
 
 same-length : tie.Need-same-length
@@ -208,34 +219,40 @@ returns-3 : tie.Need-returns-3
 returns-3 c =
     let worked = c .before .before in
     let told = worked .before .before in
-    let causes = told .before .before in
-    let v = values causes in
-    let none = ap numberOf (told .enum-told6 .given .1) in
-    set-does (handed (start v)) (audio-is v) (time-is v) (feedback-is v) (mix-is v) (sym (number-is causes 0 none)) (sym (set-number-is causes 0 none)) (worked .advance .ensures)
+    let v = ports told in
+    let t = handed (unit told) in
+    let a = unit told .args in
+    let m = a .mem .now in
+    let read = joined told .before .before .before .before .before .delay-samples .ensures .0 in
+    let does = worked .advance .ensures in
+    accepts delayLine (tick t) (a .self) m (sym (number-is told))
+    (next-is t (a .self) m (audio-is v) (time-is v) (feedback-is v) (mix-is v) read (sized told) (does .0))
+    (stored-is t (a .self) m (audio-is v) (time-is v) (feedback-is v) (mix-is v) read (does .1 .1))
+    (played-is t (a .self) m (audio-is v) (time-is v) (feedback-is v) (mix-is v) read (does .1 .0))
 
 pub tick-spec : {M : Type 1} → statement M
 tick-spec =
     tie.close
     (tie.spec
-    line-length-requires
-    refusal-requires
-    enum-known-refusal
-    returns
-    enum-told
     enum-known-audio
-    enum-told-2
+    enum-told
     enum-known-time
-    enum-told-3
+    enum-told-2
     enum-known-feedback
-    enum-told-4
+    enum-told-3
     enum-known-mix
-    enum-told-5
-    reads-requires
+    enum-told-4
+    delay-samples-requires
+    line-length-requires
     is-nan-requires
     is-nan-requires-2
     is-nan-requires-3
     nan-refusal-requires
-    enum-known-causes
+    enum-known-met
+    returns
+    enum-told-5
+    refusal-requires
+    enum-known-refusal
     returns-2
     enum-told-6
     advance-requires
