@@ -45,6 +45,13 @@ module _ {A : Type 0} where
   pub tabled-more : (f : ℕ → A) (n : ℕ) (d : List A) {v : A} {l : List A} → n < length d → l ≡ tabled f n d → v ≡ f n → set l n v ≡ tabled f (n + 1) d
   tabled-more f n d h e g = (λ i. set (e i) n (g i)) ∙ rw (add-one n) (tabled-suc f n d h)
 
+  -- its next entry is still the list's
+  pub tabled-next : (f : ℕ → A) (n : ℕ) (d : List A) (z : A) → n < length d → getD (tabled f n d) n z ≡ getD d n z
+  unfolding table
+  tabled-next f n [] z h = absurd (not-suc-le-zero h)
+  tabled-next f zero (x ∷ d) z h = refl
+  tabled-next f (suc n) (x ∷ d) z h = tabled-next (λ j. f (suc j)) n d z (le-of-suc-le-suc h)
+
   -- at the end it is the table
   pub tabled-all : (f : ℕ → A) (n : ℕ) (d : List A) → length d ≡ n → tabled f n d ≡ table f n
   unfolding table
