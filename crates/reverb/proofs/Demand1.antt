@@ -80,8 +80,8 @@ inside t s m e =
     let allpasses = allpassWrite (summed s m) s m in (
       omega (arith, f .predelay),
       below-append 87136 (bySides combs 8) (bySides allpasses 4)
-          (below-sides 87136 combs 8 (λ i h side. omega (arith, comb-place s f side i h)))
-          (below-sides 87136 allpasses 4 (λ i h side. omega (arith, allpass-place s f side i h .1))),
+          (below-sides 87136 combs 8 (λ i h side. omega (arith, comb-place s (λ w. f .sides w .combs) side i h)))
+          (below-sides 87136 allpasses 4 (λ i h side. omega (arith, allpass-place s (λ w. f .sides w .allpasses) side i h .1))),
     )
 
 pub laws : Laws reverb

@@ -1,6 +1,6 @@
 -- The reverb's definitions by their cases: the state test, silence and cause 5. Assumes nothing.
 use Prim.Native.Nat.{_<_}
-use mathlib.Core.Path.{_≡_, sym, ap}
+use mathlib.Core.Path.{_≡_}
 use mathlib.Core.Bool.{Bool, true, false, _&&_, _||_, cond}
 use lib.Dec.{ltb, eqb}
 use mathlib.Core.List.{List}
@@ -15,8 +15,8 @@ use Rattle.common.proofs.Sweep.{no-cause, neither}
 use Rattle.reverb.specs.declared.Lengths.{Lengths}
 use Rattle.reverb.specs.declared.Reverb.{Reverb}
 use Rattle.reverb.specs.Tunings.{Side, left, right, combLengths, allpassLengths, lengthsAt, noLengths}
-use Rattle.reverb.specs.Reverb.{Tick, combPositions, combStores, allpassPositions, allBelow, sideFits, fits, tickNumber, linesZero, silence}
-use Rattle.reverb.proofs.Lists.{and-true, and-false, below-zero}
+use Rattle.reverb.specs.Reverb.{Tick, combPositions, combStores, allpassPositions, allBelow, partsFit, sideFits, fits, tickNumber, linesZero, silence}
+use Rattle.reverb.proofs.Lists.{and-false, below-zero}
 
 -- ---- the state test
 
@@ -61,30 +61,17 @@ module _ (s : Reverb) where
   unfolding fits
   fit f = rw (f .rate, lt-ltb (s .«predelay_pos») 9600 (f .predelay), side-fit left s (f .sides left), side-fit right s (f .sides right))
 
-  -- by every line's length, as `lengths` answers it, and for arrays, which are as long as they are
+  -- by its parts and every line's length, as `lengths` answers it
   pub fits-by : {n : Lengths} → n ≡ cond (rateFits (s .«sample_rate»)) (lengthsAt (s .«sample_rate»)) noLengths
-      → ((side : Side) → length (combStores side s) ≡ 8)
-      → ltb (s .«predelay_pos») 9600
-      && ((allBelow (s .«comb_pos_l») (n .«comb_l») && allBelow (s .«allpass_pos_l») (n .«allpass_l»))
-      && (allBelow (s .«comb_pos_r») (n .«comb_r») && allBelow (s .«allpass_pos_r») (n .«allpass_r»)))
+      → partsFit (s .«comb_pos_l») (s .«comb_pos_r») (s .«comb_filter_state_l») (s .«comb_filter_state_r») (s .«allpass_pos_l») (s .«allpass_pos_r») (s .«predelay_pos») n
       ≡ fits s
   unfolding fits
-  fits-by {n} e stores = go (rateFits (s .«sample_rate»)) e
+  fits-by {n} e = go (rateFits (s .«sample_rate»)) e
     where
-      rate : Float
-      rate = s .«sample_rate»
-
-      side : (w : Side) → allBelow (combPositions w s) (combLengths w rate) && allBelow (allpassPositions w s) (allpassLengths w rate) ≡ sideFits w s
-      side w =
-          rw (eq-eqb (length (combStores w s)) 8 (stores w))
-          (ap (λ (b : Bool). allBelow (combPositions w s) (combLengths w rate) && b) (sym (and-true (allBelow (allpassPositions w s) (allpassLengths w rate)))))
-
-      go : (b : Bool) → n ≡ cond b (lengthsAt rate) noLengths
-          → ltb (s .«predelay_pos») 9600
-          && ((allBelow (s .«comb_pos_l») (n .«comb_l») && allBelow (s .«allpass_pos_l») (n .«allpass_l»))
-          && (allBelow (s .«comb_pos_r») (n .«comb_r») && allBelow (s .«allpass_pos_r») (n .«allpass_r»)))
+      go : (b : Bool) → n ≡ cond b (lengthsAt (s .«sample_rate»)) noLengths
+          → partsFit (s .«comb_pos_l») (s .«comb_pos_r») (s .«comb_filter_state_l») (s .«comb_filter_state_r») (s .«allpass_pos_l») (s .«allpass_pos_r») (s .«predelay_pos») n
           ≡ b && (ltb (s .«predelay_pos») 9600 && (sideFits left s && sideFits right s))
-      go true e = rw e (λ i. ltb (s .«predelay_pos») 9600 && (side left i && side right i))
+      go true e = rw e
       go false e = rw (e, below-zero (s .«comb_pos_l») (replicate 7 0)) (and-false (ltb (s .«predelay_pos») 9600))
 
 -- ---- silence, by every line's length

@@ -3,7 +3,7 @@ use Prim.Native.Nat.{ℕ, zero, suc, _+_, _-_, _*_, _≤_, _<_}
 use native.Mathlib.Nat.{suc-mul, le-of-suc-le-suc, not-suc-le-zero}
 use native.Mathlib.Numerals.{add-one}
 use native.Mathlib.Omega.{arith}
-use mathlib.Core.Path.{_≡_, refl}
+use mathlib.Core.Path.{_≡_, refl, ap}
 use mathlib.Core.Bool.{Bool, true, false, _&&_}
 use mathlib.Core.List.{List, [], _∷_}
 use lib.Dec.{ltb}
@@ -37,6 +37,14 @@ below-at [] (n ∷ ns) i e h = clash e refl
 below-at (w ∷ ws) [] i e h = clash e refl
 below-at (w ∷ ws) (n ∷ ns) zero e h = ltb-true w n (both (ltb w n) (allBelow ws ns) e .0)
 below-at (w ∷ ws) (n ∷ ns) (suc i) e h = below-at ws ns i (both (ltb w n) (allBelow ws ns) e .1) (le-of-suc-le-suc h)
+
+-- as many positions as lengths
+pub below-long : (ws ns : List ℕ) → allBelow ws ns ≡ true → length ws ≡ length ns
+unfolding allBelow
+below-long [] [] e = refl
+below-long [] (n ∷ ns) e = clash e refl
+below-long (w ∷ ws) [] e = clash e refl
+below-long (w ∷ ws) (n ∷ ns) e = ap suc (below-long ws ns (both (ltb w n) (allBelow ws ns) e .1))
 
 -- one entry more
 pub below-more : (ws ns : List ℕ) (i : ℕ) → i < length ws → i < length ns

@@ -22,7 +22,7 @@ use Rattle.effect.proofs.Contract.{accepts}
 use Rattle.reverb.specs.declared.Reverb.{Reverb}
 use Rattle.reverb.specs.Freeverb.{combStore, combFed, passOutput, passFed}
 use Rattle.reverb.specs.Tunings.{Side, left, right}
-use Rattle.reverb.specs.Reverb.{Tick, ticked, reverb, predelayStart, combStores, input, feedback, damping, mix, delaySamples, delayed, predelayed, combPlace, combHeld, sumOf, combStored, combWrite, combMoved, allpassPlace, allpassHeld, passedOn, sided, allpassWrite, allpassMoved, summed, wet, bySides, writes}
+use Rattle.reverb.specs.Reverb.{Tick, ticked, reverb, combState, allpassState, predelayStart, combStores, input, feedback, damping, mix, delaySamples, delayed, predelayed, combPlace, combHeld, sumOf, combStored, combWrite, combMoved, allpassPlace, allpassHeld, passedOn, sided, allpassWrite, allpassMoved, summed, wet, bySides, writes}
 use Rattle.reverb.specs.Reverb as page
 use Rattle.reverb.proofs.Laws.{Fits}
 use Rattle.reverb.proofs.Tank.{comb-place, allpass-place, by-sides-elsewhere}
@@ -38,6 +38,42 @@ by-sides-ext : (f g : ℕ → Side → Write) (n : ℕ) → ((i : ℕ) → i < n
 unfolding bySides
 by-sides-ext f g zero h = refl
 by-sides-ext f g (suc n) h = λ j. by-sides-ext f g n (λ i k. h i (omega arith)) j ++ (h n (omega arith) left j ∷ h n (omega arith) right j ∷ [])
+
+-- ---- the combs and the all-passes read their own parts of a state
+
+abbrev pub onlyCombs : Reverb → Reverb
+onlyCombs s = combState (s .«comb_pos_l») (s .«comb_pos_r») (s .«comb_filter_state_l») (s .«comb_filter_state_r») (s .«sample_rate»)
+
+abbrev pub onlyAllpasses : Reverb → Reverb
+onlyAllpasses s = allpassState (s .«allpass_pos_l») (s .«allpass_pos_r») (s .«sample_rate»)
+
+module _ (s : Reverb) (m : List Float) where
+  held-part : (side : Side) (i : ℕ) → combHeld side (onlyCombs s) m i ≡ combHeld side s m i
+  unfolding combHeld
+  held-part left i = refl
+  held-part right i = refl
+
+  stored-part : (side : Side) (d : Float) (i : ℕ) → combStored side d (onlyCombs s) m i ≡ combStored side d s m i
+  unfolding combHeld combStored
+  stored-part left d i = refl
+  stored-part right d i = refl
+
+  comb-part : (x d f : Float) (i : ℕ) (side : Side) → combWrite x d f (onlyCombs s) m i side ≡ combWrite x d f s m i side
+  unfolding combHeld combStored combWrite
+  comb-part x d f i left = refl
+  comb-part x d f i right = refl
+
+  passed-part : (side : Side) (x : Float) (n : ℕ) → passedOn side x (onlyAllpasses s) m n ≡ passedOn side x s m n
+  unfolding allpassHeld passedOn
+  passed-part left x zero = refl
+  passed-part left x (suc n) = λ j. passOutput (passed-part left x n j) (allpassHeld left s m n)
+  passed-part right x zero = refl
+  passed-part right x (suc n) = λ j. passOutput (passed-part right x n j) (allpassHeld right s m n)
+
+  allpass-part : (x : Side → Float) (i : ℕ) (side : Side) → allpassWrite x (onlyAllpasses s) m i side ≡ allpassWrite x s m i side
+  unfolding allpassHeld allpassWrite
+  allpass-part x i left = λ j. record { place = allpassPlace left s i; value = passFed (passed-part left (x left) i j) (allpassHeld left s m i) }
+  allpass-part x i right = λ j. record { place = allpassPlace right s i; value = passFed (passed-part right (x right) i j) (allpassHeld right s m i) }
 
 -- ---- two memories that agree on the places of a line
 
@@ -75,34 +111,39 @@ module _ (t : Tick) (s : Reverb) (m : List Float) (f : Fits s) where
 
   comb-held : (side : Side) (i : ℕ) → i < 8 → combHeld side s m1 i ≡ combHeld side s m i
   unfolding combHeld
-  comb-held side i h = getD-set-other m _ (combPlace side s i) (input t) nan (omega (arith, comb-place s f side i h))
+  comb-held side i h = getD-set-other m _ (combPlace side s i) (input t) nan (omega (arith, comb-place s (λ w. f .sides w .combs) side i h))
 
   allpass-held : (side : Side) (i : ℕ) → i < 4 → allpassHeld side s m2 i ≡ allpassHeld side s m i
   unfolding allpassHeld combWrite
   allpass-held side i h =
       let p = allpassPlace side s i in
-      let b = allpass-place s f side i h in
-      by-sides-elsewhere (combWrite (predelayed t s m) (damping t) (feedback t) s m) 8 m1 p nan (λ k l w. omega (arith, b .0, comb-place s f w k l))
+      let b = allpass-place s (λ w. f .sides w .allpasses) side i h in
+      by-sides-elsewhere (combWrite (predelayed t s m) (damping t) (feedback t) s m) 8 m1 p nan (λ k l w. omega (arith, b .0, comb-place s (λ w. f .sides w .combs) w k l))
       ∙ getD-set-other m _ p (input t) nan (omega (arith, b .1))
 
   -- ---- from what the code has: the input y of the combs, damping d, feedback b, and the memory n after the predelay's store
 
   module _ {y d b : Float} {n : List Float} (into : y ≡ predelayed t s m) (damped : d ≡ damping t) (fed : b ≡ feedback t) (first : n ≡ m1) where
-    pub stores-are : (side : Side) {l : List Float} → l ≡ table (combStored side d s n) 8 → l ≡ table (combStored side (damping t) s m) 8
+    pub stores-are : (side : Side) {l : List Float} → l ≡ table (combStored side d (onlyCombs s) n) 8 → l ≡ table (combStored side (damping t) s m) 8
     stores-are side e =
         e
+        ∙ table-ext (combStored side d (onlyCombs s) n) (combStored side d s n) 8 (λ i h. stored-part s n side d i)
         ∙ (λ j. table (combStored side (damped j) s (first j)) 8)
         ∙ table-ext (combStored side (damping t) s m1) (combStored side (damping t) s m) 8 (λ i h. same-stored s m m1 side (damping t) i (comb-held side i h))
 
-    pub sum-is : (side : Side) {z : Float} → z ≡ sumOf (combHeld side s n) 8 → mul binary64 z (fraction 1 8) ≡ summed s m side
+    pub sum-is : (side : Side) {z : Float} → z ≡ sumOf (combHeld side (onlyCombs s) n) 8 → mul binary64 z (fraction 1 8) ≡ summed s m side
     unfolding summed
     sum-is side e =
         ap (λ (z : Float). mul binary64 z (fraction 1 8))
-        (e ∙ (λ j. sumOf (combHeld side s (first j)) 8) ∙ sum-ext (combHeld side s m1) (combHeld side s m) 8 (comb-held side))
+        (e
+        ∙ sum-ext (combHeld side (onlyCombs s) n) (combHeld side s n) 8 (λ i h. held-part s n side i)
+        ∙ (λ j. sumOf (combHeld side s (first j)) 8)
+        ∙ sum-ext (combHeld side s m1) (combHeld side s m) 8 (comb-held side))
 
-    pub combs-are-stored : {l : List Float} → l ≡ laid (bySides (combWrite y d b s n) 8) n → l ≡ m2
+    pub combs-are-stored : {l : List Float} → l ≡ laid (bySides (combWrite y d b (onlyCombs s) n) 8) n → l ≡ m2
     combs-are-stored e =
         e
+        ∙ ap (λ (ws : List Write). laid ws n) (by-sides-ext (combWrite y d b (onlyCombs s) n) (combWrite y d b s n) 8 (λ i h side. comb-part s n y d b i side))
         ∙ (λ j. laid (bySides (combWrite (into j) (damped j) (fed j) s (first j)) 8) (first j))
         ∙ ap (λ (ws : List Write). laid ws m1)
         (by-sides-ext (combWrite (predelayed t s m) (damping t) (feedback t) s m1) (combWrite (predelayed t s m) (damping t) (feedback t) s m) 8 (λ i h side. same-comb s m m1 (predelayed t s m) (damping t) (feedback t) i side (comb-held side i h)))
@@ -114,14 +155,15 @@ module _ (t : Tick) (s : Reverb) (m : List Float) (f : Fits s) where
     both left = on-left
     both right = on-right
 
-    pub wet-is : (side : Side) {y : Float} → y ≡ passedOn side (sided x z side) s n 4 → y ≡ wet side s m
+    pub wet-is : (side : Side) {y : Float} → y ≡ passedOn side (sided x z side) (onlyAllpasses s) n 4 → y ≡ wet side s m
     unfolding wet
-    wet-is side e = e ∙ (λ j. passedOn side (both side j) s (second j) 4) ∙ same-passed s m m2 side (summed s m side) 4 (allpass-held side)
+    wet-is side e = e ∙ passed-part s n side (sided x z side) 4 ∙ (λ j. passedOn side (both side j) s (second j) 4) ∙ same-passed s m m2 side (summed s m side) 4 (allpass-held side)
 
-    pub written : {l : List Float} → l ≡ laid (bySides (allpassWrite (sided x z) s n) 4) n → l ≡ laid (writes t s m) m
+    pub written : {l : List Float} → l ≡ laid (bySides (allpassWrite (sided x z) (onlyAllpasses s) n) 4) n → l ≡ laid (writes t s m) m
     unfolding writes
     written e =
         e
+        ∙ ap (λ (ws : List Write). laid ws n) (by-sides-ext (allpassWrite (sided x z) (onlyAllpasses s) n) (allpassWrite (sided x z) s n) 4 (λ i h side. allpass-part s n (sided x z) i side))
         ∙ (λ j. laid (bySides (allpassWrite (λ side. both side j) s (second j)) 4) (second j))
         ∙ ap (λ (ws : List Write). laid ws m2)
         (by-sides-ext (allpassWrite (summed s m) s m2) (allpassWrite (summed s m) s m) 4 (λ i h side. same-allpass s m m2 (summed s m) i side (λ k l. allpass-held side k (omega arith))))

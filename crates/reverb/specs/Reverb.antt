@@ -11,6 +11,7 @@ use Rattle.port.specs.Port.{valueOr, isNanSet}
 use Rattle.common.specs.Signal.{sanitized, blended}
 use Rattle.common.specs.Line.{zeros, nextPlace, lineAt, table, allZero}
 use Rattle.effect.specs.Effect.{Effect, Write}
+use Rattle.reverb.specs.declared.Lengths.{Lengths}
 use Rattle.reverb.specs.declared.Reverb.{Reverb}
 use Rattle.reverb.specs.Freeverb.{combStore, combFed, passOutput, passFed}
 use Rattle.reverb.specs.Tunings.{Side, left, right, combLengths, allpassLengths}
@@ -59,19 +60,30 @@ abbrev pub allpassPositions : Side → Reverb → List ℕ
 allpassPositions left s = s .«allpass_pos_l»
 allpassPositions right s = s .«allpass_pos_r»
 
--- after a start, a retune and a reset: positions 0, damping stores +0
-abbrev pub cleared : Float → Reverb
-cleared rate =
+-- a state of these parts
+abbrev pub stateOf : List ℕ → List ℕ → List Float → List Float → List ℕ → List ℕ → ℕ → Float → Reverb
+stateOf combl combr storesl storesr passl passr predelay rate =
     record {
-      «comb_pos_l» = replicate 8 0;
-      «comb_pos_r» = replicate 8 0;
-      «comb_filter_state_l» = zeros 8;
-      «comb_filter_state_r» = zeros 8;
-      «allpass_pos_l» = replicate 4 0;
-      «allpass_pos_r» = replicate 4 0;
-      «predelay_pos» = 0;
+      «comb_pos_l» = combl;
+      «comb_pos_r» = combr;
+      «comb_filter_state_l» = storesl;
+      «comb_filter_state_r» = storesr;
+      «allpass_pos_l» = passl;
+      «allpass_pos_r» = passr;
+      «predelay_pos» = predelay;
       «sample_rate» = rate;
     }
+
+-- of combs alone, and of all-passes alone: what a step of these reads of a state
+abbrev pub combState : List ℕ → List ℕ → List Float → List Float → Float → Reverb
+combState combl combr storesl storesr rate = stateOf combl combr storesl storesr [] [] 0 rate
+
+abbrev pub allpassState : List ℕ → List ℕ → Float → Reverb
+allpassState passl passr rate = stateOf [] [] [] [] passl passr 0 rate
+
+-- after a start, a retune and a reset: positions 0, damping stores +0
+abbrev pub cleared : Float → Reverb
+cleared rate = stateOf (replicate 8 0) (replicate 8 0) (zeros 8) (zeros 8) (replicate 4 0) (replicate 4 0) 0 rate
 
 -- what a refused start gives
 abbrev pub blank : Reverb
@@ -93,6 +105,13 @@ sideFits side s =
 -- the state test, cause 4
 unfoldable pub fits : Reverb → Bool
 fits s = rateFits (s .«sample_rate») && (ltb (s .«predelay_pos») 9600 && (sideFits left s && sideFits right s))
+
+-- the same by the parts of a state, and by the lengths n
+abbrev pub partsFit : List ℕ → List ℕ → List Float → List Float → List ℕ → List ℕ → ℕ → Lengths → Bool
+partsFit combl combr storesl storesr passl passr predelay n =
+    ltb predelay 9600
+    && ((allBelow combl (n .«comb_l») && (allBelow passl (n .«allpass_l») && eqb (length storesl) 8))
+    && (allBelow combr (n .«comb_r») && (allBelow passr (n .«allpass_r») && eqb (length storesr) 8)))
 
 -- cause 5; cause 6 never applies
 unfoldable pub tickNumber : Tick → ℕ

@@ -14,20 +14,20 @@ ghost use Rattle.effect.specs.Run.{tick, retune, reset, ask, startNumber, numbe
 ghost use Rattle.effect.specs.Contract.{Does, Starts};
 ghost use Rattle.effect.specs.Needed.{placesNeeded};
 ghost use Rattle.reverb.specs.Freeverb.{combed, combLine, passed, passLine};
-ghost use Rattle.reverb.specs.Tunings.{left, right, scaled, spread, beside, lengthsAt, noLengths, tuned};
-ghost use Rattle.reverb.specs.Reverb.{reverb, ticked, cleared, allBelow, fits, delaySamples, delayed, combHeld, sumOf, combStored, combWrite, combMoved, passedOn, sided, allpassWrite, allpassMoved, bySides, linesZero, silence};
+ghost use Rattle.reverb.specs.Tunings.{left, right, scaled, spread, beside, combLengths, allpassLengths, lengthsAt, noLengths, tuned};
+ghost use Rattle.reverb.specs.Reverb.{reverb, ticked, stateOf, combState, allpassState, cleared, allBelow, partsFit, fits, delaySamples, delayed, combHeld, sumOf, combStored, combWrite, combMoved, passedOn, sided, allpassWrite, allpassMoved, bySides, linesZero, silence};
 use port::Answer;
 use port::Outcome;
 use port::Port;
 use port::Refusal;
 use port::Silence;
 
-// How long each line is.
+// How long each line is. Sixteen bits hold every length, and make the 24 of them three moves.
 pub struct Lengths {
-    pub comb_l: [u64; 8],
-    pub comb_r: [u64; 8],
-    pub allpass_l: [u64; 4],
-    pub allpass_r: [u64; 4],
+    pub comb_l: [u16; 8],
+    pub comb_r: [u16; 8],
+    pub allpass_l: [u16; 4],
+    pub allpass_r: [u16; 4],
 }
 
 // What a step of a comb answers, with its next store and position.
@@ -43,22 +43,10 @@ pub struct Passed {
     pub pos: u64,
 }
 
-// What the sixteen combs leave, and their sums.
-pub struct Combs {
-    pub pos_l: [u64; 8],
-    pub pos_r: [u64; 8],
-    pub filter_state_l: [f64; 8],
-    pub filter_state_r: [f64; 8],
-    pub sum_l: f64,
-    pub sum_r: f64,
-}
-
-// What the eight all-passes leave, and what comes out of the last of each side.
-pub struct Passes {
-    pub pos_l: [u64; 4],
-    pub pos_r: [u64; 4],
-    pub output_l: f64,
-    pub output_r: f64,
+// A sample of each side.
+pub struct Sides {
+    pub left: f64,
+    pub right: f64,
 }
 
 // Positions and damping stores, a side at a time, and the rate.
@@ -99,9 +87,9 @@ impl Reverb {
     pub const MAX_PREDELAY_SIZE: usize = 9600;
 
     // The longest lines: one place is left over.
-    pub const MAX_COMB_LENGTH: u64 = 4095;
+    pub const MAX_COMB_LENGTH: u16 = 4095;
 
-    pub const MAX_ALLPASS_LENGTH: u64 = 1499;
+    pub const MAX_ALLPASS_LENGTH: u16 = 1499;
 
     // The places needed, at every rate.
     pub const PLACES: u64 = 87136;
@@ -151,7 +139,7 @@ impl Reverb {
     }
 
     // The left and right lengths of the lines with these tunings.
-    fn scale(tunings: &[u32], ratio: f64, wide: u64, most: u64, left: &mut [u64], right: &mut [u64])
+    fn scale(tunings: &[u32], ratio: f64, wide: u64, most: u16, left: &mut [u16], right: &mut [u16])
         requires { ⌜ tuned (now tunings) ≡ true ⌝ }
         requires { ⌜ inRange ratio (fraction 1 8) (whole 5) ≡ true ⌝ }
         requires { ⌜ ListN.length (now left) ≡ ListN.length (now tunings) ⌝ }
@@ -161,9 +149,9 @@ impl Reverb {
     {
         let mut i: usize = 0;
         while i < tunings.len() {
-            let length = Reverb::scaled(tunings[i], ratio, most);
-            left[i] = length;
-            right[i] = Reverb::beside(length, wide, most);
+            let length = Reverb::scaled(tunings[i], ratio, most as u64);
+            left[i] = length as u16;
+            right[i] = Reverb::beside(length, wide, most as u64) as u16;
             i += 1;
         }
     }
@@ -172,10 +160,10 @@ impl Reverb {
     fn scaled_lengths(rate: f64) -> Lengths
         ensures { λ r. ⌜ r ≡ cond (rateFits rate) (lengthsAt rate) noLengths ⌝ }
     {
-        let mut comb_l: [u64; 8] = [0; 8];
-        let mut comb_r: [u64; 8] = [0; 8];
-        let mut allpass_l: [u64; 4] = [0; 4];
-        let mut allpass_r: [u64; 4] = [0; 4];
+        let mut comb_l: [u16; 8] = [0; 8];
+        let mut comb_r: [u16; 8] = [0; 8];
+        let mut allpass_l: [u16; 4] = [0; 4];
+        let mut allpass_r: [u16; 4] = [0; 4];
         if !float64::rate_fits(rate) {
             return Lengths {
                 comb_l,
@@ -216,10 +204,10 @@ impl Reverb {
     fn lengths_44100() -> Lengths
         ensures { λ r. ⌜ r ≡ lengthsAt (whole 44100) ⌝ }
     {
-        let comb_l: [u64; 8] = [1116, 1188, 1277, 1356, 1422, 1491, 1557, 1617];
-        let comb_r: [u64; 8] = [1139, 1211, 1300, 1379, 1445, 1514, 1580, 1640];
-        let allpass_l: [u64; 4] = [556, 441, 341, 225];
-        let allpass_r: [u64; 4] = [579, 464, 364, 248];
+        let comb_l: [u16; 8] = [1116, 1188, 1277, 1356, 1422, 1491, 1557, 1617];
+        let comb_r: [u16; 8] = [1139, 1211, 1300, 1379, 1445, 1514, 1580, 1640];
+        let allpass_l: [u16; 4] = [556, 441, 341, 225];
+        let allpass_r: [u16; 4] = [579, 464, 364, 248];
         Lengths {
             comb_l,
             comb_r,
@@ -232,10 +220,10 @@ impl Reverb {
     fn lengths_48000() -> Lengths
         ensures { λ r. ⌜ r ≡ lengthsAt (whole 48000) ⌝ }
     {
-        let comb_l: [u64; 8] = [1214, 1293, 1389, 1475, 1547, 1622, 1694, 1760];
-        let comb_r: [u64; 8] = [1239, 1318, 1414, 1500, 1572, 1647, 1719, 1785];
-        let allpass_l: [u64; 4] = [605, 480, 371, 244];
-        let allpass_r: [u64; 4] = [630, 505, 396, 269];
+        let comb_l: [u16; 8] = [1214, 1293, 1389, 1475, 1547, 1622, 1694, 1760];
+        let comb_r: [u16; 8] = [1239, 1318, 1414, 1500, 1572, 1647, 1719, 1785];
+        let allpass_l: [u16; 4] = [605, 480, 371, 244];
+        let allpass_r: [u16; 4] = [630, 505, 396, 269];
         Lengths {
             comb_l,
             comb_r,
@@ -244,15 +232,91 @@ impl Reverb {
         }
     }
 
-    // Every line's length. The two usual rates have theirs at hand: to work them out takes a third of a tick.
+    // Every line's length at 88,200.
+    fn lengths_88200() -> Lengths
+        ensures { λ r. ⌜ r ≡ lengthsAt (whole 88200) ⌝ }
+    {
+        let comb_l: [u16; 8] = [2232, 2376, 2554, 2712, 2844, 2982, 3114, 3234];
+        let comb_r: [u16; 8] = [2278, 2422, 2600, 2758, 2890, 3028, 3160, 3280];
+        let allpass_l: [u16; 4] = [1112, 882, 682, 450];
+        let allpass_r: [u16; 4] = [1158, 928, 728, 496];
+        Lengths {
+            comb_l,
+            comb_r,
+            allpass_l,
+            allpass_r,
+        }
+    }
+
+    // Every line's length at 96,000.
+    fn lengths_96000() -> Lengths
+        ensures { λ r. ⌜ r ≡ lengthsAt (whole 96000) ⌝ }
+    {
+        let comb_l: [u16; 8] = [2429, 2586, 2779, 2951, 3095, 3245, 3389, 3520];
+        let comb_r: [u16; 8] = [2479, 2636, 2829, 3001, 3145, 3295, 3439, 3570];
+        let allpass_l: [u16; 4] = [1210, 960, 742, 489];
+        let allpass_r: [u16; 4] = [1260, 1010, 792, 539];
+        Lengths {
+            comb_l,
+            comb_r,
+            allpass_l,
+            allpass_r,
+        }
+    }
+
+    // Every line's length at 176,400.
+    fn lengths_176400() -> Lengths
+        ensures { λ r. ⌜ r ≡ lengthsAt (whole 176400) ⌝ }
+    {
+        let comb_l: [u16; 8] = [4095, 4095, 4095, 4095, 4095, 4095, 4095, 4095];
+        let comb_r: [u16; 8] = [4095, 4095, 4095, 4095, 4095, 4095, 4095, 4095];
+        let allpass_l: [u16; 4] = [1499, 1499, 1364, 900];
+        let allpass_r: [u16; 4] = [1499, 1499, 1456, 992];
+        Lengths {
+            comb_l,
+            comb_r,
+            allpass_l,
+            allpass_r,
+        }
+    }
+
+    // Every line's length at 192,000.
+    fn lengths_192000() -> Lengths
+        ensures { λ r. ⌜ r ≡ lengthsAt (whole 192000) ⌝ }
+    {
+        let comb_l: [u16; 8] = [4095, 4095, 4095, 4095, 4095, 4095, 4095, 4095];
+        let comb_r: [u16; 8] = [4095, 4095, 4095, 4095, 4095, 4095, 4095, 4095];
+        let allpass_l: [u16; 4] = [1499, 1499, 1484, 979];
+        let allpass_r: [u16; 4] = [1499, 1499, 1499, 1079];
+        Lengths {
+            comb_l,
+            comb_r,
+            allpass_l,
+            allpass_r,
+        }
+    }
+
+    // Every line's length, for a tick. The usual rates have theirs at hand: to work them out takes half as long as the tick itself.
     fn lengths(rate: f64) -> Lengths
         ensures { λ r. ⌜ r ≡ cond (rateFits rate) (lengthsAt rate) noLengths ⌝ }
     {
+        if rate == 48000.0 {
+            return Reverb::lengths_48000();
+        }
         if rate == 44100.0 {
             return Reverb::lengths_44100();
         }
-        if rate == 48000.0 {
-            return Reverb::lengths_48000();
+        if rate == 96000.0 {
+            return Reverb::lengths_96000();
+        }
+        if rate == 88200.0 {
+            return Reverb::lengths_88200();
+        }
+        if rate == 192000.0 {
+            return Reverb::lengths_192000();
+        }
+        if rate == 176400.0 {
+            return Reverb::lengths_176400();
         }
         Reverb::scaled_lengths(rate)
     }
@@ -320,17 +384,41 @@ impl Reverb {
     }
 
     // Whether each position is below its line's length. No branch at each: a tick asks this of 24 lines.
-    fn all_below(positions: &[u64], lengths: &[u64]) -> bool
+    fn all_below(positions: &[u64], lengths: &[u16]) -> bool
         requires { ⌜ ListN.length (now positions) ≡ ListN.length (now lengths) ⌝ }
         ensures { λ r. ⌜ r ≡ allBelow (now (positions .entry)) (now (lengths .entry)) ⌝ }
     {
         let mut below = true;
         let mut i: usize = 0;
         while i < positions.len() {
-            below = below & (positions[i] < lengths[i]);
+            below = below & (positions[i] < lengths[i] as u64);
             i += 1;
         }
         below
+    }
+
+    // The state test, by its parts and every line's length.
+    fn parts_fit(
+        comb_pos_l: &[u64; 8],
+        comb_pos_r: &[u64; 8],
+        comb_filter_state_l: &[f64],
+        comb_filter_state_r: &[f64],
+        allpass_pos_l: &[u64; 4],
+        allpass_pos_r: &[u64; 4],
+        predelay_pos: u64,
+        n: Lengths,
+    ) -> bool
+        ensures { λ r. ⌜ r ≡ partsFit (now («comb_pos_l» .entry)) (now («comb_pos_r» .entry)) (now («comb_filter_state_l» .entry)) (now («comb_filter_state_r» .entry)) (now («allpass_pos_l» .entry)) (now («allpass_pos_r» .entry)) «predelay_pos» n ⌝ }
+    {
+        let n0 = n.comb_l;
+        let n1 = n.allpass_l;
+        let n2 = n.comb_r;
+        let n3 = n.allpass_r;
+        let left = Reverb::all_below(comb_pos_l, &n0)
+            & (Reverb::all_below(allpass_pos_l, &n1) & (comb_filter_state_l.len() == 8));
+        let right = Reverb::all_below(comb_pos_r, &n2)
+            & (Reverb::all_below(allpass_pos_r, &n3) & (comb_filter_state_r.len() == 8));
+        (predelay_pos < 9600) & (left & right)
     }
 
     // The state test, by every line's length.
@@ -339,16 +427,12 @@ impl Reverb {
         ensures { λ r. ⌜ r ≡ fits self ⌝ }
     {
         let w0 = self.comb_pos_l;
-        let n0 = n.comb_l;
-        let w1 = self.allpass_pos_l;
-        let n1 = n.allpass_l;
-        let w2 = self.comb_pos_r;
-        let n2 = n.comb_r;
-        let w3 = self.allpass_pos_r;
-        let n3 = n.allpass_r;
-        let left = Reverb::all_below(&w0, &n0) & Reverb::all_below(&w1, &n1);
-        let right = Reverb::all_below(&w2, &n2) & Reverb::all_below(&w3, &n3);
-        (self.predelay_pos < 9600) & (left & right)
+        let w1 = self.comb_pos_r;
+        let w2 = self.comb_filter_state_l;
+        let w3 = self.comb_filter_state_r;
+        let w4 = self.allpass_pos_l;
+        let w5 = self.allpass_pos_r;
+        Reverb::parts_fit(&w0, &w1, &w2, &w3, &w4, &w5, self.predelay_pos, n)
     }
 
     // Causes 4 and 3: a state that fails its test, and memory that is too short.
@@ -366,7 +450,7 @@ impl Reverb {
     pub fn set_sample_rate(self, sample_rate: f64, mem: &mut [f64]) -> Cleared
         ensures { λ r. ⌜ Does reverb (retune «sample_rate») self (now (mem .entry)) (r .state) (now (mem .exit)) (outcomeReply (r .outcome)) ⌝ }
     {
-        let n = Reverb::lengths(self.sample_rate);
+        let n = Reverb::scaled_lengths(self.sample_rate);
         if !self.state_fits(n) {
             return Cleared {
                 state: self,
@@ -391,7 +475,7 @@ impl Reverb {
     pub fn reset(self, mem: &mut [f64]) -> Cleared
         ensures { λ r. ⌜ Does reverb reset self (now (mem .entry)) (r .state) (now (mem .exit)) (outcomeReply (r .outcome)) ⌝ }
     {
-        let n = Reverb::lengths(self.sample_rate);
+        let n = Reverb::scaled_lengths(self.sample_rate);
         let refusal = self.refusal(n, mem.len());
         if let Outcome::Refused(cause) = refusal {
             return Cleared {
@@ -407,7 +491,7 @@ impl Reverb {
     }
 
     // Whether the lines that lie `apart` places from each other, the first from place o on, are zeros up to their lengths.
-    fn lines_zero(mem: &[f64], o: usize, apart: usize, lengths: &[u64]) -> bool
+    fn lines_zero(mem: &[f64], o: usize, apart: usize, lengths: &[u16]) -> bool
         requires { ⌜ o + ListN.length (now lengths) * apart ≤ ListN.length (now mem) ⌝ }
         requires { ⌜ ((k : ℕ) → k < ListN.length (now lengths) → ListN.getD (now lengths) k 0 ≤ apart) ⌝ }
         ensures { λ r. ⌜ r ≡ linesZero o apart (now (lengths .entry)) (now (mem .entry)) ⌝ }
@@ -456,7 +540,7 @@ impl Reverb {
     pub fn silent(self, mem: &[f64]) -> Silence
         ensures { λ r. ⌜ Does reverb ask self (now (mem .entry)) self (now (mem .entry)) (silenceReply r) ⌝ }
     {
-        let n = Reverb::lengths(self.sample_rate);
+        let n = Reverb::scaled_lengths(self.sample_rate);
         let refusal = self.refusal(n, mem.len());
         if let Outcome::Refused(cause) = refusal {
             return Silence::Refused(cause);
@@ -553,87 +637,100 @@ impl Reverb {
         Reverb::process_allpass(&mut mem[o..e], pos, input, length)
     }
 
-    // The eight combs of each side, with the same input.
-    fn combs(self, n: Lengths, mem: &mut [f64], input: f64, feedback: f64, damping: f64) -> Combs
-        requires { ⌜ fits self ≡ true ⌝ }
-        requires { ⌜ n ≡ lengthsAt (self .«sample_rate») ⌝ }
+    // The eight combs of each side, with the same input: they move the lent positions and stores, and answer their sums. The lengths are those at the rate.
+    fn combs(
+        pos_l: &mut [u64; 8],
+        pos_r: &mut [u64; 8],
+        filter_state_l: &mut [f64],
+        filter_state_r: &mut [f64],
+        rate: f64,
+        n: Lengths,
+        mem: &mut [f64],
+        input: f64,
+        feedback: f64,
+        damping: f64,
+    ) -> Sides
+        requires { ⌜ n ≡ lengthsAt rate ⌝ }
+        requires { ⌜ allBelow (now «pos_l») (combLengths left rate) ≡ true ⌝ }
+        requires { ⌜ allBelow (now «pos_r») (combLengths right rate) ≡ true ⌝ }
+        requires { ⌜ ListN.length (now «filter_state_l») ≡ 8 ⌝ }
+        requires { ⌜ ListN.length (now «filter_state_r») ≡ 8 ⌝ }
         requires { ⌜ 87136 ≤ ListN.length (now mem) ⌝ }
-        ensures { λ r. ⌜ r .«pos_l» ≡ table (combMoved left self) 8 ⌝ }
-        ensures { λ r. ⌜ r .«pos_r» ≡ table (combMoved right self) 8 ⌝ }
-        ensures { λ r. ⌜ r .«filter_state_l» ≡ table (combStored left damping self (now (mem .entry))) 8 ⌝ }
-        ensures { λ r. ⌜ r .«filter_state_r» ≡ table (combStored right damping self (now (mem .entry))) 8 ⌝ }
-        ensures { λ r. ⌜ r .«sum_l» ≡ sumOf (combHeld left self (now (mem .entry))) 8 ⌝ }
-        ensures { λ r. ⌜ r .«sum_r» ≡ sumOf (combHeld right self (now (mem .entry))) 8 ⌝ }
-        ensures { λ _. ⌜ now (mem .exit) ≡ laid (bySides (combWrite input damping feedback self (now (mem .entry))) 8) (now (mem .entry)) ⌝ }
+        ensures { λ _. ⌜ now («pos_l» .exit) ≡ table (combMoved left (combState (now («pos_l» .entry)) (now («pos_r» .entry)) (now («filter_state_l» .entry)) (now («filter_state_r» .entry)) rate)) 8 ⌝ }
+        ensures { λ _. ⌜ now («pos_r» .exit) ≡ table (combMoved right (combState (now («pos_l» .entry)) (now («pos_r» .entry)) (now («filter_state_l» .entry)) (now («filter_state_r» .entry)) rate)) 8 ⌝ }
+        ensures { λ _. ⌜ now («filter_state_l» .exit) ≡ table (combStored left damping (combState (now («pos_l» .entry)) (now («pos_r» .entry)) (now («filter_state_l» .entry)) (now («filter_state_r» .entry)) rate) (now (mem .entry))) 8 ⌝ }
+        ensures { λ _. ⌜ now («filter_state_r» .exit) ≡ table (combStored right damping (combState (now («pos_l» .entry)) (now («pos_r» .entry)) (now («filter_state_l» .entry)) (now («filter_state_r» .entry)) rate) (now (mem .entry))) 8 ⌝ }
+        ensures { λ r. ⌜ r .left ≡ sumOf (combHeld left (combState (now («pos_l» .entry)) (now («pos_r» .entry)) (now («filter_state_l» .entry)) (now («filter_state_r» .entry)) rate) (now (mem .entry))) 8 ⌝ }
+        ensures { λ r. ⌜ r .right ≡ sumOf (combHeld right (combState (now («pos_l» .entry)) (now («pos_r» .entry)) (now («filter_state_l» .entry)) (now («filter_state_r» .entry)) rate) (now (mem .entry))) 8 ⌝ }
+        ensures { λ _. ⌜ now (mem .exit) ≡ laid (bySides (combWrite input damping feedback (combState (now («pos_l» .entry)) (now («pos_r» .entry)) (now («filter_state_l» .entry)) (now («filter_state_r» .entry)) rate) (now (mem .entry))) 8) (now (mem .entry)) ⌝ }
     {
-        let mut pos_l = self.comb_pos_l;
-        let mut pos_r = self.comb_pos_r;
-        let mut filter_state_l = self.comb_filter_state_l;
-        let mut filter_state_r = self.comb_filter_state_r;
         let mut sum_l = 0.0;
         let mut sum_r = 0.0;
         let mut i: usize = 0;
         while i < 8 {
             let o = i * Reverb::MAX_COMB_SIZE;
-            let w = self.comb_pos_l[i];
-            let store = self.comb_filter_state_l[i];
-            let l = Reverb::comb_at(mem, o, w, store, input, n.comb_l[i], feedback, damping);
+            let w = pos_l[i];
+            let store = filter_state_l[i];
+            let length = n.comb_l[i] as u64;
+            let l = Reverb::comb_at(mem, o, w, store, input, length, feedback, damping);
             pos_l[i] = l.pos;
             filter_state_l[i] = l.filter_state;
             sum_l = sum_l + l.output;
             let o = Reverb::COMBS_R + i * Reverb::MAX_COMB_SIZE;
-            let w = self.comb_pos_r[i];
-            let store = self.comb_filter_state_r[i];
-            let r = Reverb::comb_at(mem, o, w, store, input, n.comb_r[i], feedback, damping);
+            let w = pos_r[i];
+            let store = filter_state_r[i];
+            let length = n.comb_r[i] as u64;
+            let r = Reverb::comb_at(mem, o, w, store, input, length, feedback, damping);
             pos_r[i] = r.pos;
             filter_state_r[i] = r.filter_state;
             sum_r = sum_r + r.output;
             i += 1;
         }
-        Combs {
-            pos_l,
-            pos_r,
-            filter_state_l,
-            filter_state_r,
-            sum_l,
-            sum_r,
+        Sides {
+            left: sum_l,
+            right: sum_r,
         }
     }
 
-    // The four all-passes of each side, one after the other.
-    fn allpasses(self, n: Lengths, mem: &mut [f64], input_l: f64, input_r: f64) -> Passes
-        requires { ⌜ fits self ≡ true ⌝ }
-        requires { ⌜ n ≡ lengthsAt (self .«sample_rate») ⌝ }
+    // The four all-passes of each side, one after the other: they move the lent positions, and answer what comes out of the last.
+    fn allpasses(
+        pos_l: &mut [u64; 4],
+        pos_r: &mut [u64; 4],
+        rate: f64,
+        n: Lengths,
+        mem: &mut [f64],
+        input_l: f64,
+        input_r: f64,
+    ) -> Sides
+        requires { ⌜ n ≡ lengthsAt rate ⌝ }
+        requires { ⌜ allBelow (now «pos_l») (allpassLengths left rate) ≡ true ⌝ }
+        requires { ⌜ allBelow (now «pos_r») (allpassLengths right rate) ≡ true ⌝ }
         requires { ⌜ 87136 ≤ ListN.length (now mem) ⌝ }
-        ensures { λ r. ⌜ r .«pos_l» ≡ table (allpassMoved left self) 4 ⌝ }
-        ensures { λ r. ⌜ r .«pos_r» ≡ table (allpassMoved right self) 4 ⌝ }
-        ensures { λ r. ⌜ r .«output_l» ≡ passedOn left «input_l» self (now (mem .entry)) 4 ⌝ }
-        ensures { λ r. ⌜ r .«output_r» ≡ passedOn right «input_r» self (now (mem .entry)) 4 ⌝ }
-        ensures { λ _. ⌜ now (mem .exit) ≡ laid (bySides (allpassWrite (sided «input_l» «input_r») self (now (mem .entry))) 4) (now (mem .entry)) ⌝ }
+        ensures { λ _. ⌜ now («pos_l» .exit) ≡ table (allpassMoved left (allpassState (now («pos_l» .entry)) (now («pos_r» .entry)) rate)) 4 ⌝ }
+        ensures { λ _. ⌜ now («pos_r» .exit) ≡ table (allpassMoved right (allpassState (now («pos_l» .entry)) (now («pos_r» .entry)) rate)) 4 ⌝ }
+        ensures { λ r. ⌜ r .left ≡ passedOn left «input_l» (allpassState (now («pos_l» .entry)) (now («pos_r» .entry)) rate) (now (mem .entry)) 4 ⌝ }
+        ensures { λ r. ⌜ r .right ≡ passedOn right «input_r» (allpassState (now («pos_l» .entry)) (now («pos_r» .entry)) rate) (now (mem .entry)) 4 ⌝ }
+        ensures { λ _. ⌜ now (mem .exit) ≡ laid (bySides (allpassWrite (sided «input_l» «input_r») (allpassState (now («pos_l» .entry)) (now («pos_r» .entry)) rate) (now (mem .entry))) 4) (now (mem .entry)) ⌝ }
     {
-        let mut pos_l = self.allpass_pos_l;
-        let mut pos_r = self.allpass_pos_r;
         let mut output_l = input_l;
         let mut output_r = input_r;
         let mut i: usize = 0;
         while i < 4 {
             let o = Reverb::ALLPASSES_L + i * Reverb::MAX_ALLPASS_SIZE;
-            let w = self.allpass_pos_l[i];
-            let l = Reverb::allpass_at(mem, o, w, output_l, n.allpass_l[i]);
+            let w = pos_l[i];
+            let l = Reverb::allpass_at(mem, o, w, output_l, n.allpass_l[i] as u64);
             pos_l[i] = l.pos;
             output_l = l.output;
             let o = Reverb::ALLPASSES_R + i * Reverb::MAX_ALLPASS_SIZE;
-            let w = self.allpass_pos_r[i];
-            let r = Reverb::allpass_at(mem, o, w, output_r, n.allpass_r[i]);
+            let w = pos_r[i];
+            let r = Reverb::allpass_at(mem, o, w, output_r, n.allpass_r[i] as u64);
             pos_r[i] = r.pos;
             output_r = r.output;
             i += 1;
         }
-        Passes {
-            pos_l,
-            pos_r,
-            output_l,
-            output_r,
+        Sides {
+            left: output_l,
+            right: output_r,
         }
     }
 
@@ -668,7 +765,14 @@ impl Reverb {
 
     // An accepted tick with all its ports set. The predelay writes before it reads, every other line reads first.
     fn advance(
-        self,
+        comb_pos_l: &mut [u64; 8],
+        comb_pos_r: &mut [u64; 8],
+        comb_filter_state_l: &mut [f64],
+        comb_filter_state_r: &mut [f64],
+        allpass_pos_l: &mut [u64; 4],
+        allpass_pos_r: &mut [u64; 4],
+        predelay_pos: &mut u64,
+        rate: f64,
         n: Lengths,
         mem: &mut [f64],
         audio: f64,
@@ -676,44 +780,109 @@ impl Reverb {
         damping: f64,
         mix: f64,
         predelay: f64,
-    ) -> Ticked
-        requires { ⌜ n ≡ lengthsAt (self .«sample_rate») ⌝ }
-        requires { ⌜ numberIn reverb (tick (ticked (Set audio) (Set size) (Set damping) (Set mix) (Set predelay))) (ListN.length (now mem)) self ≡ 0 ⌝ }
-        ensures { λ r. ⌜ Does reverb (tick (ticked (Set audio) (Set size) (Set damping) (Set mix) (Set predelay))) self (now (mem .entry)) (r .state) (now (mem .exit)) (answerReply (r .answer)) ⌝ }
+    ) -> Answer
+        requires { ⌜ n ≡ lengthsAt rate ⌝ }
+        requires { ⌜ numberIn reverb (tick (ticked (Set audio) (Set size) (Set damping) (Set mix) (Set predelay))) (ListN.length (now mem)) (stateOf (now «comb_pos_l») (now «comb_pos_r») (now «comb_filter_state_l») (now «comb_filter_state_r») (now «allpass_pos_l») (now «allpass_pos_r») (now «predelay_pos») rate) ≡ 0 ⌝ }
+        ensures { λ r. ⌜ Does reverb (tick (ticked (Set audio) (Set size) (Set damping) (Set mix) (Set predelay))) (stateOf (now («comb_pos_l» .entry)) (now («comb_pos_r» .entry)) (now («comb_filter_state_l» .entry)) (now («comb_filter_state_r» .entry)) (now («allpass_pos_l» .entry)) (now («allpass_pos_r» .entry)) (now («predelay_pos» .entry)) rate) (now (mem .entry)) (stateOf (now («comb_pos_l» .exit)) (now («comb_pos_r» .exit)) (now («comb_filter_state_l» .exit)) (now («comb_filter_state_r» .exit)) (now («allpass_pos_l» .exit)) (now («allpass_pos_r» .exit)) (now («predelay_pos» .exit)) rate) (now (mem .exit)) (answerReply r) ⌝ }
     {
         let input = common::sanitize_audio(audio);
         let feedback = 0.28 + float64::clamp(size, 0.0, 1.0) * 0.7;
         let damp = float64::clamp(damping, 0.0, 1.0) * 0.4;
         let wet = float64::clamp(mix, 0.0, 1.0);
         let control = float64::clamp(predelay, 0.0, 1.0);
-        let samples = Reverb::predelay_samples(control, self.sample_rate);
-        let w = self.predelay_pos;
+        let samples = Reverb::predelay_samples(control, rate);
+        let w = *predelay_pos;
         let o = Reverb::PREDELAY;
         let e = Reverb::END;
         let delayed = Reverb::process_predelay(&mut mem[o..e], w, samples, input);
-        let combs = self.combs(n, mem, delayed, feedback, damp);
-        let passes = self.allpasses(n, mem, combs.sum_l * 0.125, combs.sum_r * 0.125);
-        let comb_pos_l = combs.pos_l;
-        let comb_pos_r = combs.pos_r;
-        let comb_filter_state_l = combs.filter_state_l;
-        let comb_filter_state_r = combs.filter_state_r;
-        let allpass_pos_l = passes.pos_l;
-        let allpass_pos_r = passes.pos_r;
-        let left = common::blend(input, passes.output_l, wet);
-        let right = common::blend(input, passes.output_r, wet);
-        Ticked {
-            state: Reverb {
-                comb_pos_l,
-                comb_pos_r,
-                comb_filter_state_l,
-                comb_filter_state_r,
-                allpass_pos_l,
-                allpass_pos_r,
-                predelay_pos: common::next_place(9600, w),
-                sample_rate: self.sample_rate,
-            },
-            answer: Answer::Two(left, right),
+        *predelay_pos = common::next_place(9600, w);
+        let sums = Reverb::combs(
+            comb_pos_l,
+            comb_pos_r,
+            comb_filter_state_l,
+            comb_filter_state_r,
+            rate,
+            n,
+            mem,
+            delayed,
+            feedback,
+            damp,
+        );
+        let into_l = sums.left * 0.125;
+        let into_r = sums.right * 0.125;
+        let passed = Reverb::allpasses(allpass_pos_l, allpass_pos_r, rate, n, mem, into_l, into_r);
+        let left = common::blend(input, passed.left, wet);
+        let right = common::blend(input, passed.right, wet);
+        Answer::Two(left, right)
+    }
+
+    // One sample, on a state that is lent in its parts: it is moved where it lies, and left as it was by a tick that is refused. A state by value would be
+    // copied whole, in and out, at each tick.
+    pub fn tick_in_place(
+        comb_pos_l: &mut [u64; 8],
+        comb_pos_r: &mut [u64; 8],
+        comb_filter_state_l: &mut [f64; 8],
+        comb_filter_state_r: &mut [f64; 8],
+        allpass_pos_l: &mut [u64; 4],
+        allpass_pos_r: &mut [u64; 4],
+        predelay_pos: &mut u64,
+        rate: f64,
+        mem: &mut [f64],
+        audio: Port,
+        size: Port,
+        damping: Port,
+        mix: Port,
+        predelay: Port,
+    ) -> Answer
+        ensures { λ r. ⌜ Does reverb (tick (ticked audio size damping mix predelay)) (stateOf (now («comb_pos_l» .entry)) (now («comb_pos_r» .entry)) (now («comb_filter_state_l» .entry)) (now («comb_filter_state_r» .entry)) (now («allpass_pos_l» .entry)) (now («allpass_pos_r» .entry)) (now («predelay_pos» .entry)) rate) (now (mem .entry)) (stateOf (now («comb_pos_l» .exit)) (now («comb_pos_r» .exit)) (now («comb_filter_state_l» .exit)) (now («comb_filter_state_r» .exit)) (now («allpass_pos_l» .exit)) (now («allpass_pos_r» .exit)) (now («predelay_pos» .exit)) rate) (now (mem .exit)) (answerReply r) ⌝ }
+    {
+        let n = Reverb::lengths(rate);
+        if !Reverb::parts_fit(
+            comb_pos_l,
+            comb_pos_r,
+            comb_filter_state_l,
+            comb_filter_state_r,
+            allpass_pos_l,
+            allpass_pos_r,
+            *predelay_pos,
+            n,
+        ) {
+            return Answer::Refused(Refusal::State);
         }
+        let memory = effect::check_memory(Reverb::PLACES, mem.len());
+        if let Outcome::Refused(cause) = memory {
+            return Answer::Refused(cause);
+        }
+        let audio = if let Port::Set(x) = audio { x } else { 0.0 };
+        let size = if let Port::Set(x) = size { x } else { 0.5 };
+        let damping = if let Port::Set(x) = damping { x } else { 0.5 };
+        let mix = if let Port::Set(x) = mix { x } else { 0.5 };
+        let predelay = if let Port::Set(x) = predelay { x } else { 0.0 };
+        let causes = common::tick_causes(
+            float64::is_nan(size)
+                | (float64::is_nan(damping) | (float64::is_nan(mix) | float64::is_nan(predelay))),
+            true,
+        );
+        if let Outcome::Refused(cause) = causes {
+            return Answer::Refused(cause);
+        }
+        Reverb::advance(
+            comb_pos_l,
+            comb_pos_r,
+            comb_filter_state_l,
+            comb_filter_state_r,
+            allpass_pos_l,
+            allpass_pos_r,
+            predelay_pos,
+            rate,
+            n,
+            mem,
+            audio,
+            size,
+            damping,
+            mix,
+            predelay,
+        )
     }
 
     // One sample.
@@ -728,30 +897,41 @@ impl Reverb {
     ) -> Ticked
         ensures { λ r. ⌜ Does reverb (tick (ticked audio size damping mix predelay)) self (now (mem .entry)) (r .state) (now (mem .exit)) (answerReply (r .answer)) ⌝ }
     {
-        let n = Reverb::lengths(self.sample_rate);
-        let refusal = self.refusal(n, mem.len());
-        if let Outcome::Refused(cause) = refusal {
-            return Ticked {
-                state: self,
-                answer: Answer::Refused(cause),
-            };
-        }
-        let audio = if let Port::Set(x) = audio { x } else { 0.0 };
-        let size = if let Port::Set(x) = size { x } else { 0.5 };
-        let damping = if let Port::Set(x) = damping { x } else { 0.5 };
-        let mix = if let Port::Set(x) = mix { x } else { 0.5 };
-        let predelay = if let Port::Set(x) = predelay { x } else { 0.0 };
-        let causes = common::tick_causes(
-            float64::is_nan(size)
-                | (float64::is_nan(damping) | (float64::is_nan(mix) | float64::is_nan(predelay))),
-            true,
+        let mut comb_pos_l = self.comb_pos_l;
+        let mut comb_pos_r = self.comb_pos_r;
+        let mut comb_filter_state_l = self.comb_filter_state_l;
+        let mut comb_filter_state_r = self.comb_filter_state_r;
+        let mut allpass_pos_l = self.allpass_pos_l;
+        let mut allpass_pos_r = self.allpass_pos_r;
+        let mut predelay_pos = self.predelay_pos;
+        let answer = Reverb::tick_in_place(
+            &mut comb_pos_l,
+            &mut comb_pos_r,
+            &mut comb_filter_state_l,
+            &mut comb_filter_state_r,
+            &mut allpass_pos_l,
+            &mut allpass_pos_r,
+            &mut predelay_pos,
+            self.sample_rate,
+            mem,
+            audio,
+            size,
+            damping,
+            mix,
+            predelay,
         );
-        if let Outcome::Refused(cause) = causes {
-            return Ticked {
-                state: self,
-                answer: Answer::Refused(cause),
-            };
+        Ticked {
+            state: Reverb {
+                comb_pos_l,
+                comb_pos_r,
+                comb_filter_state_l,
+                comb_filter_state_r,
+                allpass_pos_l,
+                allpass_pos_r,
+                predelay_pos,
+                sample_rate: self.sample_rate,
+            },
+            answer,
         }
-        self.advance(n, mem, audio, size, damping, mix, predelay)
     }
 }

@@ -33,6 +33,9 @@ mul-below-2 c = search needs
 shared-slice-read-below-2 : tie.Need-shared-slice-read-below-2 Inv-loop μ-loop
 shared-slice-read-below-2 c = omega (arith, c .before .before .before .before .pre)
 
+cast-below : tie.Need-cast-below Inv-loop μ-loop
+cast-below c = omega (arith, c .shared-slice-known2 .given (c .before .before .before .loop .i))
+
 add-i : tie.Need-add-i Inv-loop μ-loop
 add-i c = search needs
 
@@ -71,6 +74,7 @@ all-below-spec =
     shared-slice-read-below
     mul-below-2
     shared-slice-read-below-2
+    cast-below
     add-i
     loop-less
     loop-again

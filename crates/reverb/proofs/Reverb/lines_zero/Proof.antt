@@ -67,6 +67,9 @@ module _ (c : tie.In-loop Inv-loop μ-loop) where
       let k : o + n - o ≡ n = omega arith in
       e ∙ ap (λ (j : ℕ). allZero (take j (drop o (start .args .mem .now)))) k
 
+cast-end : tie.Need-cast-end Inv-loop μ-loop
+cast-end c = omega (arith, c .shared-slice-known3 .given (c .before .before .loop .i))
+
 add-end : tie.Need-add-end Inv-loop μ-loop
 add-end c = omega (arith, line-end (c .before))
 
@@ -120,6 +123,7 @@ lines-zero-spec =
     loop-holds
     mul-end
     shared-slice-read-end
+    cast-end
     add-end
     mul-all-zero
     sub-all-zero

@@ -10,8 +10,8 @@ use Rattle.reverb.specs.Reverb.{reverb}
 use Rattle.reverb.proofs.Reverb.reset.Statement.{statement}
 use Rattle.reverb.proofs.Reverb.reset.Tie as tie
 
-lengths-requires : tie.Need-lengths-requires
-lengths-requires c κs = search needs
+scaled-lengths-requires : tie.Need-scaled-lengths-requires
+scaled-lengths-requires c κs = search needs
 
 refusal-requires : tie.Need-refusal-requires
 refusal-requires c κs = search needs
@@ -56,7 +56,7 @@ pub reset-spec : {M : Type 1} → statement M
 reset-spec =
     tie.close
     (tie.spec
-    lengths-requires
+    scaled-lengths-requires
     refusal-requires
     enum-known-refusal
     returns

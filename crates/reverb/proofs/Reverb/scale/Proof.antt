@@ -34,6 +34,10 @@ scaled-requires c κs =
     let t = tuned-at (s .args .tunings .now) (c .before .before .loop .i) (s .pre .0) (omega arith) in
     (t .0, (t .1, s .pre .1 .0))
 
+cast-left : tie.Need-cast-left Inv-loop μ-loop
+unfolding scaled
+cast-left c = omega (arith, c .scaled .ensures, c .before .before .before .before .before .before .before .fits .most)
+
 mul-left : tie.Need-mul-left Inv-loop μ-loop
 mul-left c = search needs
 
@@ -43,6 +47,10 @@ slice-write-left c = omega (arith, c .before .before .before .loop .inv .1, c .b
 beside-requires : tie.Need-beside-requires Inv-loop μ-loop
 unfolding scaled
 beside-requires c κs = omega (arith, c .scaled .ensures)
+
+cast-right : tie.Need-cast-right Inv-loop μ-loop
+unfolding beside
+cast-right c = omega (arith, c .beside .ensures, c .before .before .before .before .before .before .before .before .fits .most)
 
 mul-right : tie.Need-mul-right Inv-loop μ-loop
 mul-right c = search needs
@@ -96,9 +104,11 @@ scale-spec =
     mul-scaled
     shared-slice-read-scaled
     scaled-requires
+    cast-left
     mul-left
     slice-write-left
     beside-requires
+    cast-right
     mul-right
     slice-write-right
     add-i

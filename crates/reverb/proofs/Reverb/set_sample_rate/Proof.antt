@@ -12,8 +12,8 @@ use Rattle.reverb.specs.Reverb.{reverb}
 use Rattle.reverb.proofs.Reverb.set_sample_rate.Statement.{statement}
 use Rattle.reverb.proofs.Reverb.set_sample_rate.Tie as tie
 
-lengths-requires : tie.Need-lengths-requires
-lengths-requires c κs = search needs
+scaled-lengths-requires : tie.Need-scaled-lengths-requires
+scaled-lengths-requires c κs = search needs
 
 state-fits-requires : tie.Need-state-fits-requires
 state-fits-requires c κs = search needs
@@ -71,7 +71,7 @@ pub set-sample-rate-spec : {M : Type 1} → statement M
 set-sample-rate-spec =
     tie.close
     (tie.spec
-    lengths-requires
+    scaled-lengths-requires
     state-fits-requires
     returns
     rate-refusal-requires

@@ -15,8 +15,8 @@ use borrow.Author.Needs.{needs}
 use Rattle.reverb.proofs.Reverb.silent.Statement.{statement}
 use Rattle.reverb.proofs.Reverb.silent.Tie as tie
 
-lengths-requires : tie.Need-lengths-requires
-lengths-requires c κs = search needs
+scaled-lengths-requires : tie.Need-scaled-lengths-requires
+scaled-lengths-requires c κs = search needs
 
 refusal-requires : tie.Need-refusal-requires
 refusal-requires c κs = search needs
@@ -47,7 +47,7 @@ module _ (c : tie.After-enum-told) where
 all-silent-requires : tie.Need-all-silent-requires
 all-silent-requires c κs =
     let s = start c .args .self in
-    (lengths-are (s .«sample_rate») (fits-parts s (passed c .fits) .rate) (c .before .before .before .lengths .ensures), enough 87136 _ (passed c .number))
+    (lengths-are (s .«sample_rate») (fits-parts s (passed c .fits) .rate) (c .before .before .before .scaled-lengths .ensures), enough 87136 _ (passed c .number))
 
 -- accepted, with the answer b
 answered : (c : tie.After-all-silent) (b : Bool) → c .all-silent .result ≡ b
@@ -71,7 +71,7 @@ pub silent-spec : {M : Type 1} → statement M
 silent-spec =
     tie.close
     (tie.spec
-    lengths-requires
+    scaled-lengths-requires
     refusal-requires
     enum-known-refusal
     returns

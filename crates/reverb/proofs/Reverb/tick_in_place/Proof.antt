@@ -1,25 +1,28 @@
--- `Reverb::tick` is the tick of `reverb`: causes 4 and 3, then the ports or their defaults, cause 5, then the tick with all its ports set. Assumes nothing.
+-- `Reverb::tick_in_place` is the tick of `reverb` on what is lent: causes 4 and 3, then the ports or their defaults, cause 5, then the tick with all its ports
+-- set. Assumes nothing.
 use Prim.Native.Nat.{ℕ}
+use native.Mathlib.Omega.{arith}
 use mathlib.Core.Path.{_≡_, refl, sym, ap, _∙_}
 use mathlib.Core.Logic.{inl, inr}
 use mathlib.Core.Bool.{true, _||_}
 use lib.ListN.{length}
-use lib.Ieee.{ofBits, round, fits, isNan}
+use lib.Ieee.{ofBits, round, isNan}
+use lib.Ieee as Ieee
+use borrow.Author.Needs.{needs}
+use borrow.Author.Tests.{not-true, not-false}
 use Rattle.float64.specs.Number.{plusZero, half, isNumber}
 use Rattle.port.specs.Port.{valueOr}
 use Rattle.port.specs.Answer.{number, numberOf}
 use Rattle.port.proofs.Laws.{value-set, value-unset, nan-is, number-some}
 use Rattle.common.specs.Signal.{causeNumber}
-use Rattle.effect.specs.Run.{tick, reset, numberIn}
-use Rattle.effect.proofs.Table.{Accepted, accepted}
-use Rattle.effect.proofs.Contract.{refuses, tick-number}
-use Rattle.effect.proofs.Rows.{unit-refused}
-use Rattle.reverb.specs.Reverb.{reverb, Tick, ticked, tickNumber}
-use Rattle.reverb.proofs.Laws.{fits-parts, lengths-are}
+use Rattle.effect.specs.Run.{tick, memoryNumber, numberIn}
+use Rattle.effect.proofs.Contract.{refuses, state-refused, tick-memory, tick-number}
+use Rattle.reverb.specs.declared.Reverb.{Reverb}
+use Rattle.reverb.specs.Reverb.{reverb, Tick, ticked, stateOf, fits, tickNumber}
+use Rattle.reverb.proofs.Laws.{fits-by, fits-parts, lengths-are}
 use Rattle.reverb.proofs.Ticks.{allSet, set-does}
-use borrow.Author.Needs.{needs}
-use Rattle.reverb.proofs.Reverb.tick.Statement.{statement}
-use Rattle.reverb.proofs.Reverb.tick.Tie as tie
+use Rattle.reverb.proofs.Reverb.tick_in_place.Statement.{statement}
+use Rattle.reverb.proofs.Reverb.tick_in_place.Tie as tie
 
 -- what the tick is handed
 abbrev handed : tie.Start → Tick
@@ -27,23 +30,57 @@ handed s =
     let a = s .args in
     ticked (a .audio) (a .size) (a .damping) (a .mix) (a .predelay)
 
+-- and what is lent to it, as a state
+abbrev self : tie.Start → Reverb
+self s =
+    let a = s .args in
+    stateOf (a .comb-pos-l .now) (a .comb-pos-r .now) (a .comb-filter-state-l .now) (a .comb-filter-state-r .now) (a .allpass-pos-l .now) (a .allpass-pos-r .now) (a .predelay-pos .now) (a .rate)
+
 lengths-requires : tie.Need-lengths-requires
 lengths-requires c κs = search needs
 
-refusal-requires : tie.Need-refusal-requires
-refusal-requires c κs = search needs
+parts-fit-requires : tie.Need-parts-fit-requires
+parts-fit-requires c κs = search needs
 
-enum-known-refusal : tie.Need-enum-known-refusal
-enum-known-refusal c = search needs
+-- the state test
+module _ (c : tie.After-parts-fit) where
+  abbrev tested : tie.Start
+  tested = c .before .before .before .before .before .before .before .before .before .before .before .before
+
+  fits-is : c .parts-fit .result ≡ fits (self tested)
+  fits-is = c .parts-fit .ensures ∙ fits-by (self tested) (c .before .before .before .before .before .before .before .before .before .before .lengths .ensures)
 
 returns : tie.Need-returns
 returns c =
-    let refusal = c .before in
-    let s = refusal .before .before .before .before .before in
-    let a = s .args in
-    let cause = refusal .refusal2 .given .0 .0 in
-    refuses reverb (tick (handed s)) (a .self) (a .mem .now) (number cause)
-    (unit-refused reverb (length (a .mem .now)) (a .self) (handed s) (sym (ap numberOf (refusal .refusal2 .given .1)) ∙ refusal .before .before .refusal .ensures) (number-some cause))
+    let s = tested (c .before) in
+    let m = s .args .mem .now in
+    refuses reverb (tick (handed s)) (self s) m 4
+    (state-refused reverb (length m) (self s) (tick (handed s)) (sym (fits-is (c .before)) ∙ not-true _ (c .if1 .taken)))
+    (omega arith)
+
+check-memory-requires : tie.Need-check-memory-requires
+check-memory-requires c κs = search needs
+
+enum-known-memory : tie.Need-enum-known-memory
+enum-known-memory c = search needs
+
+-- the memory's test, past that of the state
+module _ (c : tie.After-check-memory) where
+  abbrev begun : tie.Start
+  begun = tested (c .before .before)
+
+  passed : fits (self begun) ≡ true
+  passed = sym (fits-is (c .before .before)) ∙ not-false _ (c .before .if1 .left)
+
+returns-2 : tie.Need-returns-2
+returns-2 c =
+    let memory = c .before in
+    let p = memory .before .before in
+    let s = begun p in
+    let m = s .args .mem .now in
+    let cause = memory .memory .given .0 .0 in
+    refuses reverb (tick (handed s)) (self s) m (number cause)
+    (tick-memory reverb (length m) (self s) (handed s) (passed p) (sym (ap numberOf (memory .memory .given .1)) ∙ p .check-memory .ensures) (number-some cause))
     (number-some cause)
 
 enum-told : tie.Need-enum-told
@@ -100,7 +137,7 @@ enum-known-causes c = search needs
 -- each port's number, or the default
 module _ (c : tie.At-match6-came) where
   abbrev start : tie.Start
-  start = c .before .before .before .before .before .before .before .before .before .before
+  start = begun (c .before .before .before .before .before .before .before)
 
   audio-is : c .before .before .before .before .match2 .audio ≡ valueOr (start .args .audio) plusZero
   unfolding ofBits
@@ -143,8 +180,11 @@ module _ (c : tie.At-match6-came) where
       ]
 
   -- causes 4 and 3 do not apply
-  passed : Accepted reverb (length (start .args .mem .now)) reset (start .args .self)
-  passed = accepted reverb (length (start .args .mem .now)) reset (start .args .self) (sym (c .before .before .before .before .before .before .before .refusal .ensures) ∙ ap numberOf (c .before .before .before .before .before .enum-told .given .1))
+  fit : fits (self start) ≡ true
+  fit = passed (c .before .before .before .before .before .before .before)
+
+  enough : 0 ≡ memoryNumber 87136 (length (start .args .mem .now))
+  enough = sym (ap numberOf (c .before .before .before .before .before .enum-told .given .1)) ∙ c .before .before .before .before .before .before .before .check-memory .ensures
 
   -- the tick with these numbers
   abbrev all : Tick
@@ -155,33 +195,31 @@ module _ (c : tie.After-tick-causes) where
   abbrev values : tie.At-match6-came
   values = c .before .before .before .before .before
 
-  number-is : (k : ℕ) → numberOf (c .tick-causes .result) ≡ k → k ≡ numberIn reverb (tick (handed (start values))) (length (start values .args .mem .now)) (start values .args .self)
-  unfolding tickNumber isNumber fits isNan round
+  number-is : (k : ℕ) → numberOf (c .tick-causes .result) ≡ k → k ≡ numberIn reverb (tick (handed (start values))) (length (start values .args .mem .now)) (self (start values))
+  unfolding tickNumber isNumber Ieee.fits isNan round
   number-is k e =
       let a = start values .args in
-      let u = passed values in
       let size = nan-is (a .size) half refl (size-is values) (c .before .before .before .before .is-nan .ensures) in
       let damping = nan-is (a .damping) half refl (damping-is values) (c .before .before .before .is-nan2 .ensures) in
       let mix = nan-is (a .mix) half refl (mix-is values) (c .before .before .is-nan3 .ensures) in
       let predelay = nan-is (a .predelay) plusZero refl (predelay-is values) (c .before .is-nan4 .ensures) in
-      tick-number reverb (length (a .mem .now)) (a .self) (handed (start values)) (u .fits) (sym (u .number))
+      tick-number reverb (length (a .mem .now)) (self (start values)) (handed (start values)) (fit values) (enough values)
       (sym e ∙ c .tick-causes .ensures ∙ (λ i. causeNumber (size i || (damping i || (mix i || predelay i))) true))
 
   -- and by their numbers
-  set-number-is : (k : ℕ) → numberOf (c .tick-causes .result) ≡ k → k ≡ numberIn reverb (tick (all values)) (length (start values .args .mem .now)) (start values .args .self)
+  set-number-is : (k : ℕ) → numberOf (c .tick-causes .result) ≡ k → k ≡ numberIn reverb (tick (all values)) (length (start values .args .mem .now)) (self (start values))
   unfolding tickNumber
   set-number-is k e =
       let a = start values .args in
-      let u = passed values in
-      tick-number reverb (length (a .mem .now)) (a .self) (all values) (u .fits) (sym (u .number))
+      tick-number reverb (length (a .mem .now)) (self (start values)) (all values) (fit values) (enough values)
       (sym e ∙ c .tick-causes .ensures ∙ (λ i. causeNumber (c .before .before .before .before .is-nan .ensures i || (c .before .before .before .is-nan2 .ensures i || (c .before .before .is-nan3 .ensures i || c .before .is-nan4 .ensures i))) true))
 
-returns-2 : tie.Need-returns-2
-returns-2 c =
+returns-3 : tie.Need-returns-3
+returns-3 c =
     let causes = c .before .before .before in
     let cause = c .before .causes .given .0 .0 in
     let s = start (values causes) in
-    refuses reverb (tick (handed s)) (s .args .self) (s .args .mem .now) (number cause)
+    refuses reverb (tick (handed s)) (self s) (s .args .mem .now) (number cause)
     (number-is causes (number cause) (ap numberOf (c .before .causes .given .1)))
     (number-some cause)
 
@@ -190,34 +228,36 @@ enum-told-7 c = search needs
 
 advance-requires : tie.Need-advance-requires
 advance-requires c κs =
-    let told = c .before in
+    let told = c .before .before .before .before .before .before .before .before in
     let causes = told .before .before in
     let v = values causes in
-    let s = start v .args .self in (
-      lengths-are (s .«sample_rate») (fits-parts s (passed v .fits) .rate) (v .before .before .before .before .before .before .before .before .lengths .ensures),
+    let u = self (start v) in (
+      lengths-are (u .«sample_rate») (fits-parts u (fit v) .rate) (v .before .before .before .before .before .before .before .before .before .before .before .before .before .before .before .before .before .before .before .lengths .ensures),
       sym (set-number-is causes 0 (ap numberOf (told .enum-told7 .given .1))),
     )
 
 same-length : tie.Need-same-length
 same-length c = search needs
 
-returns-3 : tie.Need-returns-3
-returns-3 c =
+returns-4 : tie.Need-returns-4
+returns-4 c =
     let worked = c .before .before in
-    let told = worked .before .before in
+    let told = worked .before .before .before .before .before .before .before .before .before in
     let causes = told .before .before in
     let v = values causes in
     let none = ap numberOf (told .enum-told7 .given .1) in
     set-does (handed (start v)) (audio-is v) (size-is v) (damping-is v) (mix-is v) (predelay-is v) (sym (number-is causes 0 none)) (sym (set-number-is causes 0 none)) (worked .advance .ensures)
 
-pub tick-spec : {M : Type 1} → statement M
-tick-spec =
+pub tick-in-place-spec : {M : Type 1} → statement M
+tick-in-place-spec =
     tie.close
     (tie.spec
     lengths-requires
-    refusal-requires
-    enum-known-refusal
+    parts-fit-requires
     returns
+    check-memory-requires
+    enum-known-memory
+    returns-2
     enum-told
     enum-known-audio
     enum-told-2
@@ -235,8 +275,8 @@ tick-spec =
     is-nan-requires-4
     tick-causes-requires
     enum-known-causes
-    returns-2
+    returns-3
     enum-told-7
     advance-requires
     same-length
-    returns-3)
+    returns-4)
