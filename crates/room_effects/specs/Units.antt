@@ -8,6 +8,7 @@ use lib.Ieee.{Float, nan}
 use Rattle.effect.specs.Run.{Device}
 use Rattle.delay_line.specs.declared.DelayLine.{DelayLine}
 use Rattle.reverb.specs.declared.Reverb.{Reverb}
+use Rattle.reverb.specs.Reverb.{stateOf}
 use Rattle.tremolo.specs.declared.Tremolo.{Tremolo}
 use Rattle.vibrato.specs.declared.Vibrato.{Vibrato}
 use Rattle.chorus.specs.declared.Chorus.{Chorus}
@@ -70,17 +71,7 @@ delayUnit pos distance primed rate coefficient maximum linear memory =
 -- ---- the reverb: a side's comb positions, damping stores and all-pass positions, the predelay's position, and a rate
 
 abbrev pub reverbOf : List ℕ → List ℕ → List Float → List Float → List ℕ → List ℕ → ℕ → Float → Reverb
-reverbOf combl combr storesl storesr passl passr predelay rate =
-    record {
-      «comb_pos_l» = combl;
-      «comb_pos_r» = combr;
-      «comb_filter_state_l» = storesl;
-      «comb_filter_state_r» = storesr;
-      «allpass_pos_l» = passl;
-      «allpass_pos_r» = passr;
-      «predelay_pos» = predelay;
-      «sample_rate» = rate;
-    }
+reverbOf = stateOf
 
 abbrev pub reverbUnit : List ℕ → List ℕ → List Float → List Float → List ℕ → List ℕ → ℕ → Float → List Float → Device Reverb
 reverbUnit combl combr storesl storesr passl passr predelay rate memory =

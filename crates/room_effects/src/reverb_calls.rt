@@ -156,7 +156,8 @@ pub extern "C" fn room_raw_reverb_reset(
     0
 }
 
-// A tick. The mask's bits say which ports are set: 1 audio, 2 size, 4 damping, 8 mix, 16 predelay.
+// A tick, on the lent arrays themselves: each of their 42 words is read where it is used, and written once. The mask's bits say which ports are set: 1 audio,
+// 2 size, 4 damping, 8 mix, 16 predelay.
 #[no_mangle]
 pub extern "C" fn room_raw_reverb_tick(
     comb_pos_l: &mut [u64; 8],
@@ -178,32 +179,7 @@ pub extern "C" fn room_raw_reverb_tick(
 ) -> u32
     ensures { λ r. ⌜ Ticked reverb 2 (ticked (portAt set 1 audio) (portAt set 2 size) (portAt set 4 damping) (portAt set 8 mix) (portAt set 16 predelay)) (reverbUnit (now («comb_pos_l» .entry)) (now («comb_pos_r» .entry)) (now («stores_l» .entry)) (now («stores_r» .entry)) (now («allpass_pos_l» .entry)) (now («allpass_pos_r» .entry)) (now («predelay_pos» .entry)) rate (now (memory .entry))) (reverbUnit (now («comb_pos_l» .exit)) (now («comb_pos_r» .exit)) (now («stores_l» .exit)) (now («stores_r» .exit)) (now («allpass_pos_l» .exit)) (now («allpass_pos_r» .exit)) (now («predelay_pos» .exit)) rate (now (memory .exit))) (now (out .exit)) r ⌝ }
 {
-    let state = Reverb {
-        comb_pos_l: *comb_pos_l,
-        comb_pos_r: *comb_pos_r,
-        comb_filter_state_l: *stores_l,
-        comb_filter_state_r: *stores_r,
-        allpass_pos_l: *allpass_pos_l,
-        allpass_pos_r: *allpass_pos_r,
-        predelay_pos: *predelay_pos,
-        sample_rate: rate,
-    };
-    let played = state.tick(
-        memory,
-        port_if(set / 1 % 2 == 1, audio),
-        port_if(set / 2 % 2 == 1, size),
-        port_if(set / 4 % 2 == 1, damping),
-        port_if(set / 8 % 2 == 1, mix),
-        port_if(set / 16 % 2 == 1, predelay),
-    );
-    let answer = played.answer;
-    let number = answer.number();
-    *out = [answer.first(), answer.second()];
-    if number != 0 {
-        return number;
-    }
-    put_reverb(
-        played.state,
+    let answer = Reverb::tick_in_place(
         comb_pos_l,
         comb_pos_r,
         stores_l,
@@ -211,8 +187,16 @@ pub extern "C" fn room_raw_reverb_tick(
         allpass_pos_l,
         allpass_pos_r,
         predelay_pos,
+        rate,
+        memory,
+        port_if(set / 1 % 2 == 1, audio),
+        port_if(set / 2 % 2 == 1, size),
+        port_if(set / 4 % 2 == 1, damping),
+        port_if(set / 8 % 2 == 1, mix),
+        port_if(set / 16 % 2 == 1, predelay),
     );
-    0
+    *out = [answer.first(), answer.second()];
+    answer.number()
 }
 
 #[no_mangle]
