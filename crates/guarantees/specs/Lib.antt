@@ -1,3 +1,4 @@
 pub mod CleanMemory
 pub mod RecentPasts
 pub mod Starred
+pub mod PlacesNeeded
