@@ -1,0 +1,43 @@
+#include "effects.h"
+
+#include <string.h>
+
+const effect *effect_named(const char *name, size_t length)
+{
+    for (int i = 0; i < EFFECT_COUNT; i++)
+        if (strlen(effects[i].name) == length && memcmp(effects[i].name, name, length) == 0)
+            return &effects[i];
+    return NULL;
+}
+
+int effect_control(const effect *kind, const char *name)
+{
+    for (int i = 0; kind->controls[i].name != NULL; i++)
+        if (strcmp(kind->controls[i].name, name) == 0)
+            return i;
+    return -1;
+}
+
+int effect_left(const effect *kind)
+{
+    return kind->answers == 3 ? 1 : 0;
+}
+
+int effect_right(const effect *kind)
+{
+    return kind->answers - 1;
+}
+
+const char *refusal_text(uint32_t number)
+{
+    static const char *const texts[] = {
+        "accepted",
+        "the sample rate is outside 8000 to 192000",
+        "the glide coefficient is not one",
+        "the memory has too few places",
+        "the state is not one that a start could lead to",
+        "a control is NaN",
+        "a curve number is not one",
+    };
+    return number < sizeof texts / sizeof texts[0] ? texts[number] : "unknown cause";
+}
