@@ -1,12 +1,18 @@
-# `make` builds what a controller links and runs the example over it; `make test` runs every test and proves every crate from nothing.
+# `make` (or `make demo`) builds what a controller links and the host over it, and plays a phrase through each effect;
+# `make test` runs every test and proves every crate from nothing.
 LIB = target/staticlib/libroom_effects.a
 CFLAGS = -std=c99 -O2 -Wall -Wextra -Wpedantic -Werror
 
-demo: target/demo
-	target/demo
+# An earlier version had a program at target/demo, where the folder is now.
+demo: target/room
+	@test -d target/demo || rm -f target/demo
+	@mkdir -p target/demo
+	target/room --demo target/demo
 
-target/demo: examples/demo.c include/room_effects.h $(LIB)
-	$(CC) $(CFLAGS) -Iinclude -o $@ examples/demo.c $(LIB) -lm
+host: target/room
+
+target/room: $(wildcard host/*.c host/*.h) include/room_effects.h $(LIB)
+	$(CC) $(CFLAGS) -Iinclude -o $@ host/*.c $(LIB) -lm
 
 # rt proves the crates before it writes the library, and does nothing where nothing changed
 $(LIB): FORCE
@@ -21,4 +27,4 @@ bench:
 	bench/run
 
 FORCE:
-.PHONY: demo test bench FORCE
+.PHONY: demo host test bench FORCE
