@@ -146,6 +146,8 @@ int main(void)
     test("delay", delay);
     test("reverb", reverb);
     test("places", places);
+    test("order of causes", order_of_causes);
+    test("ends", ends);
     printf("%u passed, %u failed\n", passed, failed);
     return failed != 0;
 }

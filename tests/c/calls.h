@@ -57,5 +57,7 @@ void flanger(void);
 void delay(void);
 void reverb(void);
 void places(void);
+void order_of_causes(void);
+void ends(void);
 
 #endif
