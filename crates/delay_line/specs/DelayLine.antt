@@ -129,7 +129,7 @@ samplesOf rate ms = div binary64 (mul binary64 ms rate) (whole 1000)
 unfoldable pub glided : Bool → Float → Float → Float → Float
 glided primed last coefficient target = cond primed (add binary64 target (mul binary64 (sub binary64 last target) coefficient)) target
 
--- where the target is so many samples, clamped to 1 to L − 1
+-- the distance that a tick reads at, when its target is so many samples: the target is clamped to 1 to L − 1, the glide is not
 unfoldable pub readsAt : DelayLine → Float → Float
 readsAt s samples =
     let L = lineLength (s .«sample_rate») (s .«max_delay_secs») in
