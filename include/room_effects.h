@@ -56,6 +56,12 @@
  * A port carries a number or is unset. An unset port takes the effect's default, and its number is not read. Controls are
  * clamped to their range, infinities too; -0 stays -0. The audio port is no control: any float is accepted there.
  *
+ * Floating-point mode
+ *
+ * Calls are made in the mode that C starts a program in: rounding to nearest, subnormal numbers kept, exceptions masked. A host
+ * that flushes subnormals to zero (FTZ, DAZ), as some do for speed, turns that off around the calls, or what is said here does
+ * not hold: a line with a subnormal sample would be called silent.
+ *
  * Curve numbers
  *
  * The host computes them before the tick: a frequency in Hz from its rate control, and the sine of 2 pi times the phase that
