@@ -1,5 +1,5 @@
 -- The lengths of the reverb's lines at every accepted rate: each tuning, scaled, is from 1 to its cap. Assumes nothing.
-use Prim.Native.Nat.{ℕ, zero, suc, _≤_, _<_}
+use Prim.Native.Nat.{ℕ, zero, suc, _≤_, _<_, min}
 use native.Mathlib.Nat.{le-of-suc-le-suc, not-suc-le-zero, min-le-right}
 use native.Mathlib.Omega.{arith}
 use mathlib.Core.Path.{_≡_, refl}
@@ -10,7 +10,7 @@ use lib.ListN.{length, getD, replicate, length-map}
 use lib.Ieee.{Float, binary64, mul, div, le, lt, ofInt, round, toUnsigned}
 use lib.Ieee as Ieee
 use borrow.Author.Tests.{leb-true, lt-ltb}
-use Rattle.float64.specs.Number.{whole, fraction, inRange, rateFits}
+use Rattle.float64.specs.Number.{whole, fraction, inRange, rateFits, wholePart}
 use Rattle.float64.proofs.Tests.{both}
 use Rattle.float64.proofs.Interval.{In, point, mul-in, div-in, cut-in}
 use Rattle.float64.proofs.Ranges.{rate-in, range-in, in-range}
@@ -32,6 +32,11 @@ module _ (r : Float) (base : ℕ) (low : 225 ≤ base) (high : base ≤ 1617) (h
   unfolding Ieee.fits le mul ofInt round
   product-in = mul-in (whole 1) (whole 16777216) tt tt tt (whole-between 225 base 1617 low high (omega arith)) (range-in tt h)
 
+  -- its whole part is below 2^25
+  pub product-cut : wholePart (mul binary64 (whole base) r) ≤ 16777216
+  unfolding Ieee.fits le ofInt toUnsigned
+  product-cut = cut-in 64 tt product-in .1
+
   -- it is small enough for the quick whole part
   pub product-small : T (le (whole 1) (mul binary64 (whole base) r)) × T (lt (mul binary64 (whole base) r) (whole 9007199254740992))
   product-small = small product-in
@@ -44,6 +49,11 @@ scaled-some most r base h low high k = let c = cut-in 64 tt (product-in r base l
 beside-some : (most wide n : ℕ) → 1 ≤ most → 1 ≤ n → 1 ≤ beside most wide n
 unfolding beside
 beside-some most wide n h k = omega arith
+
+-- a spread beyond every cap is as good as the largest cap
+pub beside-capped : (most wide n : ℕ) → most ≤ 4095 → beside most (min wide 4095) n ≡ beside most wide n
+unfolding beside
+beside-capped most wide n h = omega arith
 
 -- every tuning lies where that holds
 pub tuned-at : (l : List ℕ) (i : ℕ) → tuned l ≡ true → i < length l → (225 ≤ getD l i 0) × (getD l i 0 ≤ 1617)

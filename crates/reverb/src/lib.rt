@@ -2,7 +2,7 @@
 ghost use mathlib.Core.Path.{_≡_};
 ghost use mathlib.Core.Bool.{true, cond};
 ghost use mathlib.Core.List.{map};
-ghost use Prim.Native.Nat.{ℕ, _+_, _*_, _≤_, _<_};
+ghost use Prim.Native.Nat.{ℕ, _+_, _*_, _≤_, _<_, min};
 ghost use lib.ListN as ListN;
 ghost use lib.Ieee.{nan};
 ghost use Rattle.float64.specs.Number.{whole, fraction, inRange, rateFits};
@@ -107,41 +107,43 @@ impl Reverb {
 
     // ---- lengths
 
-    // A tuning scaled to the rate: its whole part, at most `most`.
-    fn scaled(base: u32, ratio: f64, most: u64) -> u64
+    // A tuning scaled to the rate: its whole part, at most `most`. Lengths are worked out in 32 bits, four at a time.
+    fn scaled(base: u32, ratio: f64, most: u32) -> u32
         requires { ⌜ 225 ≤ base ⌝ }
         requires { ⌜ base ≤ 1617 ⌝ }
         requires { ⌜ inRange ratio (fraction 1 8) (whole 5) ≡ true ⌝ }
         ensures { λ r. ⌜ r ≡ scaled most ratio base ⌝ }
     {
-        let n = float64::whole_part_small((base as f64) * ratio);
+        let n = float64::whole_part_small((base as f64) * ratio) as u32;
         if n < most { n } else { most }
     }
 
-    // The spread: at least 1.
-    fn stereo_spread(ratio: f64) -> u64
-        ensures { λ r. ⌜ r ≡ spread ratio ⌝ }
+    // The spread: at least 1. No length is more than 4,095, so that a spread beyond that is as good as 4,095.
+    fn stereo_spread(ratio: f64) -> u32
+        ensures { λ r. ⌜ r ≡ min (spread ratio) 4095 ⌝ }
     {
         let n = float64::round_half_away(Reverb::STEREO_SPREAD * ratio);
-        if n < 1 { 1 } else { n }
+        if n < 1 {
+            return 1;
+        }
+        if n < 4095 { n as u32 } else { 4095 }
     }
 
     // A left length plus the spread, at most `most`.
-    fn beside(length: u64, wide: u64, most: u64) -> u64
-        requires { ⌜ length ≤ most ⌝ }
+    fn beside(length: u32, wide: u32, most: u32) -> u32
+        requires { ⌜ length ≤ 65535 ⌝ }
+        requires { ⌜ wide ≤ 4095 ⌝ }
         ensures { λ r. ⌜ r ≡ beside most wide length ⌝ }
     {
-        if wide < most - length {
-            length + wide
-        } else {
-            most
-        }
+        let sum = length + wide;
+        if sum < most { sum } else { most }
     }
 
     // The left and right lengths of the lines with these tunings.
-    fn scale(tunings: &[u32], ratio: f64, wide: u64, most: u16, left: &mut [u16], right: &mut [u16])
+    fn scale(tunings: &[u32], ratio: f64, wide: u32, most: u16, left: &mut [u16], right: &mut [u16])
         requires { ⌜ tuned (now tunings) ≡ true ⌝ }
         requires { ⌜ inRange ratio (fraction 1 8) (whole 5) ≡ true ⌝ }
+        requires { ⌜ wide ≤ 4095 ⌝ }
         requires { ⌜ ListN.length (now left) ≡ ListN.length (now tunings) ⌝ }
         requires { ⌜ ListN.length (now right) ≡ ListN.length (now tunings) ⌝ }
         ensures { λ _. ⌜ now (left .exit) ≡ map (scaled most ratio) (now (tunings .entry)) ⌝ }
@@ -149,9 +151,9 @@ impl Reverb {
     {
         let mut i: usize = 0;
         while i < tunings.len() {
-            let length = Reverb::scaled(tunings[i], ratio, most as u64);
+            let length = Reverb::scaled(tunings[i], ratio, most as u32);
             left[i] = length as u16;
-            right[i] = Reverb::beside(length, wide, most as u64) as u16;
+            right[i] = Reverb::beside(length, wide, most as u32) as u16;
             i += 1;
         }
     }

@@ -1,15 +1,12 @@
--- `Reverb::beside` is the definition of that name: it tests the room that is left below the cap, so that no sum is too large. Assumes nothing.
+-- `Reverb::beside` is the definition of that name: no sum of such numbers is too large. Assumes nothing.
 use native.Mathlib.Omega.{arith}
 use Rattle.reverb.specs.Tunings.{beside}
 use borrow.Author.Needs.{needs}
 use Rattle.reverb.proofs.Reverb.beside.Statement.{statement}
 use Rattle.reverb.proofs.Reverb.beside.Tie as tie
 
-sub-if1 : tie.Need-sub-if1
-sub-if1 c = search needs
-
-add-result : tie.Need-add-result
-add-result c = search needs
+add-sum : tie.Need-add-sum
+add-sum c = search needs
 
 returns : tie.Need-returns
 unfolding beside
@@ -20,4 +17,4 @@ unfolding beside
 returns-2 c = omega arith
 
 pub beside-spec : {M : Type 1} → statement M
-beside-spec = tie.close (tie.spec sub-if1 add-result returns returns-2)
+beside-spec = tie.close (tie.spec add-sum returns returns-2)

@@ -42,11 +42,11 @@ mul-left : tie.Need-mul-left Inv-loop μ-loop
 mul-left c = search needs
 
 slice-write-left : tie.Need-slice-write-left Inv-loop μ-loop
-slice-write-left c = omega (arith, c .before .before .before .loop .inv .1, c .before .before .before .before .before .before .before .pre .1 .1 .0)
+slice-write-left c = omega (arith, c .before .before .before .loop .inv .1, c .before .before .before .before .before .before .before .pre .1 .1 .1 .0)
 
 beside-requires : tie.Need-beside-requires Inv-loop μ-loop
 unfolding scaled
-beside-requires c κs = omega (arith, c .scaled .ensures)
+beside-requires c κs = (omega (arith, c .scaled .ensures, c .before .before .before .before .before .before .before .fits .most), c .before .before .before .before .before .before .before .pre .1 .1 .0)
 
 cast-right : tie.Need-cast-right Inv-loop μ-loop
 unfolding beside
@@ -56,7 +56,7 @@ mul-right : tie.Need-mul-right Inv-loop μ-loop
 mul-right c = search needs
 
 slice-write-right : tie.Need-slice-write-right Inv-loop μ-loop
-slice-write-right c = omega (arith, c .before .before .before .before .loop .inv .2, c .before .before .before .before .before .before .before .before .pre .1 .1 .1)
+slice-write-right c = omega (arith, c .before .before .before .before .loop .inv .2, c .before .before .before .before .before .before .before .before .pre .1 .1 .1 .1)
 
 add-i : tie.Need-add-i Inv-loop μ-loop
 add-i c = search needs
@@ -73,8 +73,8 @@ loop-again c =
       omega arith,
       simp length-set (l .inv .1),
       simp length-set (l .inv .2),
-      tabled-more _ (l .i) (a .left .now) (omega (arith, s .pre .1 .1 .0)) (l .inv .3) n,
-      tabled-more _ (l .i) (a .right .now) (omega (arith, s .pre .1 .1 .1)) (l .inv .4) (c .beside .ensures ∙ ap (λ (k : ℕ). beside (a .most) (a .wide) k) n),
+      tabled-more _ (l .i) (a .left .now) (omega (arith, s .pre .1 .1 .1 .0)) (l .inv .3) n,
+      tabled-more _ (l .i) (a .right .now) (omega (arith, s .pre .1 .1 .1 .1)) (l .inv .4) (c .beside .ensures ∙ ap (λ (k : ℕ). beside (a .most) (a .wide) k) n),
     )
 
 same-length : tie.Need-same-length Inv-loop μ-loop
@@ -90,8 +90,8 @@ returns c =
     let a = s .args in
     let t = a .tunings .now in
     let e : l .i ≡ length t = omega arith in (
-      rw e at (l .inv .3) ∙ tabled-all _ (length t) (a .left .now) (s .pre .1 .1 .0) ∙ table-map (λ k. scaled (a .most) (a .ratio) k) t 0,
-      rw e at (l .inv .4) ∙ tabled-all _ (length t) (a .right .now) (s .pre .1 .1 .1) ∙ table-map (λ k. beside (a .most) (a .wide) (scaled (a .most) (a .ratio) k)) t 0,
+      rw e at (l .inv .3) ∙ tabled-all _ (length t) (a .left .now) (s .pre .1 .1 .1 .0) ∙ table-map (λ k. scaled (a .most) (a .ratio) k) t 0,
+      rw e at (l .inv .4) ∙ tabled-all _ (length t) (a .right .now) (s .pre .1 .1 .1 .1) ∙ table-map (λ k. beside (a .most) (a .wide) (scaled (a .most) (a .ratio) k)) t 0,
     )
 
 pub scale-spec : {M : Type 1} → statement M

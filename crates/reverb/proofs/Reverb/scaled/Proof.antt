@@ -1,7 +1,7 @@
 -- `Reverb::scaled` is the definition of that name: the quick whole part serves at every accepted rate. Assumes nothing.
 use native.Mathlib.Omega.{arith}
 use Rattle.reverb.specs.Tunings.{scaled}
-use Rattle.reverb.proofs.Scaling.{product-small}
+use Rattle.reverb.proofs.Scaling.{product-cut, product-small}
 use borrow.Author.Needs.{needs}
 use Rattle.reverb.proofs.Reverb.scaled.Statement.{statement}
 use Rattle.reverb.proofs.Reverb.scaled.Tie as tie
@@ -11,6 +11,9 @@ int-to-float-whole-part-small c = search needs
 
 whole-part-small-requires : tie.Need-whole-part-small-requires
 whole-part-small-requires c κs = let s = c .before in product-small (s .args .ratio) (s .args .base) (s .pre .0) (s .pre .1 .0) (s .pre .1 .1)
+
+cast-n : tie.Need-cast-n
+cast-n c = let s = c .before .before in omega (arith, c .whole-part-small .ensures, product-cut (s .args .ratio) (s .args .base) (s .pre .0) (s .pre .1 .0) (s .pre .1 .1))
 
 returns : tie.Need-returns
 unfolding scaled
@@ -22,4 +25,4 @@ returns-2 c = omega (arith, c .before .whole-part-small .ensures)
 
 pub scaled-spec : {M : Type 1} → statement M
 scaled-spec =
-    tie.close (tie.spec int-to-float-whole-part-small whole-part-small-requires returns returns-2)
+    tie.close (tie.spec int-to-float-whole-part-small whole-part-small-requires cast-n returns returns-2)

@@ -1,4 +1,5 @@
 -- `Reverb::scaled_lengths` is `lengthsAt` at an accepted rate, and all 0 at another. Assumes nothing.
+use native.Mathlib.Omega.{arith}
 use mathlib.Core.Path.{_≡_, refl, sym, ap, _∙_}
 use mathlib.Core.Bool.{true}
 use mathlib.Core.List.{map}
@@ -6,8 +7,8 @@ use Prim.Native.Nat.{ℕ}
 use lib.Ieee.{ofBits, ofInt}
 use borrow.Author.Tests.{not-true, not-false}
 use Rattle.float64.specs.Number.{rateFits}
-use Rattle.reverb.specs.Tunings.{combTunings, allpassTunings, ratio, scaled, beside, tuned}
-use Rattle.reverb.proofs.Scaling.{ratio-fits}
+use Rattle.reverb.specs.Tunings.{combTunings, allpassTunings, ratio, scaled, spread, beside, tuned}
+use Rattle.reverb.proofs.Scaling.{ratio-fits, beside-capped}
 use borrow.Author.Needs.{needs}
 use Rattle.reverb.proofs.Reverb.scaled_lengths.Statement.{statement}
 use Rattle.reverb.proofs.Reverb.scaled_lengths.Tie as tie
@@ -38,7 +39,7 @@ scale-requires : tie.Need-scale-requires
 unfolding tuned ratio ofBits ofInt
 scale-requires c κs =
     let p = c .before .before .before .before in
-    (refl, (ratio-fits (p .before .before .args .rate) (rate-passed p), (refl, refl)))
+    (refl, (ratio-fits (p .before .before .args .rate) (rate-passed p), (omega (arith, c .before .before .before .stereo-spread .ensures), (refl, refl))))
 
 slice-aggregate-scale-4 : tie.Need-slice-aggregate-scale-4
 slice-aggregate-scale-4 c = search needs
@@ -53,7 +54,7 @@ scale-requires-2 : tie.Need-scale-requires-2
 unfolding tuned ratio ofBits ofInt
 scale-requires-2 c κs =
     let p = c .before .before .before .before .before .before .before .before .before .before in
-    (refl, (ratio-fits (p .before .before .args .rate) (rate-passed p), (refl, refl)))
+    (refl, (ratio-fits (p .before .before .args .rate) (rate-passed p), (omega (arith, c .before .before .before .before .before .before .before .before .before .stereo-spread .ensures), (refl, refl))))
 
 returns-2 : tie.Need-returns-2
 unfolding ratio ofBits ofInt
@@ -67,9 +68,9 @@ returns-2 c =
     rw (rate-passed p) (λ i.
     record {
       «comb_l» = combs .0 i;
-      «comb_r» = (combs .1 ∙ ap (λ (w : ℕ). map (λ base. beside 4095 w (scaled 4095 r base)) combTunings) wide) i;
+      «comb_r» = (combs .1 ∙ ap (λ (w : ℕ). map (λ base. beside 4095 w (scaled 4095 r base)) combTunings) wide ∙ (λ j. map (λ base. beside-capped 4095 (spread r) (scaled 4095 r base) (omega arith) j) combTunings)) i;
       «allpass_l» = allpasses .0 i;
-      «allpass_r» = (allpasses .1 ∙ ap (λ (w : ℕ). map (λ base. beside 1499 w (scaled 1499 r base)) allpassTunings) wide) i;
+      «allpass_r» = (allpasses .1 ∙ ap (λ (w : ℕ). map (λ base. beside 1499 w (scaled 1499 r base)) allpassTunings) wide ∙ (λ j. map (λ base. beside-capped 1499 (spread r) (scaled 1499 r base) (omega arith) j) allpassTunings)) i;
     })
 
 pub scaled-lengths-spec : {M : Type 1} → statement M

@@ -1,4 +1,4 @@
--- `Reverb::stereo_spread` is `spread`. Assumes nothing.
+-- `Reverb::stereo_spread` is `spread`, at most 4,095. Assumes nothing.
 use native.Mathlib.Omega.{arith}
 use lib.Ieee.{ofBits, ofInt}
 use Rattle.reverb.specs.Tunings.{spread}
@@ -13,9 +13,17 @@ returns : tie.Need-returns
 unfolding spread ofBits ofInt
 returns c = omega (arith, c .before .round-half-away .ensures)
 
+cast-result : tie.Need-cast-result
+cast-result c = search needs
+
 returns-2 : tie.Need-returns-2
 unfolding spread ofBits ofInt
-returns-2 c = omega (arith, c .before .round-half-away .ensures)
+returns-2 c = omega (arith, c .before .before .round-half-away .ensures)
+
+returns-3 : tie.Need-returns-3
+unfolding spread ofBits ofInt
+returns-3 c = omega (arith, c .before .before .round-half-away .ensures)
 
 pub stereo-spread-spec : {M : Type 1} → statement M
-stereo-spread-spec = tie.close (tie.spec round-half-away-requires returns returns-2)
+stereo-spread-spec =
+    tie.close (tie.spec round-half-away-requires returns cast-result returns-2 returns-3)
