@@ -1,6 +1,6 @@
 -- The reverb's definitions by their cases: the state test, silence and cause 5. Assumes nothing.
 use Prim.Native.Nat.{_<_}
-use mathlib.Core.Path.{_≡_}
+use mathlib.Core.Path.{_≡_, ap}
 use mathlib.Core.Bool.{Bool, true, false, _&&_, _||_, cond}
 use lib.Dec.{ltb, eqb}
 use mathlib.Core.List.{List}
@@ -15,10 +15,16 @@ use Rattle.common.proofs.Sweep.{no-cause, neither}
 use Rattle.reverb.specs.declared.Lengths.{Lengths}
 use Rattle.reverb.specs.declared.Reverb.{Reverb}
 use Rattle.reverb.specs.Tunings.{Side, left, right, combLengths, allpassLengths, lengthsAt, noLengths}
-use Rattle.reverb.specs.Reverb.{Tick, combPositions, combStores, allpassPositions, allBelow, partsFit, sideFits, fits, tickNumber, linesZero, silence}
+use Rattle.reverb.specs.Reverb.{Tick, combPositions, combStores, allpassPositions, allBelow, partsFit, fits, tickNumber, linesZero, silence}
 use Rattle.reverb.proofs.Lists.{and-false, below-zero}
 
 -- ---- the state test
+
+-- of a side
+abbrev sideFits : Side → Reverb → Bool
+sideFits side s =
+    allBelow (combPositions side s) (combLengths side (s .«sample_rate»))
+    && (allBelow (allpassPositions side s) (allpassLengths side (s .«sample_rate»)) && eqb (length (combStores side s)) 8)
 
 -- what it says of a side
 pub record SideFits (side : Side) (s : Reverb) : Type 0 where
@@ -68,10 +74,11 @@ module _ (s : Reverb) where
   unfolding fits
   fits-by {n} e = go (rateFits (s .«sample_rate»)) e
     where
-      go : (b : Bool) → n ≡ cond b (lengthsAt (s .«sample_rate»)) noLengths
-          → partsFit (s .«comb_pos_l») (s .«comb_pos_r») (s .«comb_filter_state_l») (s .«comb_filter_state_r») (s .«allpass_pos_l») (s .«allpass_pos_r») (s .«predelay_pos») n
-          ≡ b && (ltb (s .«predelay_pos») 9600 && (sideFits left s && sideFits right s))
-      go true e = rw e
+      parts : Lengths → Bool
+      parts = partsFit (s .«comb_pos_l») (s .«comb_pos_r») (s .«comb_filter_state_l») (s .«comb_filter_state_r») (s .«allpass_pos_l») (s .«allpass_pos_r») (s .«predelay_pos»)
+
+      go : (b : Bool) → n ≡ cond b (lengthsAt (s .«sample_rate»)) noLengths → parts n ≡ b && parts (lengthsAt (s .«sample_rate»))
+      go true e = ap parts e
       go false e = rw (e, below-zero (s .«comb_pos_l») (replicate 7 0)) (and-false (ltb (s .«predelay_pos») 9600))
 
 -- ---- silence, by every line's length

@@ -14,7 +14,7 @@ use Rattle.effect.specs.Effect.{Effect, Write}
 use Rattle.reverb.specs.declared.Lengths.{Lengths}
 use Rattle.reverb.specs.declared.Reverb.{Reverb}
 use Rattle.reverb.specs.Freeverb.{combStore, combFed, passOutput, passFed}
-use Rattle.reverb.specs.Tunings.{Side, left, right, combLengths, allpassLengths}
+use Rattle.reverb.specs.Tunings.{Side, left, right, combLengths, allpassLengths, lengthsAt}
 
 -- what a tick is handed: its ports; no curve number
 pub record Tick : Type 0 where
@@ -96,22 +96,19 @@ allBelow [] (n ∷ ns) = false
 allBelow (w ∷ ws) [] = false
 allBelow (w ∷ ws) (n ∷ ns) = ltb w n && allBelow ws ns
 
--- the state test of a side; the stores may hold any float, and there are eight of them
-abbrev pub sideFits : Side → Reverb → Bool
-sideFits side s =
-    allBelow (combPositions side s) (combLengths side (s .«sample_rate»))
-    && (allBelow (allpassPositions side s) (allpassLengths side (s .«sample_rate»)) && eqb (length (combStores side s)) 8)
-
--- the state test, cause 4
-unfoldable pub fits : Reverb → Bool
-fits s = rateFits (s .«sample_rate») && (ltb (s .«predelay_pos») 9600 && (sideFits left s && sideFits right s))
-
--- the same by the parts of a state, and by the lengths n
+-- the state test by the parts of a state and the lengths n of its lines: every position below its line's length; the stores may hold any float, and a side has
+-- eight of them
 abbrev pub partsFit : List ℕ → List ℕ → List Float → List Float → List ℕ → List ℕ → ℕ → Lengths → Bool
 partsFit combl combr storesl storesr passl passr predelay n =
     ltb predelay 9600
     && ((allBelow combl (n .«comb_l») && (allBelow passl (n .«allpass_l») && eqb (length storesl) 8))
     && (allBelow combr (n .«comb_r») && (allBelow passr (n .«allpass_r») && eqb (length storesr) 8)))
+
+-- the state test, cause 4: at an accepted rate, by the lengths at that rate
+unfoldable pub fits : Reverb → Bool
+fits s =
+    rateFits (s .«sample_rate»)
+    && partsFit (s .«comb_pos_l») (s .«comb_pos_r») (s .«comb_filter_state_l») (s .«comb_filter_state_r») (s .«allpass_pos_l») (s .«allpass_pos_r») (s .«predelay_pos») (lengthsAt (s .«sample_rate»))
 
 -- cause 5; cause 6 never applies
 unfoldable pub tickNumber : Tick → ℕ
