@@ -46,7 +46,7 @@ slice-write-left c = omega (arith, c .before .before .before .loop .inv .1, c .b
 
 beside-requires : tie.Need-beside-requires Inv-loop μ-loop
 unfolding scaled
-beside-requires c κs = (omega (arith, c .scaled .ensures, c .before .before .before .before .before .before .before .fits .most), c .before .before .before .before .before .before .before .pre .1 .1 .0)
+beside-requires c κs = (omega (arith, c .scaled .ensures, c .before .before .before .before .before .before .before .fits .most), omega (arith, c .before .before .before .before .before .before .before .pre .1 .1 .0))
 
 cast-right : tie.Need-cast-right Inv-loop μ-loop
 unfolding beside
