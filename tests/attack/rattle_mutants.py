@@ -327,3 +327,9 @@ def mutants(text):
                 new_line += f" #{counted[name, kind, old_line, new_line]}"
             found.append(Mutant(name, kind, start, end, new, text.count("\n", 0, start) + 1, old_line, new_line))
     return found
+
+
+def function_at(text, line):
+    """The function or constant that a line of a file belongs to, with what stands above it: the first that ends there or below."""
+    src = parse(text)
+    return next((name for name, _, last, _ in regions(src) if line <= text.count("\n", 0, src.tokens[last].start) + 1), "")
