@@ -133,5 +133,5 @@ def is_text(error):
 
 
 def first(found, said):
-    """The first error in short: its function, place and first line; what was said last where there is none."""
-    return f"{found[0].owner}: {found[0].place}: {found[0].text.splitlines()[0][:160]}" if found else said.strip()[-160:]
+    """The first error in short: its function, place and first line; the last line of what was said where there is none."""
+    return f"{found[0].owner}: {found[0].place}: {found[0].text.splitlines()[0][:160]}" if found else said.strip().splitlines()[-1][:160]
