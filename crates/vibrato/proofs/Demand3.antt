@@ -6,9 +6,12 @@ use native.Mathlib.Nat.{one-mul, zero-mul}
 use mathlib.Core.Path.{_≡_, refl, sym, ap}
 use mathlib.Core.Bool.{true}
 use mathlib.Core.List.{List, [], _∷_}
-use lib.Ieee.{Float, binary64, div}
+use lib.Ieee.{Float, binary64, div, isNan, round}
+use lib.Ieee as Ieee
+use Rattle.float64.specs.Number.{half, isNumber}
 use Rattle.common.specs.Signal.{blended, advanced}
 use Rattle.common.specs.Line.{newestFirst, readLine}
+use Rattle.common.proofs.Sweep.{control-in}
 use Rattle.float64.proofs.Parts.{parts-of}
 use Rattle.effect.specs.Run.{Run}
 use Rattle.effect.specs.Demand3.{Demand3, inForce}
@@ -19,8 +22,7 @@ use Rattle.effect.proofs.Demand3.{demand-3}
 use Rattle.effect.proofs.Covers.{covers}
 use Rattle.vibrato.specs.declared.Vibrato.{Vibrato}
 use Rattle.vibrato.specs.Vibrato.{Tick, vibrato, lines, fits, lineLength, tickNumber, input, depth, mix, distance, delayed, next, writes, sample}
-use Rattle.vibrato.proofs.Laws.{length-fits, passed, handed}
-use Rattle.vibrato.proofs.Distance.{distance-in}
+use Rattle.vibrato.proofs.Laws.{fits-parts, length-fits, tick-fits, distance-in}
 use Rattle.vibrato.proofs.Demand1.{laws}
 
 -- what a tick at the rate answers where the line, read newest to oldest, is l
@@ -30,13 +32,13 @@ heard t rate l = blended (input t) (readLine l (distance rate (depth t) (t .sine
 plays : (t : Tick) (s : Vibrato) (m l : List Float) → fits s ≡ true → tickNumber t ≡ 0
     → newestFirst (0 * lineLength (s .«sample_rate»)) (lineLength (s .«sample_rate»)) (s .«write_pos») m ≡ l
     → sample t s m ≡ heard t (s .«sample_rate») l
-unfolding sample delayed
+unfolding sample delayed isNumber Ieee.fits isNan round
 plays t s m l f n e =
     let rate = s .«sample_rate» in
-    let p = passed s f in
-    let h = handed t n in
-    let long = length-fits rate (p .rate) in
-    let d = parts-of (lineLength rate - 1) (omega arith) (distance-in rate (t .depth) (t .sine) (p .rate) (h .depth) (h .sine)) in
+    let h = fits-parts s f .rate in
+    let k = tick-fits t n in
+    let some = length-fits rate h in
+    let d = parts-of (lineLength rate - 1) (omega arith) (distance-in rate (depth t) (t .sine) h (control-in (t .depth) half (k .depth) refl) (k .sine)) in
     ap (λ (x : Float). blended (input t) x (mix t))
     (read-of 0 0 (lineLength rate) (s .«write_pos») m l (distance rate (depth t) (t .sine)) (zero-mul (lineLength rate)) e (d .at-least) (omega (arith, d .at-most)))
 
@@ -46,7 +48,7 @@ line-laws =
     record {
       some = omega arith;
       fills = λ k. sym (one-mul (lineLength k));
-      inside = λ s e. passed s e .position;
+      inside = λ s e. fits-parts s e .inside;
       stores = λ t s m. refl;
       next-position = λ t s m. refl;
       advanced = λ t rate phase. advanced phase (div binary64 (t .frequency) rate);

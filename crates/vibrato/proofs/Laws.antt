@@ -1,32 +1,34 @@
--- The vibrato's definitions by their cases: the line's length, the state test, what the table's rows leave, and an accepted tick from its steps. Assumes nothing.
-use Prim.Native.Nat.{ℕ, _≤_, _<_}
+-- The vibrato's definitions by their cases: the line's length, the state test, the table's row of a tick, its distance, and an accepted tick from its steps,
+-- also where ports are unset. Assumes nothing.
+use Prim.Native.Nat.{ℕ, _+_, _-_, _*_, _≤_, _<_}
 use native.Mathlib.Omega.{arith}
 use mathlib.Core.Path.{_≡_, refl, ap, _∙_}
-use mathlib.Core.Bool.{Bool, true, false, _&&_, _||_, cond}
+use mathlib.Core.Bool.{true, false, _&&_, _||_, cond}
 use mathlib.Core.List.{List, [], _∷_}
-use native.Mathlib.Nat.{zero-add, zero-mul}
 use lib.Dec.{T, ltb}
 use lib.ListN.{length, take, set}
-use lib.Seq.{length-take-le}
-use lib.Ieee.{Float, binary64, mul, div, fits, le, lt, ofInt}
-use borrow.Author.Tests.{ltb-true}
-use Rattle.float64.specs.Number.{plusZero, whole, half, rateFits, phaseFits, frequencyFits, sineFits, clampOf}
+use lib.Ieee.{Float, binary64, add, mul, div, neg, le, lt, ofInt, round}
+use lib.Ieee as Ieee
+use borrow.Author.Tests.{ltb-true, lt-ltb}
+use Rattle.float64.specs.Number.{plusZero, whole, fraction, half, rateFits, phaseFits, frequencyFits, sineFits, clampOf}
 use Rattle.float64.proofs.Tests.{both}
-use Rattle.float64.proofs.Interval.{point, mul-in, div-in}
-use Rattle.float64.proofs.Ranges.{rate-in}
+use Rattle.float64.proofs.Interval.{In, point, add-in, mul-in, div-in, scale-in}
+use Rattle.float64.proofs.Ranges.{rate-in, sine-in, in-number}
+use Rattle.float64.proofs.Parts.{clamp-whole-in}
 use Rattle.float64.proofs.Lengths.{samples, length-20}
+use Rattle.port.specs.declared.Port.the-variants.{Set}
 use Rattle.port.specs.Port.{valueOr, isNanSet}
 use Rattle.port.specs.Answer.{Reply, played}
-use Rattle.common.specs.Signal.{blended, advanced, causeNumber}
+use Rattle.common.specs.Signal.{blended, advanced}
 use Rattle.common.specs.Line.{nextPlace, lineAt, readAt}
-use Rattle.common.proofs.Ring.{part-line}
-use Rattle.common.proofs.Sweep.{size-is, size-tests, small}
+use Rattle.common.proofs.Sweep.{size-tests, small, no-cause, neither, part-read}
 use Rattle.effect.specs.Effect.{laid}
-use Rattle.effect.specs.Run.{reset, numberIn}
-use Rattle.effect.proofs.Table.{none-5-6, enough, accepted}
+use Rattle.effect.specs.Lines.{inEach}
+use Rattle.effect.specs.Run.{tick, numberIn}
+use Rattle.effect.specs.Contract.{Does}
+use Rattle.effect.proofs.Contract.{accepts}
 use Rattle.vibrato.specs.declared.Vibrato.{Vibrato}
-use Rattle.vibrato.specs.Vibrato.{Tick, vibrato, lineLength, tickNumber, input, distance, delayed, next, writes, sample}
-use Rattle.vibrato.specs.Vibrato as page
+use Rattle.vibrato.specs.Vibrato.{Tick, ticked, vibrato, lineLength, fits, tickNumber, input, depth, mix, distance, delayed, next, writes, sample}
 
 -- ---- the line's length
 
@@ -37,93 +39,121 @@ module _ (rate : Float) (h : rateFits rate ≡ true) where
 
   -- rate × 20 / 1000 is small enough for the quick whole part
   pub samples-small : T (le (whole 1) (samples rate (whole 20))) × T (lt (samples rate (whole 20)) (whole 9007199254740992))
-  unfolding fits le lt mul div ofInt
+  unfolding Ieee.fits le lt mul div ofInt
   samples-small =
       small (div-in (whole 1) (whole 16777216) tt tt tt (mul-in (whole 160000) (whole 3840000) tt tt tt (rate-in h) (point (whole 20) tt)) (point (whole 1000) tt))
 
 -- ---- the state test
 
 -- by the length n of the line, as `line_length` answers it
-pub fits-by : (s : Vibrato) {n : ℕ} → n ≡ cond (rateFits (s .«sample_rate»)) (lineLength (s .«sample_rate»)) 0
-    → page.fits s ≡ ltb (s .«write_pos») n && phaseFits (s .«lfo_phase»)
-unfolding page.fits
+pub fits-by : (s : Vibrato) {n : ℕ} → n ≡ cond (rateFits (s .«sample_rate»)) (lineLength (s .«sample_rate»)) 0 → fits s ≡ ltb (s .«write_pos») n && phaseFits (s .«lfo_phase»)
+unfolding fits
 fits-by s e = size-tests (rateFits (s .«sample_rate»)) (lineLength (s .«sample_rate»)) (s .«write_pos») (λ n. phaseFits (s .«lfo_phase»)) e
 
--- what a state that passes has
-pub record Passed (s : Vibrato) : Type 0 where
+pub record Fits (s : Vibrato) : Type 0 where
   pub rate : rateFits (s .«sample_rate») ≡ true
-  pub position : s .«write_pos» < lineLength (s .«sample_rate»)
+  pub inside : s .«write_pos» < lineLength (s .«sample_rate»)
   pub phase : phaseFits (s .«lfo_phase») ≡ true
 
-pub passed : (s : Vibrato) → page.fits s ≡ true → Passed s
-unfolding page.fits
-passed s e =
-    let w = ltb (s .«write_pos») (lineLength (s .«sample_rate»)) in
-    let p = phaseFits (s .«lfo_phase») in
-    let a = both (rateFits (s .«sample_rate»)) (w && p) e in
-    let b = both w p (a .1) in
-    record { rate = a .0; position = ltb-true (s .«write_pos») (lineLength (s .«sample_rate»)) (b .0); phase = b .1 }
+module _ (s : Vibrato) where
+  pub fits-parts : fits s ≡ true → Fits s
+  unfolding fits
+  fits-parts e =
+      let w = ltb (s .«write_pos») (lineLength (s .«sample_rate»)) in
+      let p = phaseFits (s .«lfo_phase») in
+      let a = both (rateFits (s .«sample_rate»)) (w && p) e in
+      let b = both w p (a .1) in
+      record { rate = a .0; inside = ltb-true (s .«write_pos») (lineLength (s .«sample_rate»)) (b .0); phase = b .1 }
 
--- what a unit has that causes 4 and 3 leave, with the line's length n as `line_length` answers it and m places
-pub record Ready (s : Vibrato) (n m : ℕ) : Type 0 where
-  pub fits : page.fits s ≡ true
-  pub passed : Passed s
-  pub size : n ≡ lineLength (s .«sample_rate»)
-  pub enough : lineLength (s .«sample_rate») ≤ m
+  pub fit : Fits s → fits s ≡ true
+  unfolding fits
+  fit f = rw (f .rate, lt-ltb (s .«write_pos») (lineLength (s .«sample_rate»)) (f .inside), f .phase)
 
-pub ready : (s : Vibrato) {n : ℕ} (m : ℕ) → n ≡ cond (rateFits (s .«sample_rate»)) (lineLength (s .«sample_rate»)) 0 → numberIn vibrato reset m s ≡ 0 → Ready s n m
-ready s m e z =
-    let a = accepted vibrato m reset s z in
-    let p = passed s (a .fits) in
-    record {
-      fits = a .fits;
-      passed = p;
-      size = size-is (rateFits (s .«sample_rate»)) (lineLength (s .«sample_rate»)) e (p .rate);
-      enough = enough (lineLength (s .«sample_rate»)) m (a .number);
-    }
+-- ---- causes 5 and 6
 
--- ---- a tick
-
--- what a tick has that causes 5 and 6 leave
-pub record Handed (t : Tick) : Type 0 where
+pub record TickFits (t : Tick) : Type 0 where
   pub depth : isNanSet (t .depth) ≡ false
   pub frequency : frequencyFits (t .frequency) ≡ true
   pub sine : sineFits (t .sine) ≡ true
 
-none-5 : (a b passes : Bool) → causeNumber (a || b) passes ≡ 0 → a ≡ false
-none-5 true b passes e = absurd (omega arith)
-none-5 false b passes e = refl
-
-pub handed : (t : Tick) → tickNumber t ≡ 0 → Handed t
+pub tick-fits : (t : Tick) → tickNumber t ≡ 0 → TickFits t
 unfolding tickNumber
-handed t e =
-    let a = isNanSet (t .depth) in
-    let b = isNanSet (t .mix) in
-    let f = frequencyFits (t .frequency) in
-    let s = sineFits (t .sine) in
-    let v = both f s (none-5-6 (a || b) (f && s) e) in
-    record { depth = none-5 a b (f && s) e; frequency = v .0; sine = v .1 }
+tick-fits t e =
+    let v = no-cause (isNanSet (t .depth) || isNanSet (t .mix)) (frequencyFits (t .frequency) && sineFits (t .sine)) e in
+    let a = both (frequencyFits (t .frequency)) (sineFits (t .sine)) (v .1) in
+    record { depth = neither (isNanSet (t .depth)) (isNanSet (t .mix)) (v .0) .0; frequency = a .0; sine = a .1 }
 
--- what an accepted tick leaves and answers, from its steps and the line's length n
-module _ (t : Tick) (s : Vibrato) {n : ℕ} (size : n ≡ lineLength (s .«sample_rate»)) where
-  pub next-is : {s' : Vibrato} → s' .«write_pos» ≡ nextPlace n (s .«write_pos») → s' .«lfo_phase» ≡ advanced (s .«lfo_phase») (div binary64 (t .frequency) (s .«sample_rate»))
-      → s' .«sample_rate» ≡ s .«sample_rate»
-      → s' ≡ next t s
+-- ---- the distance
+
+-- (10 + sine × (depth × 10 × 0.9)) × rate / 1000
+abbrev swept : Float → Float → Float → Float
+swept rate depth sine =
+    div binary64 (mul binary64 (add binary64 (whole 10) (mul binary64 sine (mul binary64 (mul binary64 depth (whole 10)) (fraction 9 10)))) rate) (whole 1000)
+
+module _ (rate depth sine : Float) (h : rateFits rate ≡ true) (d : In binary64 plusZero (whole 1) depth) (k : sineFits sine ≡ true) where
+  swept-in : In binary64 plusZero (whole 3840) (swept rate depth sine)
+  unfolding Ieee.fits le lt add mul div neg ofInt round
+  swept-in =
+      let swing = mul-in plusZero (whole 10) tt tt tt (mul-in plusZero (whole 10) tt tt tt d (point (whole 10) tt)) (point (fraction 9 10) tt) in
+      let delay = add-in plusZero (whole 20) tt (point (whole 10) tt) (scale-in (neg (whole 10)) (whole 10) tt tt tt (sine-in k) swing) in
+      div-in plusZero (whole 3840) tt tt tt (mul-in plusZero (whole 3840000) tt tt tt delay (rate-in h)) (point (whole 1000) tt)
+
+  -- after the clamp both places that are read lie in the line
+  pub distance-in : In binary64 (whole 1) (whole (lineLength rate - 1)) (distance rate depth sine)
+  unfolding distance
+  distance-in =
+      let l = length-fits rate h in
+      clamp-whole-in (lineLength rate - 1) (omega arith) (swept rate depth sine) (omega arith) (in-number swept-in)
+
+-- ---- an accepted tick from its steps
+
+module _ (t : Tick) (s : Vibrato) (m : List Float) {n : ℕ} (e : n ≡ lineLength (s .«sample_rate»)) where
+  -- a read in the part of the memory that is the line is what the tick reads
+  pub delayed-is : {d x y : Float} → n ≤ length m → s .«write_pos» < n → d ≡ depth t → x ≡ distance (s .«sample_rate») d (t .sine)
+      → y ≡ readAt (lineAt 0 (length (take n m)) (s .«write_pos») (take n m)) x
+      → y ≡ delayed t s m
+  unfolding delayed
+  delayed-is {d} {x} l h g at r =
+      r
+      ∙ part-read n 0 n (s .«write_pos») m x refl (omega arith) h
+      ∙ ap (λ (z : Float). readAt (lineAt 0 n (s .«write_pos») m) z) at
+      ∙ (λ j. readAt (lineAt 0 (e j) (s .«write_pos») m) (distance (s .«sample_rate») (g j) (t .sine)))
+
+  pub next-is : {r : Vibrato} → r .«write_pos» ≡ nextPlace n (s .«write_pos»)
+      → r .«lfo_phase» ≡ advanced (s .«lfo_phase») (div binary64 (t .frequency) (s .«sample_rate»))
+      → r .«sample_rate» ≡ s .«sample_rate»
+      → r ≡ next t s
   unfolding next
-  next-is w p r =
-      λ i. record { «write_pos» = (w ∙ ap (λ (q : ℕ). nextPlace q (s .«write_pos»)) size) i; «lfo_phase» = p i; «sample_rate» = r i }
+  next-is w p k =
+      λ i. record { «write_pos» = (w ∙ ap (λ (z : ℕ). nextPlace z (s .«write_pos»)) e) i; «lfo_phase» = p i; «sample_rate» = k i }
 
-  pub stored-is : (m : List Float) {m' : List Float} {x : Float} → x ≡ input t → m' ≡ set m (s .«write_pos») x → m' ≡ laid (writes t s) m
-  unfolding writes
-  stored-is m a e = rw (zero-mul, zero-add, e, a)
+  -- what is stored and played, from the audio, the read and the clamped mix
+  module _ {x : Float} (audio : x ≡ input t) where
+    pub stored-is : set m (s .«write_pos») x ≡ laid (writes t s) m
+    unfolding writes
+    stored-is = let p : s .«write_pos» ≡ 0 * lineLength (s .«sample_rate») + s .«write_pos» = omega arith in λ i. set m (p i) (audio i)
 
-  pub played-is : (m : List Float) {x d b d' b' : Float} {y : Reply} → x ≡ input t → d ≡ valueOr (t .depth) half → b ≡ valueOr (t .mix) (whole 1)
-      → d' ≡ clampOf d plusZero (whole 1) → b' ≡ clampOf b plusZero (whole 1)
-      → y ≡ played (blended x (readAt (lineAt 0 n (s .«write_pos») m) (distance (s .«sample_rate») d' (t .sine))) b' ∷ [])
-      → y ≡ played (sample t s m ∷ [])
-  unfolding sample delayed
-  played-is m audio depth mix d b y = rw (y, d, b, audio, depth, mix, size)
+    pub played-is : {y b r : Float} → y ≡ delayed t s m → b ≡ mix t → r ≡ blended x y b → played (r ∷ []) ≡ played (sample t s m ∷ [])
+    unfolding sample
+    played-is y b r = ap (λ (z : Float). played (z ∷ [])) (r ∙ (λ i. blended (audio i) (y i) (b i)))
 
--- a read in the part of the memory that is the line is a read of the line
-pub part-read : (n w : ℕ) (m : List Float) (x : Float) → w < n → n ≤ length m → readAt (lineAt 0 (length (take n m)) w (take n m)) x ≡ readAt (lineAt 0 n w m) x
-part-read n w m x h k = rw (length-take-le n m k) (ap (λ (f : ℕ → Float). readAt f x) (part-line 0 n w m h))
+-- ---- ports: a tick is the one with all ports set to the values that it takes from them
+
+module _ (t : Tick) {x d b : Float} (audio : x ≡ valueOr (t .audio) plusZero) (amount : d ≡ valueOr (t .depth) half) (wet : b ≡ valueOr (t .mix) (whole 1)) where
+  abbrev pub allSet : Tick
+  allSet = ticked (Set x) (Set d) (Set b) (t .frequency) (t .sine)
+
+  pub set-does : {s : Vibrato} {m : List Float} {s' : Vibrato} {m' : List Float} {a : Reply} → numberIn vibrato (tick t) (length m) s ≡ 0
+      → numberIn vibrato (tick allSet) (length m) s ≡ 0
+      → Does vibrato (tick allSet) s m s' m' a
+      → Does vibrato (tick t) s m s' m' a
+  unfolding next writes sample delayed
+  set-does {s} {m} n k does =
+      let rate = s .«sample_rate» in
+      let L = lineLength rate in
+      let w = s .«write_pos» in
+      accepts vibrato (tick t) s m n
+      (rw k at (does .state))
+      ((rw k at (does .memory)) ∙ (λ i. laid (inEach 1 0 L w (audio i)) m))
+      ((rw k at (does .answer))
+      ∙ (λ i. played (blended (audio i) (readAt (lineAt 0 L w m) (distance rate (clampOf (amount i) plusZero (whole 1)) (t .sine))) (clampOf (wet i) plusZero (whole 1)) ∷ [])))

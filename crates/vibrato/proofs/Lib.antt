@@ -1,4 +1,3 @@
 pub mod Laws
-pub mod Distance
 pub mod Demand1
 pub mod Demand3

@@ -3,11 +3,9 @@ use Prim.Native.Nat.{_-_, _≤_}
 use native.Mathlib.Omega.{arith}
 use lib.Ieee.{mul, ofBits, ofInt, round}
 use borrow.Author.Needs.{needs}
-use Rattle.float64.specs.Number.{whole}
-use Rattle.float64.proofs.Clamped.{clamp-halves}
+use Rattle.common.proofs.Sweep.{clamped-halves}
 use Rattle.vibrato.specs.Vibrato.{distance}
 use Rattle.vibrato.proofs.Laws.{length-fits}
-use Rattle.common.proofs.Sweep.{last-above}
 use Rattle.vibrato.proofs.Vibrato.distance.Statement.{statement}
 use Rattle.vibrato.proofs.Vibrato.distance.Tie as tie
 
@@ -38,7 +36,7 @@ unfolding distance mul ofBits ofInt round
 returns c =
     let s = c .before .before .before in
     rw (c .at-most .ensures, c .before .before .at-least .ensures, c .before .nearest-u64-to-f64 .ensures, ← (s .pre .1))
-    (clamp-halves _ (whole 1) (whole (s .args .n - 1)) (last-above (s .args .n - 1) (omega (arith, bounds s .1)) (omega (arith, bounds s .0))))
+    (clamped-halves _ (s .args .n - 1) (omega (arith, bounds s .1)) (omega (arith, bounds s .0)))
 
 pub distance-spec : {M : Type 1} → statement M
 distance-spec =

@@ -1,4 +1,4 @@
--- `Vibrato::line_length` is L at a rate that fits, where the whole part is known to be small, and 0 at any other. Assumes nothing.
+-- `Vibrato::line_length` is `lineLength` at an accepted rate, where the quick whole part serves, and 0 at another. Assumes nothing.
 use native.Mathlib.Omega.{arith}
 use mathlib.Core.Path.{_≡_, sym, _∙_}
 use mathlib.Core.Bool.{true}
@@ -19,20 +19,27 @@ returns : tie.Need-returns
 returns c = rw (sym (c .before .rate-fits .ensures) ∙ not-true _ (c .if1 .taken))
 
 -- past the test the rate fits
-rate-passed : (c : tie.Else1) → rateFits (c .before .before .args .sample-rate) ≡ true
+rate-passed : (c : tie.Else1) → rateFits (c .before .before .args .rate) ≡ true
 rate-passed c = sym (c .before .rate-fits .ensures) ∙ not-false _ (c .if1 .left)
 
 whole-part-small-requires : tie.Need-whole-part-small-requires
 unfolding ofBits ofInt
-whole-part-small-requires c κs = samples-small (c .before .before .args .sample-rate) (rate-passed c)
+whole-part-small-requires c κs = samples-small (c .before .before .args .rate) (rate-passed c)
 
 add-result : tie.Need-add-result
 unfolding ofBits ofInt
-add-result c = omega (arith, c .whole-part-small .ensures, length-20 (c .before .before .before .args .sample-rate) (rate-passed (c .before)))
+add-result c = omega (arith, c .whole-part-small .ensures, length-20 (c .before .before .before .args .rate) (rate-passed (c .before)))
 
 returns-2 : tie.Need-returns-2
 unfolding lineLength ofBits ofInt
 returns-2 c = rw (rate-passed (c .before), c .whole-part-small .ensures)
 
 pub line-length-spec : {M : Type 1} → statement M
-line-length-spec = tie.close (tie.spec rate-fits-requires returns whole-part-small-requires add-result returns-2)
+line-length-spec =
+    tie.close
+    (tie.spec
+    rate-fits-requires
+    returns
+    whole-part-small-requires
+    add-result
+    returns-2)

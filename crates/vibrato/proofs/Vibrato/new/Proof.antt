@@ -1,5 +1,5 @@
--- `Vibrato::new` is the start of `vibrato`: cause 1 or 3, or the fresh state and +0 in every place. Assumes nothing.
-use mathlib.Core.Path.{sym, ap, _∙_}
+-- `Vibrato::new` is the start of `vibrato`: causes 1 and 3, or a clearing and the fresh state. Assumes nothing.
+use mathlib.Core.Path.{refl, sym, ap, _∙_}
 use lib.Ieee.{ofBits}
 use borrow.Author.Needs.{needs}
 use Rattle.port.specs.Answer.{number, numberOf}
@@ -12,51 +12,58 @@ use Rattle.vibrato.proofs.Vibrato.new.Tie as tie
 rate-refusal-requires : tie.Need-rate-refusal-requires
 rate-refusal-requires c κs = search needs
 
-enum-known-checked : tie.Need-enum-known-checked
-enum-known-checked c = search needs
+enum-known-refusal : tie.Need-enum-known-refusal
+enum-known-refusal c = search needs
 
-fresh-requires : tie.Need-fresh-requires
-fresh-requires c κs = search needs
+cleared-requires : tie.Need-cleared-requires
+cleared-requires c κs = search needs
 
 returns : tie.Need-returns
 unfolding ofBits
 returns c =
-    let checked = c .before .before in
-    let a = checked .before .before .before .before .args in
-    let cause = checked .checked .given .0 .0 in
-    let r = starts-refused vibrato (a .sample-rate) (a .mem .now) (number cause) (sym (ap numberOf (checked .checked .given .1)) ∙ checked .before .before .rate-refusal .ensures) (number-some cause) in
-    record { state = c .fresh .ensures ∙ r .state; memory = r .memory; answer = r .answer }
+    let refusal = c .before .before in
+    let a = refusal .before .before .before .before .args in
+    let cause = refusal .refusal .given .0 .0 in
+    let r =
+    starts-refused vibrato (a .sample-rate) (a .mem .now) (number cause)
+    (sym (ap numberOf (refusal .refusal .given .1)) ∙ refusal .before .before .rate-refusal .ensures)
+    (number-some cause) in
+    record { state = c .cleared .ensures ∙ r .state; memory = r .memory; answer = r .answer }
 
 enum-told : tie.Need-enum-told
 enum-told c = search needs
 
-cleared-requires : tie.Need-cleared-requires
-cleared-requires c κs = search needs
+clear-requires : tie.Need-clear-requires
+clear-requires c κs = search needs
+
+cleared-requires-2 : tie.Need-cleared-requires-2
+cleared-requires-2 c κs = search needs
 
 same-length : tie.Need-same-length
 same-length c = search needs
 
 returns-2 : tie.Need-returns-2
+unfolding ofBits
 returns-2 c =
-    let emptied = c .before .before in
-    let told = emptied .before .before in
-    let checked = told .before .before in
-    let a = checked .before .before .args in
+    let filled = c .before .before .before in
+    let told = filled .before .before in
+    let a = told .before .before .before .before .args in
     starts-accepted vibrato (a .sample-rate) (a .mem .now)
-    (sym (checked .rate-refusal .ensures) ∙ ap numberOf (told .enum-told .given .1))
-    (emptied .cleared .ensures .0)
-    (emptied .cleared .ensures .1 .1)
-    (emptied .cleared .ensures .1 .0)
+    (sym (told .before .before .rate-refusal .ensures) ∙ ap numberOf (told .enum-told .given .1))
+    (c .cleared2 .ensures)
+    (filled .clear .ensures)
+    refl
 
 pub new-spec : {M : Type 1} → statement M
 new-spec =
     tie.close
     (tie.spec
     rate-refusal-requires
-    enum-known-checked
-    fresh-requires
+    enum-known-refusal
+    cleared-requires
     returns
     enum-told
-    cleared-requires
+    clear-requires
+    cleared-requires-2
     same-length
     returns-2)

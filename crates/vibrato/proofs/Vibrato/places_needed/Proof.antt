@@ -1,4 +1,4 @@
--- `Vibrato::places_needed` is `placesNeeded`: a line has no places at just the rates that are refused. Assumes nothing.
+-- `Vibrato::places_needed` is `placesNeeded`: the line has no places at just the rates that are refused. Assumes nothing.
 use native.Mathlib.Omega.{arith}
 use mathlib.Core.Path.{_≡_}
 use mathlib.Core.Bool.{true}
@@ -15,16 +15,16 @@ line-length-requires c κs = search needs
 
 returns : tie.Need-returns
 returns c =
-    let rate = c .before .before .args .sample-rate in
+    let rate = c .before .before .args .rate in
     rw (size-none (rateFits rate) (lineLength rate) (c .before .line-length .ensures) (λ h. omega (arith, length-fits rate h .0)) (c .if1 .taken))
 
--- past the test the rate fits, and n is the length of a line
+-- past the test the rate fits, and n is the length of the line
 module _ (c : tie.Else1) where
-  passed : rateFits (c .before .before .args .sample-rate) ≡ true
-  passed = size-some (rateFits (c .before .before .args .sample-rate)) (lineLength (c .before .before .args .sample-rate)) (c .before .line-length .ensures) (c .if1 .left)
+  passed : rateFits (c .before .before .args .rate) ≡ true
+  passed = size-some (rateFits (c .before .before .args .rate)) (lineLength (c .before .before .args .rate)) (c .before .line-length .ensures) (c .if1 .left)
 
-  sized : c .before .line-length .result ≡ lineLength (c .before .before .args .sample-rate)
-  sized = size-is (rateFits (c .before .before .args .sample-rate)) (lineLength (c .before .before .args .sample-rate)) (c .before .line-length .ensures) passed
+  sized : c .before .line-length .result ≡ lineLength (c .before .before .args .rate)
+  sized = size-is (rateFits (c .before .before .args .rate)) (lineLength (c .before .before .args .rate)) (c .before .line-length .ensures) passed
 
 returns-2 : tie.Need-returns-2
 returns-2 c = rw (passed c, sized c)

@@ -1,4 +1,4 @@
--- `Vibrato::rate_refusal` is the table's row of a start: causes 1 and 3. A line has no places at just the rates that are refused. Assumes nothing.
+-- `Vibrato::rate_refusal` is the table's row of a start: causes 1 and 3. The line has no places at just the rates that are refused. Assumes nothing.
 use Prim.Native.Nat.{ℕ}
 use native.Mathlib.Omega.{arith}
 use mathlib.Core.Path.{_≡_, ap, _∙_}
@@ -19,16 +19,16 @@ line-length-requires c κs = search needs
 returns : tie.Need-returns
 returns c =
     let a = c .before .before .args in
-    let none = size-none (rateFits (a .sample-rate)) (lineLength (a .sample-rate)) (c .before .line-length .ensures) (λ h. omega (arith, length-fits (a .sample-rate) h .0)) (c .if1 .taken) in
-    start-settings vibrato (a .places) (a .sample-rate) (rw none) (omega arith)
+    let none = size-none (rateFits (a .rate)) (lineLength (a .rate)) (c .before .line-length .ensures) (λ h. omega (arith, length-fits (a .rate) h .0)) (c .if1 .taken) in
+    start-settings vibrato (a .places) (a .rate) (rw none) (omega arith)
 
--- past the test the rate fits, and n is the length of a line
+-- past the test the rate fits, and n is the length of the line
 module _ (c : tie.Else1) where
-  rate-passed : rateFits (c .before .before .args .sample-rate) ≡ true
-  rate-passed = size-some (rateFits (c .before .before .args .sample-rate)) (lineLength (c .before .before .args .sample-rate)) (c .before .line-length .ensures) (c .if1 .left)
+  rate-passed : rateFits (c .before .before .args .rate) ≡ true
+  rate-passed = size-some (rateFits (c .before .before .args .rate)) (lineLength (c .before .before .args .rate)) (c .before .line-length .ensures) (c .if1 .left)
 
-  sized : c .before .line-length .result ≡ lineLength (c .before .before .args .sample-rate)
-  sized = size-is (rateFits (c .before .before .args .sample-rate)) (lineLength (c .before .before .args .sample-rate)) (c .before .line-length .ensures) rate-passed
+  sized : c .before .line-length .result ≡ lineLength (c .before .before .args .rate)
+  sized = size-is (rateFits (c .before .before .args .rate)) (lineLength (c .before .before .args .rate)) (c .before .line-length .ensures) rate-passed
 
 check-memory-requires : tie.Need-check-memory-requires
 check-memory-requires c κs = search needs
@@ -36,7 +36,7 @@ check-memory-requires c κs = search needs
 returns-2 : tie.Need-returns-2
 returns-2 c =
     let a = c .before .before .before .args in
-    start-memory vibrato (a .places) (a .sample-rate) (rw (rate-passed (c .before)))
+    start-memory vibrato (a .places) (a .rate) (rw (rate-passed (c .before)))
     (c .check-memory .ensures ∙ ap (λ (n : ℕ). memoryNumber n (a .places)) (sized (c .before)))
 
 pub rate-refusal-spec : {M : Type 1} → statement M

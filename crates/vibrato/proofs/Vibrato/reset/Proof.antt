@@ -1,5 +1,6 @@
--- `Vibrato::reset` is the reset of `vibrato`: cause 4 or 3, or the fresh state and +0 in every place. Assumes nothing.
-use mathlib.Core.Path.{sym, ap, _∙_}
+-- `Vibrato::reset` is the reset of `vibrato`: causes 4 and 3, or a clearing and the fresh state. Assumes nothing.
+use mathlib.Core.Path.{refl, sym, ap, _∙_}
+use lib.Ieee.{ofBits}
 use borrow.Author.Needs.{needs}
 use Rattle.port.specs.Answer.{number, numberOf}
 use Rattle.port.proofs.Laws.{number-some}
@@ -15,20 +16,23 @@ line-length-requires c κs = search needs
 refusal-requires : tie.Need-refusal-requires
 refusal-requires c κs = search needs
 
-enum-known-checked : tie.Need-enum-known-checked
-enum-known-checked c = search needs
+enum-known-refusal : tie.Need-enum-known-refusal
+enum-known-refusal c = search needs
 
 returns : tie.Need-returns
 returns c =
-    let checked = c .before in
-    let a = checked .before .before .before .before .before .args in
-    let cause = checked .checked .given .0 .0 in
+    let refusal = c .before in
+    let a = refusal .before .before .before .before .before .args in
+    let cause = refusal .refusal2 .given .0 .0 in
     refuses vibrato reset (a .self) (a .mem .now) (number cause)
-    (sym (ap numberOf (checked .checked .given .1)) ∙ checked .before .before .refusal .ensures)
+    (sym (ap numberOf (refusal .refusal2 .given .1)) ∙ refusal .before .before .refusal .ensures)
     (number-some cause)
 
 enum-told : tie.Need-enum-told
 enum-told c = search needs
+
+clear-requires : tie.Need-clear-requires
+clear-requires c κs = search needs
 
 cleared-requires : tie.Need-cleared-requires
 cleared-requires c κs = search needs
@@ -37,16 +41,16 @@ same-length : tie.Need-same-length
 same-length c = search needs
 
 returns-2 : tie.Need-returns-2
+unfolding ofBits
 returns-2 c =
-    let emptied = c .before .before in
-    let told = emptied .before .before in
-    let checked = told .before .before in
-    let a = checked .before .before .before .args in
+    let filled = c .before .before .before in
+    let told = filled .before .before in
+    let a = told .before .before .before .before .before .args in
     accepts vibrato reset (a .self) (a .mem .now)
-    (sym (checked .refusal .ensures) ∙ ap numberOf (told .enum-told .given .1))
-    (emptied .cleared .ensures .0)
-    (emptied .cleared .ensures .1 .1)
-    (emptied .cleared .ensures .1 .0)
+    (sym (told .before .before .refusal .ensures) ∙ ap numberOf (told .enum-told .given .1))
+    (c .cleared .ensures)
+    (filled .clear .ensures)
+    refl
 
 pub reset-spec : {M : Type 1} → statement M
 reset-spec =
@@ -54,9 +58,10 @@ reset-spec =
     (tie.spec
     line-length-requires
     refusal-requires
-    enum-known-checked
+    enum-known-refusal
     returns
     enum-told
+    clear-requires
     cleared-requires
     same-length
     returns-2)

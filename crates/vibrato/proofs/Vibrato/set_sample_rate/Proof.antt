@@ -1,15 +1,14 @@
--- `Vibrato::set_sample_rate` is the retune of `vibrato`: cause 4, 1 or 3, or the fresh state at the new rate and +0 in every place. Assumes nothing.
+-- `Vibrato::set_sample_rate` is the retune of `vibrato`: causes 4, 1 and 3, or a clearing and the fresh state at the new rate. Assumes nothing.
 use native.Mathlib.Omega.{arith}
-use mathlib.Core.Path.{_≡_, sym, ap, _∙_}
-use mathlib.Core.Bool.{true}
+use mathlib.Core.Path.{refl, sym, ap, _∙_}
+use lib.ListN.{length}
 use borrow.Author.Needs.{needs}
 use borrow.Author.Tests.{not-true, not-false}
-use lib.ListN.{length}
 use Rattle.port.specs.Answer.{number, numberOf}
 use Rattle.port.proofs.Laws.{number-some}
 use Rattle.effect.specs.Run.{retune}
 use Rattle.effect.proofs.Contract.{refuses, accepts, state-refused, state-passed}
-use Rattle.vibrato.specs.Vibrato.{vibrato, fits}
+use Rattle.vibrato.specs.Vibrato.{vibrato}
 use Rattle.vibrato.proofs.Vibrato.set_sample_rate.Statement.{statement}
 use Rattle.vibrato.proofs.Vibrato.set_sample_rate.Tie as tie
 
@@ -29,24 +28,25 @@ returns c =
 rate-refusal-requires : tie.Need-rate-refusal-requires
 rate-refusal-requires c κs = search needs
 
-enum-known-checked : tie.Need-enum-known-checked
-enum-known-checked c = search needs
-
-passed : (c : tie.Else1) → fits (c .before .before .before .before .args .self) ≡ true
-passed c = sym (c .before .state-fits .ensures) ∙ not-false _ (c .if1 .left)
+enum-known-refusal : tie.Need-enum-known-refusal
+enum-known-refusal c = search needs
 
 returns-2 : tie.Need-returns-2
 returns-2 c =
-    let checked = c .before in
-    let past = checked .before .before .before in
-    let a = past .before .before .before .before .args in
-    let cause = checked .checked .given .0 .0 in
+    let refusal = c .before in
+    let passed = refusal .before .before .before in
+    let a = passed .before .before .before .before .args in
+    let cause = refusal .refusal .given .0 .0 in
     refuses vibrato (retune (a .sample-rate)) (a .self) (a .mem .now) (number cause)
-    (state-passed vibrato (length (a .mem .now)) (a .self) (retune (a .sample-rate)) (passed past) (sym (ap numberOf (checked .checked .given .1)) ∙ checked .before .before .rate-refusal .ensures))
+    (state-passed vibrato (length (a .mem .now)) (a .self) (retune (a .sample-rate)) (sym (passed .before .state-fits .ensures) ∙ not-false _ (passed .if1 .left))
+    (sym (ap numberOf (refusal .refusal .given .1)) ∙ refusal .before .before .rate-refusal .ensures))
     (number-some cause)
 
 enum-told : tie.Need-enum-told
 enum-told c = search needs
+
+clear-requires : tie.Need-clear-requires
+clear-requires c κs = search needs
 
 cleared-requires : tie.Need-cleared-requires
 cleared-requires c κs = search needs
@@ -56,16 +56,16 @@ same-length c = search needs
 
 returns-3 : tie.Need-returns-3
 returns-3 c =
-    let emptied = c .before .before in
-    let told = emptied .before .before in
-    let checked = told .before .before in
-    let past = checked .before in
-    let a = past .before .before .before .before .args in
+    let filled = c .before .before .before in
+    let told = filled .before .before in
+    let passed = told .before .before .before in
+    let a = passed .before .before .before .before .args in
     accepts vibrato (retune (a .sample-rate)) (a .self) (a .mem .now)
-    (sym (state-passed vibrato (length (a .mem .now)) (a .self) (retune (a .sample-rate)) (passed past) (sym (ap numberOf (told .enum-told .given .1)) ∙ checked .rate-refusal .ensures)))
-    (emptied .cleared .ensures .0)
-    (emptied .cleared .ensures .1 .1)
-    (emptied .cleared .ensures .1 .0)
+    (sym (state-passed vibrato (length (a .mem .now)) (a .self) (retune (a .sample-rate)) (sym (passed .before .state-fits .ensures) ∙ not-false _ (passed .if1 .left))
+    (sym (ap numberOf (told .enum-told .given .1)) ∙ told .before .before .rate-refusal .ensures)))
+    (c .cleared .ensures)
+    (filled .clear .ensures)
+    refl
 
 pub set-sample-rate-spec : {M : Type 1} → statement M
 set-sample-rate-spec =
@@ -75,9 +75,10 @@ set-sample-rate-spec =
     state-fits-requires
     returns
     rate-refusal-requires
-    enum-known-checked
+    enum-known-refusal
     returns-2
     enum-told
+    clear-requires
     cleared-requires
     same-length
     returns-3)

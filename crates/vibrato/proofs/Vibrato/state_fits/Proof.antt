@@ -1,4 +1,4 @@
--- `Vibrato::state_fits` is `fits`, branch by branch: the rate is tested by the line's length. Assumes nothing.
+-- `Vibrato::state_fits` is `fits`, branch by branch: the rate is tested by the length of a line. Assumes nothing.
 use borrow.Author.Needs.{needs}
 use borrow.Author.Tests.{lt-ltb, le-ltb}
 use Rattle.vibrato.proofs.Laws.{fits-by}
