@@ -1,13 +1,16 @@
 -- Demand 3 for two choruses, by the laws of their lines: each line is the recent past, and a voice's read is worked out from it. Assumes nothing but that
 -- the rates in force at the end of both runs are equal.
-use Prim.Native.Nat.{ℕ, _*_, _<_}
+use Prim.Native.Nat.{ℕ, _-_, _*_, _<_}
 use native.Mathlib.Omega.{arith}
 use mathlib.Core.Path.{_≡_, refl}
 use mathlib.Core.Bool.{true}
 use mathlib.Core.List.{List}
-use lib.Ieee.{Float}
-use Rattle.float64.specs.Number.{sineFits}
+use lib.Ieee.{Float, isNan, round}
+use lib.Ieee as Ieee
+use Rattle.float64.specs.Number.{half, isNumber, sineFits}
+use Rattle.float64.proofs.Parts.{parts-of}
 use Rattle.common.specs.Line.{newestFirst, readLine}
+use Rattle.common.proofs.Sweep.{control-in}
 use Rattle.effect.specs.Run.{Run}
 use Rattle.effect.specs.Demand3.{Demand3, inForce}
 use Rattle.effect.specs.Covers.{Covers}
@@ -17,7 +20,7 @@ use Rattle.effect.proofs.Demand3.{demand-3}
 use Rattle.effect.proofs.Covers.{covers}
 use Rattle.chorus.specs.declared.Chorus.{Chorus}
 use Rattle.chorus.specs.Chorus.{Tick, chorus, lines, fits, lineLength, tickNumber, depth, input, mix, distance, voice, mixed, samples, nextPhases, next, writes}
-use Rattle.chorus.proofs.Laws.{fits-parts, length-fits, tick-fits, depth-in, distance-parts}
+use Rattle.chorus.proofs.Laws.{fits-parts, length-fits, tick-fits, distance-in}
 use Rattle.chorus.proofs.Demand1.{laws}
 
 -- ---- the laws of lines
@@ -29,14 +32,14 @@ heard t rate sine l = readLine l (distance rate (depth t) sine)
 voice-heard : (t : Tick) (s : Chorus) (m l : List Float) → fits s ≡ true → tickNumber t ≡ 0 → (i : ℕ) (sine : Float) → sineFits sine ≡ true
     → newestFirst (i * lineLength (s .«sample_rate»)) (lineLength (s .«sample_rate»)) (s .«write_pos») m ≡ l
     → voice i sine t s m ≡ heard t (s .«sample_rate») sine l
-unfolding voice heard
+unfolding voice heard isNumber Ieee.fits isNan round
 voice-heard t s m l e n i sine k g =
     let rate = s .«sample_rate» in
     let L = lineLength rate in
     let h = fits-parts s e .rate in
-    let p = distance-parts rate (depth t) sine h (depth-in (t .depth) (tick-fits t n .depth)) k in
-    let some = length-fits rate h .0 in
-    read-of i (i * L) L (s .«write_pos») m l (distance rate (depth t) sine) refl g (p .at-least) (omega (arith, p .at-most))
+    let some = length-fits rate h in
+    let d = parts-of (L - 1) (omega arith) (distance-in rate (depth t) sine h (control-in (t .depth) half (tick-fits t n .depth) refl) k) in
+    read-of i (i * L) L (s .«write_pos») m l (distance rate (depth t) sine) refl g (d .at-least) (omega (arith, d .at-most))
 
 plays : (t : Tick) (s : Chorus) (m l : List Float) → fits s ≡ true → tickNumber t ≡ 0
     → ((i : ℕ) → i < 3 → newestFirst (i * lineLength (s .«sample_rate»)) (lineLength (s .«sample_rate»)) (s .«write_pos») m ≡ l)

@@ -1,38 +1,35 @@
--- The chorus's definitions by their cases: the length of a line, the state test, the table's row of a tick, its distances, what a voice reads, and a tick
--- with unset ports as one with all ports set. Assumes nothing.
+-- The chorus's definitions by their cases: the length of a line, the state test, the table's row of a tick, its distances, and an accepted tick from its
+-- steps, also where ports are unset. Assumes nothing.
 use Prim.Native.Nat.{ℕ, _+_, _-_, _*_, _≤_, _<_}
 use native.Mathlib.Omega.{arith}
-use mathlib.Core.Path.{_≡_, refl, ap, _∙_}
+use mathlib.Core.Path.{_≡_, ap, _∙_}
 use mathlib.Core.Bool.{Bool, true, false, _&&_, _||_, cond}
 use mathlib.Core.List.{List}
 use lib.Dec.{T, ltb}
-use lib.ListN.{length, take, drop, set, length-drop}
-use lib.Seq.{length-take-le}
-use lib.Ieee.{Float, binary64, add, mul, div, neg, le, lt, isNan, ofInt, round}
+use lib.ListN.{length, take, drop, set}
+use lib.Ieee.{Float, binary64, add, mul, div, neg, le, lt, ofInt, round}
 use lib.Ieee as Ieee
-use borrow.Author.Tests.{ltb-true, lt-ltb, le-ltb}
-use Rattle.float64.specs.Number.{plusZero, whole, half, isNumber, rateFits, phaseFits, frequencyFits, sineFits, clampOf}
+use borrow.Author.Tests.{ltb-true, lt-ltb}
+use Rattle.float64.specs.Number.{plusZero, whole, half, rateFits, phaseFits, frequencyFits, sineFits, clampOf}
 use Rattle.float64.proofs.Tests.{both}
-use Rattle.float64.proofs.Order.{le-lt-lt}
-use Rattle.float64.proofs.Interval.{In, widen, point, add-in, mul-in, div-in, scale-in}
+use Rattle.float64.proofs.Interval.{In, point, add-in, mul-in, div-in, scale-in}
 use Rattle.float64.proofs.Ranges.{rate-in, sine-in, in-number}
-use Rattle.float64.proofs.Parts.{Parts, parts-of, clamp-whole-in}
-use Rattle.float64.proofs.Lengths.{length-32}
-use Rattle.port.specs.declared.Port.{Port}
+use Rattle.float64.proofs.Parts.{clamp-whole-in}
+use Rattle.float64.proofs.Lengths.{samples, length-32}
 use Rattle.port.specs.declared.Port.the-variants.{Set}
 use Rattle.port.specs.Port.{valueOr, isNanSet}
 use Rattle.port.specs.Answer.{Reply, played}
 use Rattle.common.specs.Signal.{sanitized}
 use Rattle.common.specs.Line.{nextPlace, lineAt, readAt}
-use Rattle.common.proofs.Ring.{part-line}
-use Rattle.common.proofs.Sweep.{control-in}
+use Rattle.common.proofs.Sweep.{size-tests, small, no-cause, neither, part-length, part-read}
 use Rattle.effect.specs.Effect.{laid}
 use Rattle.effect.specs.Lines.{inEach}
 use Rattle.effect.specs.Run.{tick, numberIn}
 use Rattle.effect.specs.Contract.{Does}
 use Rattle.effect.proofs.Contract.{accepts}
 use Rattle.chorus.specs.declared.Chorus.{Chorus}
-use Rattle.chorus.specs.Chorus.{Tick, ticked, chorus, lineLength, phasesOf, nextPhases, fits, tickNumber, input, depth, mix, distance, voice, mixed, samples, next, writes}
+use Rattle.chorus.specs.Chorus.{Tick, ticked, chorus, lineLength, phasesOf, nextPhases, fits, tickNumber, input, depth, mix, distance, voice, mixed, next, writes}
+use Rattle.chorus.specs.Chorus as page
 
 -- ---- the length of a line
 
@@ -41,23 +38,22 @@ module _ (rate : Float) (h : rateFits rate ≡ true) where
   unfolding lineLength
   length-fits = let l = length-32 rate h in (omega arith, omega arith)
 
-  samples-in : In binary64 (whole 256) (whole 6144) (div binary64 (mul binary64 rate (whole 32)) (whole 1000))
-  unfolding Ieee.fits le lt mul div ofInt
-  samples-in = div-in (whole 256) (whole 6144) tt tt tt (mul-in (whole 256000) (whole 6144000) tt tt tt (rate-in h) (point (whole 32) tt)) (point (whole 1000) tt)
-
   -- rate × 32 / 1000 is small enough for the quick whole part
-  pub samples-small : T (le (whole 1) (div binary64 (mul binary64 rate (whole 32)) (whole 1000))) × T (lt (div binary64 (mul binary64 rate (whole 32)) (whole 1000)) (whole 9007199254740992))
-  unfolding Ieee.fits le lt ofInt
+  pub samples-small : T (le (whole 1) (samples rate (whole 32))) × T (lt (samples rate (whole 32)) (whole 9007199254740992))
+  unfolding Ieee.fits le lt mul div ofInt
   samples-small =
-      let x = div binary64 (mul binary64 rate (whole 32)) (whole 1000) in
-      let i = widen (whole 1) (whole 6144) tt samples-in in
-      (i .lower, le-lt-lt binary64 x (whole 6144) (whole 9007199254740992) (i .fit) tt tt (i .upper) tt)
+      small (div-in (whole 1) (whole 16777216) tt tt tt (mul-in (whole 256000) (whole 6144000) tt tt tt (rate-in h) (point (whole 32) tt)) (point (whole 1000) tt))
 
 -- ---- the state test
 
--- n is the length of a line, as `line_length` answers it: 0 for a refused rate
-pub length-is : {n : ℕ} (rate : Float) → n ≡ cond (rateFits rate) (lineLength rate) 0 → rateFits rate ≡ true → n ≡ lineLength rate
-length-is rate e h = e ∙ ap (λ (b : Bool). cond b (lineLength rate) 0) h
+-- the phases of the three voices
+abbrev pub phasesFit : Chorus → Bool
+phasesFit s = phaseFits (s .«lfo_phase0») && (phaseFits (s .«lfo_phase1») && phaseFits (s .«lfo_phase2»))
+
+-- by the length n of a line, as `line_length` answers it
+pub fits-by : (s : Chorus) {n : ℕ} → n ≡ cond (rateFits (s .«sample_rate»)) (lineLength (s .«sample_rate»)) 0 → fits s ≡ ltb (s .«write_pos») n && phasesFit s
+unfolding fits
+fits-by s e = size-tests (rateFits (s .«sample_rate»)) (lineLength (s .«sample_rate»)) (s .«write_pos») (λ n. phasesFit s) e
 
 pub record Fits (s : Chorus) : Type 0 where
   pub rate : rateFits (s .«sample_rate») ≡ true
@@ -70,9 +66,11 @@ module _ (s : Chorus) where
   pub fits-parts : fits s ≡ true → Fits s
   unfolding fits
   fits-parts e =
-      let a = both (rateFits (s .«sample_rate»)) (ltb (s .«write_pos») (lineLength (s .«sample_rate»)) && (phaseFits (s .«lfo_phase0») && (phaseFits (s .«lfo_phase1») && phaseFits (s .«lfo_phase2»)))) e in
-      let b = both (ltb (s .«write_pos») (lineLength (s .«sample_rate»))) (phaseFits (s .«lfo_phase0») && (phaseFits (s .«lfo_phase1») && phaseFits (s .«lfo_phase2»))) (a .1) in
-      let c = both (phaseFits (s .«lfo_phase0»)) (phaseFits (s .«lfo_phase1») && phaseFits (s .«lfo_phase2»)) (b .1) in
+      let w = ltb (s .«write_pos») (lineLength (s .«sample_rate»)) in
+      let others = phaseFits (s .«lfo_phase1») && phaseFits (s .«lfo_phase2») in
+      let a = both (rateFits (s .«sample_rate»)) (w && phasesFit s) e in
+      let b = both w (phasesFit s) (a .1) in
+      let c = both (phaseFits (s .«lfo_phase0»)) others (b .1) in
       let d = both (phaseFits (s .«lfo_phase1»)) (phaseFits (s .«lfo_phase2»)) (c .1) in
       record { rate = a .0; inside = ltb-true (s .«write_pos») (lineLength (s .«sample_rate»)) (b .0); phase0 = c .0; phase1 = d .0; phase2 = d .1 }
 
@@ -80,28 +78,7 @@ module _ (s : Chorus) where
   unfolding fits
   fit f = rw (f .rate, lt-ltb (s .«write_pos») (lineLength (s .«sample_rate»)) (f .inside), f .phase0, f .phase1, f .phase2)
 
-  -- the position by n: outside the line, and inside it, where the phases decide
-  module _ (n : ℕ) (e : n ≡ cond (rateFits (s .«sample_rate»)) (lineLength (s .«sample_rate»)) 0) where
-    pub outside : n ≤ s .«write_pos» → false ≡ fits s
-    unfolding fits
-    outside h = go (rateFits (s .«sample_rate»)) e
-      where
-        go : (b : Bool) → n ≡ cond b (lineLength (s .«sample_rate»)) 0
-            → false ≡ (b && (ltb (s .«write_pos») (lineLength (s .«sample_rate»)) && (phaseFits (s .«lfo_phase0») && (phaseFits (s .«lfo_phase1») && phaseFits (s .«lfo_phase2»)))))
-        go true k = rw (le-ltb (s .«write_pos») (lineLength (s .«sample_rate»)) (omega arith))
-        go false k = refl
-
-    pub inside : s .«write_pos» < n → (phaseFits (s .«lfo_phase0») && (phaseFits (s .«lfo_phase1») && phaseFits (s .«lfo_phase2»))) ≡ fits s
-    unfolding fits
-    inside h = go (rateFits (s .«sample_rate»)) e
-      where
-        go : (b : Bool) → n ≡ cond b (lineLength (s .«sample_rate»)) 0
-            → (phaseFits (s .«lfo_phase0») && (phaseFits (s .«lfo_phase1») && phaseFits (s .«lfo_phase2»)))
-            ≡ (b && (ltb (s .«write_pos») (lineLength (s .«sample_rate»)) && (phaseFits (s .«lfo_phase0») && (phaseFits (s .«lfo_phase1») && phaseFits (s .«lfo_phase2»)))))
-        go true k = rw (lt-ltb (s .«write_pos») (lineLength (s .«sample_rate»)) (omega arith))
-        go false k = absurd (omega arith)
-
--- ---- an accepted tick's controls and curve numbers
+-- ---- causes 5 and 6
 
 pub record TickFits (t : Tick) : Type 0 where
   pub depth : isNanSet (t .depth) ≡ false
@@ -113,105 +90,54 @@ pub record TickFits (t : Tick) : Type 0 where
 pub tick-fits : (t : Tick) → tickNumber t ≡ 0 → TickFits t
 unfolding tickNumber
 tick-fits t e =
-    let v = go (isNanSet (t .depth)) (isNanSet (t .mix)) (frequencyFits (t .frequency) && (sineFits (t .sine0) && (sineFits (t .sine1) && sineFits (t .sine2)))) e in
-    let a = both (frequencyFits (t .frequency)) (sineFits (t .sine0) && (sineFits (t .sine1) && sineFits (t .sine2))) (v .1) in
-    let b = both (sineFits (t .sine0)) (sineFits (t .sine1) && sineFits (t .sine2)) (a .1) in
+    let others = sineFits (t .sine1) && sineFits (t .sine2) in
+    let sines = sineFits (t .sine0) && others in
+    let v = no-cause (isNanSet (t .depth) || isNanSet (t .mix)) (frequencyFits (t .frequency) && sines) e in
+    let a = both (frequencyFits (t .frequency)) sines (v .1) in
+    let b = both (sineFits (t .sine0)) others (a .1) in
     let c = both (sineFits (t .sine1)) (sineFits (t .sine2)) (b .1) in
-    record { depth = v .0; frequency = a .0; sine0 = b .0; sine1 = c .0; sine2 = c .1 }
-  where
-    go : (a b c : Bool) → _≡_ {A = ℕ} (cond (a || b) 5 (cond c 0 6)) 0 → (a ≡ false) × (c ≡ true)
-    go true b c e = absurd (omega arith)
-    go false true c e = absurd (omega arith)
-    go false false true e = (refl, refl)
-    go false false false e = absurd (omega arith)
+    record { depth = neither (isNanSet (t .depth)) (isNanSet (t .mix)) (v .0) .0; frequency = a .0; sine0 = b .0; sine1 = c .0; sine2 = c .1 }
 
 -- ---- distances
 
--- a depth that passes the test, clamped, lies from 0 to 1
-pub depth-in : (p : Port) → isNanSet p ≡ false → In binary64 plusZero (whole 1) (clampOf (valueOr p half) plusZero (whole 1))
-unfolding isNumber Ieee.fits isNan round
-depth-in p e = control-in p half e refl
+-- 7 × rate / 1000 + (sine × 0.5 + 0.5) × (depth × 25 × rate / 1000)
+abbrev pub swept : Float → Float → Float → Float
+swept rate depth sine =
+    add binary64
+    (div binary64 (mul binary64 (whole 7) rate) (whole 1000))
+    (mul binary64 (add binary64 (mul binary64 sine half) half) (div binary64 (mul binary64 (mul binary64 depth (whole 25)) rate) (whole 1000)))
 
-module _ (rate depth sine : Float) (h : rateFits rate ≡ true) (i : In binary64 plusZero (whole 1) depth) (k : sineFits sine ≡ true) where
-  -- the distance before the clamp
-  swept : Float
-  swept =
-      add binary64
-      (div binary64 (mul binary64 (whole 7) rate) (whole 1000))
-      (mul binary64 (add binary64 (mul binary64 sine half) half) (div binary64 (mul binary64 (mul binary64 depth (whole 25)) rate) (whole 1000)))
+module _ (rate depth sine : Float) (h : rateFits rate ≡ true) (d : In binary64 plusZero (whole 1) depth) (k : sineFits sine ≡ true) where
+  pub swept-in : In binary64 plusZero (whole 6144) (swept rate depth sine)
+  unfolding Ieee.fits le lt add mul div neg ofInt round
+  swept-in =
+      let base = div-in plusZero (whole 1344) tt tt tt (mul-in (whole 56000) (whole 1344000) tt tt tt (point (whole 7) tt) (rate-in h)) (point (whole 1000) tt) in
+      let delay = mul-in plusZero (whole 4800000) tt tt tt (mul-in plusZero (whole 25) tt tt tt d (point (whole 25) tt)) (rate-in h) in
+      let swing = div-in plusZero (whole 4800) tt tt tt delay (point (whole 1000) tt) in
+      let turn = add-in plusZero (whole 1) tt (scale-in (neg half) half tt tt tt (sine-in k) (point half tt)) (point half tt) in
+      add-in plusZero (whole 6144) tt base (mul-in plusZero (whole 4800) tt tt tt turn swing)
 
-  base-in : In binary64 plusZero (whole 1344) (div binary64 (mul binary64 (whole 7) rate) (whole 1000))
-  unfolding Ieee.fits le lt mul div ofInt
-  base-in = div-in plusZero (whole 1344) tt tt tt (mul-in (whole 56000) (whole 1344000) tt tt tt (point (whole 7) tt) (rate-in h)) (point (whole 1000) tt)
-
-  swing-in : In binary64 plusZero (whole 4800) (div binary64 (mul binary64 (mul binary64 depth (whole 25)) rate) (whole 1000))
-  unfolding Ieee.fits le lt mul div ofInt
-  swing-in =
-      div-in plusZero (whole 4800) tt tt tt
-      (mul-in plusZero (whole 4800000) tt tt tt (mul-in plusZero (whole 25) tt tt tt i (point (whole 25) tt)) (rate-in h))
-      (point (whole 1000) tt)
-
-  sweep-in : In binary64 plusZero (whole 1) (add binary64 (mul binary64 sine half) half)
-  unfolding Ieee.fits le add mul neg ofInt round
-  sweep-in = add-in plusZero (whole 1) tt (scale-in (neg half) half tt tt tt (sine-in k) (point half tt)) (point half tt)
-
-  swept-in : In binary64 plusZero (whole 6144) swept
-  unfolding Ieee.fits le add mul ofInt swept
-  swept-in = add-in plusZero (whole 6144) tt base-in (mul-in plusZero (whole 4800) tt tt tt sweep-in swing-in)
-
-  -- it is a number
-  pub swept-number : isNumber
-      (add binary64
-      (div binary64 (mul binary64 (whole 7) rate) (whole 1000))
-      (mul binary64 (add binary64 (mul binary64 sine half) half) (div binary64 (mul binary64 (mul binary64 depth (whole 25)) rate) (whole 1000))))
-      ≡ true
-  unfolding swept
-  swept-number = in-number swept-in
-
-  -- and after it, both places that are read lie in the line
-  pub distance-parts : Parts (lineLength rate - 1) (distance rate depth sine)
+  -- after the clamp both places that are read lie in the line
+  pub distance-in : In binary64 (whole 1) (whole (lineLength rate - 1)) (distance rate depth sine)
   unfolding distance
-  distance-parts =
+  distance-in =
       let l = length-fits rate h in
-      parts-of (lineLength rate - 1) (omega arith) (clamp-whole-in (lineLength rate - 1) (omega arith) _ (omega arith) swept-number)
+      clamp-whole-in (lineLength rate - 1) (omega arith) (swept rate depth sine) (omega arith) (in-number swept-in)
 
 -- ---- an accepted tick from its steps
 
--- the part of k places from place o on, which is a line of n places
-pub lent : (k o n : ℕ) (m : List Float) → k ≡ n → o + n ≤ length m → length (take k (drop o m)) ≡ n
-lent k o n m e h = length-take-le k (drop o m) (omega (arith, length-drop o m)) ∙ e
-
-module _ (t : Tick) (s : Chorus) (m : List Float) (n : ℕ) (e : n ≡ lineLength (s .«sample_rate»)) where
-  -- a read of that part, at the swept distance, is what voice i reads
-  pub voice-is : (i k o : ℕ) {d y : Float} (sine : Float) → k ≡ n → o ≡ i * n → s .«write_pos» < n → o + n ≤ length m → d ≡ depth t
+module _ (t : Tick) (s : Chorus) (m : List Float) {n : ℕ} (e : n ≡ lineLength (s .«sample_rate»)) where
+  -- a read in the part of k places from place o on, which is line i, is what voice i reads
+  pub voice-is : (i k o : ℕ) {d y : Float} (sine : Float) → k ≡ n → o ≡ i * n → o + n ≤ length m → s .«write_pos» < n → d ≡ depth t
       → y
-      ≡ readAt
-      (lineAt 0 (length (take k (drop o m))) (s .«write_pos») (take k (drop o m)))
-      (clampOf
-      (add binary64
-      (div binary64 (mul binary64 (whole 7) (s .«sample_rate»)) (whole 1000))
-      (mul binary64 (add binary64 (mul binary64 sine half) half) (div binary64 (mul binary64 (mul binary64 d (whole 25)) (s .«sample_rate»)) (whole 1000))))
-      (whole 1)
-      (whole (length (take k (drop o m)) - 1)))
+      ≡ readAt (lineAt 0 (length (take k (drop o m))) (s .«write_pos») (take k (drop o m))) (clampOf (swept (s .«sample_rate») d sine) (whole 1) (whole (length (take k (drop o m)) - 1)))
       → y ≡ voice i sine t s m
   unfolding voice distance
-  voice-is i k o {d} {y} sine a b h l g r =
+  voice-is i k o {d} sine a b l h g r =
       let rate = s .«sample_rate» in
-      let L = lineLength rate in
-      let w = s .«write_pos» in
-      let len : length (take k (drop o m)) ≡ L = lent k o n m a l ∙ e in
-      let size : k ≡ L = a ∙ e in
-      let at : o ≡ i * L = b ∙ ap (λ (z : ℕ). i * z) e in
       r
-      ∙ (λ j. readAt
-      (lineAt 0 (len j) w (take (size j) (drop (at j) m)))
-      (clampOf
-      (add binary64
-      (div binary64 (mul binary64 (whole 7) rate) (whole 1000))
-      (mul binary64 (add binary64 (mul binary64 sine half) half) (div binary64 (mul binary64 (mul binary64 (g j) (whole 25)) rate) (whole 1000))))
-      (whole 1)
-      (whole (len j - 1))))
-      ∙ ap (λ (f : ℕ → Float). readAt f (distance rate (depth t) sine)) (part-line (i * L) L w m (omega arith))
+      ∙ part-read k o n (s .«write_pos») m _ a l h
+      ∙ (λ j. readAt (lineAt ((b ∙ ap (λ (z : ℕ). i * z) e) j) (e j) (s .«write_pos») m) (clampOf (swept rate (g j) sine) (whole 1) (whole ((part-length k o n m a l ∙ e) j - 1))))
 
   pub next-is : {r : Chorus} → r .«write_pos» ≡ nextPlace n (s .«write_pos») → phasesOf r ≡ nextPhases (t .frequency) (s .«sample_rate») (phasesOf s)
       → r .«sample_rate» ≡ s .«sample_rate»
@@ -237,10 +163,11 @@ module _ (t : Tick) (s : Chorus) (m : List Float) (n : ℕ) (e : n ≡ lineLengt
       let p2 : n + n + w ≡ 2 * L + w = omega arith in
       λ i. set (set (set m (p0 i) (x i)) (p1 i) (x i)) (p2 i) (x i)
 
-  pub samples-are : {x b d0 d1 d2 : Float} → x ≡ input t → b ≡ mix t → d0 ≡ voice 0 (t .sine0) t s m → d1 ≡ voice 1 (t .sine1) t s m → d2 ≡ voice 2 (t .sine2) t s m
-      → mixed x b d0 d1 d2 ≡ samples t s m
-  unfolding samples
-  samples-are x b d0 d1 d2 = λ i. mixed (x i) (b i) (d0 i) (d1 i) (d2 i)
+  pub played-is : {x b d0 d1 d2 : Float} {y : Reply} → x ≡ input t → b ≡ mix t → d0 ≡ voice 0 (t .sine0) t s m → d1 ≡ voice 1 (t .sine1) t s m → d2 ≡ voice 2 (t .sine2) t s m
+      → y ≡ played (mixed x b d0 d1 d2)
+      → y ≡ played (page.samples t s m)
+  unfolding page.samples
+  played-is x b d0 d1 d2 y = y ∙ (λ i. played (mixed (x i) (b i) (d0 i) (d1 i) (d2 i)))
 
 -- ---- ports: a tick is the one with all ports set to the values that it takes from them
 
@@ -252,7 +179,7 @@ module _ (t : Tick) {x d b : Float} (audio : x ≡ valueOr (t .audio) plusZero) 
       → numberIn chorus (tick allSet) (length m) s ≡ 0
       → Does chorus (tick allSet) s m s' m' a
       → Does chorus (tick t) s m s' m' a
-  unfolding next writes samples voice
+  unfolding next writes page.samples voice
   set-does {s} {m} n k does =
       let rate = s .«sample_rate» in
       let L = lineLength rate in

@@ -1,17 +1,17 @@
 // The chorus: three lines of one length in lent memory, each read by its own voice. The state goes in and out by value.
 ghost use mathlib.Core.Path.{_≡_};
 ghost use mathlib.Core.Bool.{true, cond};
-ghost use Prim.Native.Nat.{_-_, _*_, _≤_, _<_};
+ghost use Prim.Native.Nat.{_-_, _≤_, _<_};
 ghost use lib.ListN.{length};
 ghost use lib.Ieee.{binary64, add, mul};
 ghost use Rattle.float64.specs.Number.{whole, half, isNumber, rateFits, clampOf};
 ghost use Rattle.port.specs.declared.Port.the-variants.{Set};
-ghost use Rattle.port.specs.Answer.{numberOf, outcomeReply, answerReply, silenceReply, played, done};
-ghost use Rattle.common.specs.Line.{zeros, lineAt, readAt, nextPlace};
+ghost use Rattle.port.specs.Answer.{numberOf, outcomeReply, answerReply, silenceReply, played};
+ghost use Rattle.common.specs.Line.{lineAt, readAt, nextPlace};
 ghost use Rattle.effect.specs.Run.{tick, retune, reset, ask, startNumber, numberIn};
 ghost use Rattle.effect.specs.Contract.{Does, Starts};
 ghost use Rattle.effect.specs.Needed.{placesNeeded};
-ghost use Rattle.chorus.specs.Chorus.{chorus, ticked, lineLength, phasesOf, nextPhases, fresh, fits, mixed};
+ghost use Rattle.chorus.specs.Chorus.{chorus, ticked, lineLength, phasesOf, nextPhases, cleared, fresh, fits, mixed};
 use port::Answer;
 use port::Outcome;
 use port::Port;
@@ -47,12 +47,11 @@ impl Chorus {
     fn line_length(rate: f64) -> u64
         ensures { λ r. ⌜ r ≡ cond (rateFits rate) (lineLength rate) 0 ⌝ }
     {
-        if float64::rate_fits(rate) {
-            let samples = rate * (Chorus::MAX_MOD_DELAY_MS + Chorus::BASE_DELAY_MS) / 1000.0;
-            float64::whole_part_small(samples) + 10
-        } else {
-            0
+        if !float64::rate_fits(rate) {
+            return 0;
         }
+        let samples = rate * (Chorus::MAX_MOD_DELAY_MS + Chorus::BASE_DELAY_MS) / 1000.0;
+        float64::whole_part_small(samples) + 10
     }
 
     // The places that a start needs at the rate; 2^64 - 1 for a rate that is refused.
@@ -66,40 +65,35 @@ impl Chorus {
         3 * n
     }
 
-    // The state after a start and a reset.
-    fn fresh(rate: f64) -> Chorus
-        ensures { λ r. ⌜ r ≡ fresh rate ⌝ }
+    // Position 0, with the phases and the rate.
+    fn cleared(phase0: f64, phase1: f64, phase2: f64, rate: f64) -> Chorus
+        ensures { λ r. ⌜ r ≡ cleared (record { phase0 = phase0; phase1 = phase1; phase2 = phase2 }) rate ⌝ }
     {
         Chorus {
             write_pos: 0,
-            lfo_phase0: 0.0,
-            lfo_phase1: 0.33,
-            lfo_phase2: 0.67,
+            lfo_phase0: phase0,
+            lfo_phase1: phase1,
+            lfo_phase2: phase2,
             sample_rate: rate,
         }
     }
 
-    // A clearing: +0 in every place, spare ones too, beside the state that it leaves.
-    fn clearing(state: Chorus, mem: &mut [f64]) -> Cleared
-        ensures { λ r. ⌜ r .state ≡ state ⌝ }
-        ensures { λ r. ⌜ outcomeReply (r .outcome) ≡ done ⌝ }
-        ensures { λ _. ⌜ now (mem .exit) ≡ zeros (length (now (mem .entry))) ⌝ }
+    // The start phases, with the rate.
+    fn fresh(rate: f64) -> Chorus
+        ensures { λ r. ⌜ r ≡ fresh rate ⌝ }
     {
-        common::clear(mem);
-        Cleared {
-            state,
-            outcome: Outcome::Accepted,
-        }
+        Chorus::cleared(0.0, 0.33, 0.67, rate)
     }
 
     // Causes 1 and 3: a rate that is refused, and memory that is too short for it.
     fn rate_refusal(rate: f64, places: usize) -> Outcome
         ensures { λ r. ⌜ numberOf r ≡ startNumber chorus rate places ⌝ }
     {
-        if !float64::rate_fits(rate) {
+        let n = Chorus::line_length(rate);
+        if n == 0 {
             return Outcome::Refused(Refusal::SampleRate);
         }
-        effect::check_memory(3 * Chorus::line_length(rate), places)
+        effect::check_memory(3 * n, places)
     }
 
     // Start: the start phases, at the rate.
@@ -109,17 +103,15 @@ impl Chorus {
         let refusal = Chorus::rate_refusal(sample_rate, mem.len());
         if let Outcome::Refused(cause) = refusal {
             return Cleared {
-                state: Chorus {
-                    write_pos: 0,
-                    lfo_phase0: 0.0,
-                    lfo_phase1: 0.0,
-                    lfo_phase2: 0.0,
-                    sample_rate: 0.0,
-                },
+                state: Chorus::cleared(0.0, 0.0, 0.0, 0.0),
                 outcome: Outcome::Refused(cause),
             };
         }
-        Chorus::clearing(Chorus::fresh(sample_rate), mem)
+        common::clear(mem);
+        Cleared {
+            state: Chorus::fresh(sample_rate),
+            outcome: Outcome::Accepted,
+        }
     }
 
     // The state test, where n is the length of a line.
@@ -127,11 +119,9 @@ impl Chorus {
         requires { ⌜ n ≡ cond (rateFits (self .«sample_rate»)) (lineLength (self .«sample_rate»)) 0 ⌝ }
         ensures { λ r. ⌜ r ≡ fits self ⌝ }
     {
-        if self.write_pos >= n {
-            return false;
-        }
-        float64::phase_fits(self.lfo_phase0)
-            & (float64::phase_fits(self.lfo_phase1) & float64::phase_fits(self.lfo_phase2))
+        self.write_pos < n
+            && (float64::phase_fits(self.lfo_phase0)
+                & (float64::phase_fits(self.lfo_phase1) & float64::phase_fits(self.lfo_phase2)))
     }
 
     // Causes 4 and 3: a state that fails its test, and memory that is too short for it.
@@ -149,7 +139,8 @@ impl Chorus {
     pub fn set_sample_rate(self, sample_rate: f64, mem: &mut [f64]) -> Cleared
         ensures { λ r. ⌜ Does chorus (retune «sample_rate») self (now (mem .entry)) (r .state) (now (mem .exit)) (outcomeReply (r .outcome)) ⌝ }
     {
-        if !self.state_fits(Chorus::line_length(self.sample_rate)) {
+        let n = Chorus::line_length(self.sample_rate);
+        if !self.state_fits(n) {
             return Cleared {
                 state: self,
                 outcome: Outcome::Refused(Refusal::State),
@@ -162,28 +153,35 @@ impl Chorus {
                 outcome: Outcome::Refused(cause),
             };
         }
-        let retuned = Chorus {
-            write_pos: 0,
-            lfo_phase0: self.lfo_phase0,
-            lfo_phase1: self.lfo_phase1,
-            lfo_phase2: self.lfo_phase2,
-            sample_rate,
-        };
-        Chorus::clearing(retuned, mem)
+        common::clear(mem);
+        Cleared {
+            state: Chorus::cleared(
+                self.lfo_phase0,
+                self.lfo_phase1,
+                self.lfo_phase2,
+                sample_rate,
+            ),
+            outcome: Outcome::Accepted,
+        }
     }
 
-    // Reset: the start phases again.
+    // Reset: a clearing at the rate in force, with the start phases again.
     pub fn reset(self, mem: &mut [f64]) -> Cleared
         ensures { λ r. ⌜ Does chorus reset self (now (mem .entry)) (r .state) (now (mem .exit)) (outcomeReply (r .outcome)) ⌝ }
     {
-        let refusal = self.refusal(Chorus::line_length(self.sample_rate), mem.len());
+        let n = Chorus::line_length(self.sample_rate);
+        let refusal = self.refusal(n, mem.len());
         if let Outcome::Refused(cause) = refusal {
             return Cleared {
                 state: self,
                 outcome: Outcome::Refused(cause),
             };
         }
-        Chorus::clearing(Chorus::fresh(self.sample_rate), mem)
+        common::clear(mem);
+        Cleared {
+            state: Chorus::fresh(self.sample_rate),
+            outcome: Outcome::Accepted,
+        }
     }
 
     // Silent? Whether every place of the three lines is +0 or -0.
@@ -203,8 +201,8 @@ impl Chorus {
         }
     }
 
-    // base + (sine x 0.5 + 0.5) x swing, clamped to 1 to n - 1.
-    fn distance(base: f64, swing: f64, sine: f64, n: usize) -> f64
+    // base + (sine x 0.5 + 0.5) x swing, clamped to 1 to n - 1, n the length of a line.
+    fn distance(n: usize, base: f64, swing: f64, sine: f64) -> f64
         requires { ⌜ 2 ≤ n ⌝ }
         requires { ⌜ n ≤ 16777217 ⌝ }
         ensures { λ r. ⌜ r ≡ clampOf (add binary64 base (mul binary64 (add binary64 (mul binary64 sine half) half) swing)) (whole 1) (whole (n - 1)) ⌝ }
@@ -224,7 +222,7 @@ impl Chorus {
         requires { ⌜ isNumber (add binary64 base (mul binary64 (add binary64 (mul binary64 sine half) half) swing)) ≡ true ⌝ }
         ensures { λ r. ⌜ r ≡ readAt (lineAt 0 (length (now (line .entry))) w (now (line .entry))) (clampOf (add binary64 base (mul binary64 (add binary64 (mul binary64 sine half) half) swing)) (whole 1) (whole (length (now (line .entry)) - 1))) ⌝ }
     {
-        common::read_interpolated(line, w, Chorus::distance(base, swing, sine, line.len()))
+        common::read_interpolated(line, w, Chorus::distance(line.len(), base, swing, sine))
     }
 
     // The state after a tick: each voice's phase moves on by its own factor of the frequency.
@@ -272,9 +270,6 @@ impl Chorus {
         sine2: f64,
     ) -> Ticked
         requires { ⌜ n ≡ lineLength (self .«sample_rate») ⌝ }
-        requires { ⌜ (2 ≤ n) × (n ≤ 16777217) ⌝ }
-        requires { ⌜ self .«write_pos» < n ⌝ }
-        requires { ⌜ 3 * n ≤ length (now mem) ⌝ }
         requires { ⌜ numberIn chorus (tick (ticked (Set audio) (Set depth) (Set mix) frequency sine0 sine1 sine2)) (length (now mem)) self ≡ 0 ⌝ }
         ensures { λ r. ⌜ Does chorus (tick (ticked (Set audio) (Set depth) (Set mix) frequency sine0 sine1 sine2)) self (now (mem .entry)) (r .state) (now (mem .exit)) (answerReply (r .answer)) ⌝ }
     {

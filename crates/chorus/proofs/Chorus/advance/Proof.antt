@@ -2,19 +2,21 @@
 -- and then the audio is stored in each line. Assumes nothing.
 use Prim.Native.Nat.{ℕ, _+_, _-_, _≤_, _<_}
 use native.Mathlib.Omega.{arith}
-use mathlib.Core.Path.{_≡_, refl, sym, ap, _∙_}
+use mathlib.Core.Path.{_≡_, refl, sym}
 use mathlib.Core.Bool.{true}
 use lib.ListN.{length, take, drop, length-set}
-use lib.Ieee.{Float, binary64, add, mul, div, ofBits, ofInt}
+use lib.Ieee.{Float, isNan, ofBits, ofInt, round}
+use lib.Ieee as Ieee
+use borrow.Author.Needs.{needs}
 use Rattle.float64.specs.Number.{plusZero, whole, half, isNumber, sineFits, clampOf}
+use Rattle.float64.proofs.Ranges.{in-number}
 use Rattle.port.specs.declared.Port.the-variants.{Set}
-use Rattle.port.specs.Answer.{played}
+use Rattle.common.proofs.Sweep.{control-in, part-length}
 use Rattle.effect.specs.Run.{tick}
-use Rattle.effect.proofs.Table.{Accepted, accepted, tick-accepted}
+use Rattle.effect.proofs.Table.{Accepted, accepted, TickAccepted, tick-accepted}
 use Rattle.effect.proofs.Contract.{accepts}
 use Rattle.chorus.specs.Chorus.{chorus, Tick, ticked}
-use Rattle.chorus.proofs.Laws.{TickFits, tick-fits, fits-parts, depth-in, swept-number, lent, voice-is, next-is, stored-is, samples-are}
-use borrow.Author.Needs.{needs}
+use Rattle.chorus.proofs.Laws.{Fits, fits-parts, length-fits, TickFits, tick-fits, swept, swept-in, voice-is, next-is, stored-is, played-is}
 use Rattle.chorus.proofs.Chorus.advance.Statement.{statement}
 use Rattle.chorus.proofs.Chorus.advance.Tie as tie
 
@@ -25,37 +27,43 @@ module _ (s : tie.Start) where
       let a = s .args in
       ticked (Set (a .audio)) (Set (a .depth)) (Set (a .mix)) (a .frequency) (a .sine0) (a .sine1) (a .sine2)
 
+  -- it is accepted, so that the state passes its test, the memory has the places and the curve numbers are in range
   taken : Accepted chorus (length (s .args .mem .now)) (tick handed) (s .args .self)
-  taken = accepted chorus (length (s .args .mem .now)) (tick handed) (s .args .self) (s .pre .1 .1 .1 .1)
+  taken = accepted chorus (length (s .args .mem .now)) (tick handed) (s .args .self) (s .pre .1)
+
+  unit : Fits (s .args .self)
+  unit = fits-parts (s .args .self) (taken .fits)
+
+  row : TickAccepted chorus (length (s .args .mem .now)) handed (s .args .self .«sample_rate»)
+  row = tick-accepted chorus (length (s .args .mem .now)) handed (s .args .self .«sample_rate») (taken .number)
 
   curves : TickFits handed
-  curves = tick-fits handed (tick-accepted chorus (length (s .args .mem .now)) handed (s .args .self .«sample_rate») (taken .number) .number)
+  curves = tick-fits handed (row .number)
+
+  -- a line is neither too short nor too long
+  bounds : (266 ≤ s .args .n) × (s .args .n ≤ 6154)
+  bounds = let l = length-fits (s .args .self .«sample_rate») (unit .rate) in (omega (arith, s .pre .0, l .0), omega (arith, s .pre .0, l .1))
+
+  inside : s .args .self .«write_pos» < s .args .n
+  inside = omega (arith, s .pre .0, unit .inside)
+
+  room : s .args .n + s .args .n + s .args .n ≤ length (s .args .mem .now)
+  room = omega (arith, s .pre .0, row .enough)
 
   -- what a voice asks, of the part of k places from place o on
   asks : (k o : ℕ) {d : Float} (sine : Float) → k ≡ s .args .n → o + s .args .n ≤ length (s .args .mem .now) → d ≡ clampOf (s .args .depth) plusZero (whole 1) → sineFits sine ≡ true
       → (s .args .self .«write_pos» < length (take k (drop o (s .args .mem .now))))
       × ((2 ≤ length (take k (drop o (s .args .mem .now))))
       × ((length (take k (drop o (s .args .mem .now))) ≤ 16777217)
-      × (isNumber
-      (add binary64
-      (div binary64 (mul binary64 (whole 7) (s .args .self .«sample_rate»)) (whole 1000))
-      (mul binary64 (add binary64 (mul binary64 sine half) half) (div binary64 (mul binary64 (mul binary64 d (whole 25)) (s .args .self .«sample_rate»)) (whole 1000))))
-      ≡ true)))
-  asks k o {d} sine e h g f =
-      let l = lent k o (s .args .n) (s .args .mem .now) e h in
-      let rate = s .args .self .«sample_rate» in (
-        omega (arith, s .pre .1 .1 .0),
-        (
-          omega (arith, s .pre .1 .0),
-          (
-            omega (arith, s .pre .1 .0),
-            rw g (swept-number rate (clampOf (s .args .depth) plusZero (whole 1)) sine (fits-parts (s .args .self) (taken .fits) .rate) (depth-in (Set (s .args .depth)) (curves .depth)) f),
-          ),
-        ),
-      )
+      × (isNumber (swept (s .args .self .«sample_rate») d sine) ≡ true)))
+  unfolding isNumber Ieee.fits isNan round
+  asks k o sine e h g f =
+      let l = part-length k o (s .args .n) (s .args .mem .now) e h in
+      let number = in-number (swept-in (s .args .self .«sample_rate») _ sine (unit .rate) (control-in (Set (s .args .depth)) half (curves .depth) refl) f) in
+      (omega (arith, l, inside), (omega (arith, l, bounds .0), (omega (arith, l, bounds .1), rw g number)))
 
 next-requires : tie.Need-next-requires
-next-requires c κs = search needs
+next-requires c κs = inside (c .before)
 
 sanitize-audio-requires : tie.Need-sanitize-audio-requires
 sanitize-audio-requires c κs = search needs
@@ -64,26 +72,25 @@ clamp-requires : tie.Need-clamp-requires
 clamp-requires c κs = search needs
 
 add-third : tie.Need-add-third
-add-third c = search needs
+add-third c = omega (arith, bounds (c .before .before .before .before) .1)
 
 add-end : tie.Need-add-end
-add-end c = search needs
+add-end c = omega (arith, bounds (c .before .before .before .before) .1)
 
 slice-reshare-prefix-voice : tie.Need-slice-reshare-prefix-voice
-slice-reshare-prefix-voice c = search needs
+slice-reshare-prefix-voice c = omega (arith, room (c .before .before .before .before))
 
 slice-aggregate-voice : tie.Need-slice-aggregate-voice
-slice-aggregate-voice c = let s = c .before .before .before .before .before in sym (lent (s .args .n) 0 (s .args .n) (s .args .mem .now) refl (omega arith))
+slice-aggregate-voice c = let s = c .before .before .before .before .before in sym (part-length (s .args .n) 0 (s .args .n) (s .args .mem .now) refl (omega (arith, room s)))
 
 voice-requires : tie.Need-voice-requires
 unfolding ofBits ofInt
 voice-requires c κs =
     let s = c .before .before .before .before .before in
-    let n = s .args .n in
-    asks s (n) (0) (s .args .sine0) (omega arith) (omega arith) (c .before .clamp .ensures) (curves s .sine0)
+    asks s (s .args .n) 0 (s .args .sine0) refl (omega (arith, room s)) (c .before .clamp .ensures) (curves s .sine0)
 
 mul-voice : tie.Need-mul-voice
-mul-voice c = search needs
+mul-voice c = omega (arith, bounds (c .before .before .before .before .before .before) .1)
 
 sub-voice : tie.Need-sub-voice
 sub-voice c = search needs
@@ -92,17 +99,17 @@ part-voice-start : tie.Need-part-voice-start
 part-voice-start c = search needs
 
 part-voice-end : tie.Need-part-voice-end
-part-voice-end c = search needs
+part-voice-end c = omega (arith, room (c .before .before .before .before .before .before .before))
 
 voice-requires-2 : tie.Need-voice-requires-2
 unfolding ofBits ofInt
 voice-requires-2 c κs =
     let s = c .before .before .before .before .before .before .before .before in
     let n = s .args .n in
-    asks s (n + n - n) (n) (s .args .sine1) (omega arith) (omega arith) (c .before .before .before .before .clamp .ensures) (curves s .sine1)
+    asks s (n + n - n) n (s .args .sine1) (omega arith) (omega (arith, room s)) (c .before .before .before .before .clamp .ensures) (curves s .sine1)
 
 mul-voice-2 : tie.Need-mul-voice-2
-mul-voice-2 c = search needs
+mul-voice-2 c = omega (arith, bounds (c .before .before .before .before .before .before .before .before .before) .1)
 
 sub-voice-2 : tie.Need-sub-voice-2
 sub-voice-2 c = search needs
@@ -111,38 +118,42 @@ part-voice-start-2 : tie.Need-part-voice-start-2
 part-voice-start-2 c = search needs
 
 part-voice-end-2 : tie.Need-part-voice-end-2
-part-voice-end-2 c = search needs
+part-voice-end-2 c = room (c .before .before .before .before .before .before .before .before .before .before)
 
 voice-requires-3 : tie.Need-voice-requires-3
 unfolding ofBits ofInt
 voice-requires-3 c κs =
     let s = c .before .before .before .before .before .before .before .before .before .before .before in
     let n = s .args .n in
-    asks s (n + n + n - (n + n)) (n + n) (s .args .sine2) (omega arith) (omega arith) (c .before .before .before .before .before .before .before .clamp .ensures) (curves s .sine2)
+    asks s (n + n + n - (n + n)) (n + n) (s .args .sine2) (omega arith) (room s) (c .before .before .before .before .before .before .before .clamp .ensures) (curves s .sine2)
+
+-- past the reads
+abbrev begun : tie.After-voice3 → tie.Start
+begun c = c .before .before .before .before .before .before .before .before .before .before .before .before
 
 mul-mem : tie.Need-mul-mem
-mul-mem c = search needs
+mul-mem c = omega (arith, inside (begun c), bounds (begun c) .1)
 
 slice-write-mem : tie.Need-slice-write-mem
-slice-write-mem c = search needs
+slice-write-mem c = omega (arith, inside (begun c), room (begun c))
 
 add-mem : tie.Need-add-mem
-add-mem c = search needs
+add-mem c = omega (arith, inside (begun c), bounds (begun c) .1)
 
 mul-mem-2 : tie.Need-mul-mem-2
-mul-mem-2 c = search needs
+mul-mem-2 c = omega (arith, inside (begun c), bounds (begun c) .1)
 
 slice-write-mem-2 : tie.Need-slice-write-mem-2
-slice-write-mem-2 c = simp length-set (omega arith)
+slice-write-mem-2 c = simp length-set (omega (arith, inside (begun c), room (begun c)))
 
 add-mem-2 : tie.Need-add-mem-2
-add-mem-2 c = search needs
+add-mem-2 c = omega (arith, inside (begun c), bounds (begun c) .1)
 
 mul-mem-3 : tie.Need-mul-mem-3
-mul-mem-3 c = search needs
+mul-mem-3 c = omega (arith, inside (begun c), bounds (begun c) .1)
 
 slice-write-mem-3 : tie.Need-slice-write-mem-3
-slice-write-mem-3 c = simp length-set (omega arith)
+slice-write-mem-3 c = simp length-set (omega (arith, inside (begun c), room (begun c)))
 
 clamp-requires-2 : tie.Need-clamp-requires-2
 clamp-requires-2 c κs = search needs
@@ -156,22 +167,28 @@ same-length c = search needs
 returns : tie.Need-returns
 unfolding ofBits ofInt
 returns c =
-    let s = c .before .before .before .before .before .before .before .before .before .before .before .before .before .before in
+    let third = c .before .before in
+    let second = third .before .before .before in
+    let first = second .before .before .before in
+    let amount = first .before .before in
+    let audio = amount .before in
+    let moved = audio .before in
+    let s = moved .before .before in
     let a = s .args in
     let n = a .n in
+    let m = a .mem .now in
     let t = handed s in
     let e = s .pre .0 in
-    let m = a .mem .now in
-    let next = c .before .before .before .before .before .before .before .before .before .before .before .before .next .ensures in
-    let x = c .before .before .before .before .before .before .before .before .before .before .before .sanitize-audio .ensures in
-    let d = c .before .before .before .before .before .before .before .before .before .before .clamp .ensures in
-    let v0 = voice-is t (a .self) m n e 0 n 0 (a .sine0) refl (omega arith) (s .pre .1 .1 .0) (omega arith) d (c .before .before .before .before .before .before .before .before .voice .ensures) in
-    let v1 = voice-is t (a .self) m n e 1 (n + n - n) n (a .sine1) (omega arith) (omega arith) (s .pre .1 .1 .0) (omega arith) d (c .before .before .before .before .before .voice2 .ensures) in
-    let v2 = voice-is t (a .self) m n e 2 (n + n + n - (n + n)) (n + n) (a .sine2) (omega arith) (omega arith) (s .pre .1 .1 .0) (omega arith) d (c .before .before .voice3 .ensures) in
-    accepts chorus (tick t) (a .self) m (s .pre .1 .1 .1 .1)
-    (next-is t (a .self) m n e (next .0) (next .1 .0) (next .1 .1))
-    (stored-is t (a .self) m n e x)
-    (c .mixed .ensures ∙ ap played (samples-are t (a .self) m n e x (c .before .clamp2 .ensures) v0 v1 v2))
+    let x = audio .sanitize-audio .ensures in
+    let d = amount .clamp .ensures in
+    let d0 = voice-is t (a .self) m e 0 n 0 (a .sine0) refl (omega arith) (omega (arith, room s)) (inside s) d (first .voice .ensures) in
+    let d1 = voice-is t (a .self) m e 1 (n + n - n) n (a .sine1) (omega arith) (omega arith) (omega (arith, room s)) (inside s) d (second .voice2 .ensures) in
+    let d2 = voice-is t (a .self) m e 2 (n + n + n - (n + n)) (n + n) (a .sine2) (omega arith) (omega arith) (room s) (inside s) d (third .voice3 .ensures) in
+    let next = moved .next .ensures in
+    accepts chorus (tick t) (a .self) m (s .pre .1)
+    (next-is t (a .self) m e (next .0) (next .1 .0) (next .1 .1))
+    (stored-is t (a .self) m e x)
+    (played-is t (a .self) m e x (c .before .clamp2 .ensures) d0 d1 d2 (c .mixed .ensures))
 
 pub advance-spec : {M : Type 1} → statement M
 advance-spec =

@@ -1,12 +1,15 @@
 -- `Chorus::fresh` is `fresh`. Assumes nothing.
-use mathlib.Core.Path.{refl}
 use lib.Ieee.{ofBits, round}
+use borrow.Author.Needs.{needs}
 use Rattle.chorus.proofs.Chorus.fresh.Statement.{statement}
 use Rattle.chorus.proofs.Chorus.fresh.Tie as tie
 
+cleared-requires : tie.Need-cleared-requires
+cleared-requires c κs = search needs
+
 returns : tie.Need-returns
 unfolding ofBits round
-returns c = refl
+returns c = c .cleared .ensures
 
 pub fresh-spec : {M : Type 1} → statement M
-fresh-spec = tie.close (tie.spec returns)
+fresh-spec = tie.close (tie.spec cleared-requires returns)

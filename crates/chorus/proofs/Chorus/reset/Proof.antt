@@ -1,11 +1,11 @@
 -- `Chorus::reset` is the reset of `chorus`: causes 4 and 3, or a clearing and the fresh state. Assumes nothing.
-use mathlib.Core.Path.{sym, ap, _∙_}
+use mathlib.Core.Path.{refl, sym, ap, _∙_}
+use borrow.Author.Needs.{needs}
 use Rattle.port.specs.Answer.{number, numberOf}
 use Rattle.port.proofs.Laws.{number-some}
 use Rattle.effect.specs.Run.{reset}
 use Rattle.effect.proofs.Contract.{refuses, accepts}
 use Rattle.chorus.specs.Chorus.{chorus}
-use borrow.Author.Needs.{needs}
 use Rattle.chorus.proofs.Chorus.reset.Statement.{statement}
 use Rattle.chorus.proofs.Chorus.reset.Tie as tie
 
@@ -20,33 +20,35 @@ enum-known-refusal c = search needs
 
 returns : tie.Need-returns
 returns c =
-    let a = c .before .before .before .before .before .before .args in
-    let cause = c .before .refusal2 .given .0 .0 in
+    let refusal = c .before in
+    let a = refusal .before .before .before .before .before .args in
+    let cause = refusal .refusal2 .given .0 .0 in
     refuses chorus reset (a .self) (a .mem .now) (number cause)
-    (sym (ap numberOf (c .before .refusal2 .given .1)) ∙ c .before .before .before .refusal .ensures)
+    (sym (ap numberOf (refusal .refusal2 .given .1)) ∙ refusal .before .before .refusal .ensures)
     (number-some cause)
 
 enum-told : tie.Need-enum-told
 enum-told c = search needs
 
+clear-requires : tie.Need-clear-requires
+clear-requires c κs = search needs
+
 fresh-requires : tie.Need-fresh-requires
 fresh-requires c κs = search needs
-
-clearing-requires : tie.Need-clearing-requires
-clearing-requires c κs = search needs
 
 same-length : tie.Need-same-length
 same-length c = search needs
 
 returns-2 : tie.Need-returns-2
 returns-2 c =
-    let a = c .before .before .before .before .before .before .before .before .before .before .args in
-    let cleared = c .before .before .clearing .ensures in
+    let filled = c .before .before .before in
+    let told = filled .before .before in
+    let a = told .before .before .before .before .before .args in
     accepts chorus reset (a .self) (a .mem .now)
-    (sym (c .before .before .before .before .before .before .before .refusal .ensures) ∙ ap numberOf (c .before .before .before .before .before .enum-told .given .1))
-    (cleared .0 ∙ c .before .before .before .before .fresh .ensures)
-    (cleared .1 .1)
-    (cleared .1 .0)
+    (sym (told .before .before .refusal .ensures) ∙ ap numberOf (told .enum-told .given .1))
+    (c .fresh .ensures)
+    (filled .clear .ensures)
+    refl
 
 pub reset-spec : {M : Type 1} → statement M
 reset-spec =
@@ -57,7 +59,7 @@ reset-spec =
     enum-known-refusal
     returns
     enum-told
+    clear-requires
     fresh-requires
-    clearing-requires
     same-length
     returns-2)

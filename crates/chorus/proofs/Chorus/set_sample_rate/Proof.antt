@@ -1,14 +1,14 @@
 -- `Chorus::set_sample_rate` is the retune of `chorus`: causes 4, 1 and 3, or a clearing at the new rate, which keeps the phases. Assumes nothing.
-use mathlib.Core.Path.{sym, ap, _∙_}
+use native.Mathlib.Omega.{arith}
+use mathlib.Core.Path.{refl, sym, ap, _∙_}
+use lib.ListN.{length}
+use borrow.Author.Needs.{needs}
+use borrow.Author.Tests.{not-true, not-false}
 use Rattle.port.specs.Answer.{number, numberOf}
 use Rattle.port.proofs.Laws.{number-some}
-use native.Mathlib.Omega.{arith}
-use borrow.Author.Tests.{not-true, not-false}
 use Rattle.effect.specs.Run.{retune}
 use Rattle.effect.proofs.Contract.{refuses, accepts, state-refused, state-passed}
-use lib.ListN.{length}
 use Rattle.chorus.specs.Chorus.{chorus}
-use borrow.Author.Needs.{needs}
 use Rattle.chorus.proofs.Chorus.set_sample_rate.Statement.{statement}
 use Rattle.chorus.proofs.Chorus.set_sample_rate.Tie as tie
 
@@ -33,32 +33,39 @@ enum-known-refusal c = search needs
 
 returns-2 : tie.Need-returns-2
 returns-2 c =
-    let a = c .before .before .before .before .before .before .before .before .args in
-    let cause = c .before .refusal .given .0 .0 in
+    let refusal = c .before in
+    let passed = refusal .before .before .before in
+    let a = passed .before .before .before .before .args in
+    let cause = refusal .refusal .given .0 .0 in
     refuses chorus (retune (a .sample-rate)) (a .self) (a .mem .now) (number cause)
-    (state-passed chorus (length (a .mem .now)) (a .self) (retune (a .sample-rate)) (sym (c .before .before .before .before .before .state-fits .ensures) ∙ not-false _ (c .before .before .before .before .if1 .left))
-    (sym (ap numberOf (c .before .refusal .given .1)) ∙ c .before .before .before .rate-refusal .ensures))
+    (state-passed chorus (length (a .mem .now)) (a .self) (retune (a .sample-rate)) (sym (passed .before .state-fits .ensures) ∙ not-false _ (passed .if1 .left))
+    (sym (ap numberOf (refusal .refusal .given .1)) ∙ refusal .before .before .rate-refusal .ensures))
     (number-some cause)
 
 enum-told : tie.Need-enum-told
 enum-told c = search needs
 
-clearing-requires : tie.Need-clearing-requires
-clearing-requires c κs = search needs
+clear-requires : tie.Need-clear-requires
+clear-requires c κs = search needs
+
+cleared-requires : tie.Need-cleared-requires
+cleared-requires c κs = search needs
 
 same-length : tie.Need-same-length
 same-length c = search needs
 
 returns-3 : tie.Need-returns-3
 returns-3 c =
-    let a = c .before .before .before .before .before .before .before .before .before .before .before .args in
-    let cleared = c .before .before .clearing .ensures in
+    let filled = c .before .before .before in
+    let told = filled .before .before in
+    let passed = told .before .before .before in
+    let a = passed .before .before .before .before .args in
     accepts chorus (retune (a .sample-rate)) (a .self) (a .mem .now)
-    (sym (state-passed chorus (length (a .mem .now)) (a .self) (retune (a .sample-rate)) (sym (c .before .before .before .before .before .before .before .before .state-fits .ensures) ∙ not-false _ (c .before .before .before .before .before .before .before .if1 .left))
-    (sym (ap numberOf (c .before .before .before .before .enum-told .given .1)) ∙ c .before .before .before .before .before .before .rate-refusal .ensures)))
-    (cleared .0)
-    (cleared .1 .1)
-    (cleared .1 .0)
+    (sym (state-passed chorus (length (a .mem .now)) (a .self) (retune (a .sample-rate)) (sym (passed .before .state-fits .ensures) ∙ not-false _ (passed .if1 .left))
+    (sym (ap numberOf (told .enum-told .given .1)) ∙ told .before .before .rate-refusal .ensures)))
+    (c .cleared .ensures)
+    (filled .clear .ensures)
+    refl
 
 pub set-sample-rate-spec : {M : Type 1} → statement M
 set-sample-rate-spec =
@@ -71,6 +78,7 @@ set-sample-rate-spec =
     enum-known-refusal
     returns-2
     enum-told
-    clearing-requires
+    clear-requires
+    cleared-requires
     same-length
     returns-3)

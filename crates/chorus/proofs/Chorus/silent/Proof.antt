@@ -2,20 +2,22 @@
 use Prim.Native.Nat.{ℕ, _*_, _≤_}
 use native.Mathlib.Omega.{arith}
 use mathlib.Core.Path.{_≡_, refl, sym, ap, _∙_}
-use Rattle.port.specs.Answer.{number, numberOf}
-use Rattle.port.proofs.Laws.{number-some}
+use mathlib.Core.Bool.{Bool, true, false}
 use lib.ListN.{length, take}
 use lib.Seq.{length-take-le}
-use mathlib.Core.Bool.{Bool, true, false}
-use Rattle.effect.specs.Contract.{Does}
+use borrow.Author.Needs.{needs}
+use Rattle.float64.specs.Number.{rateFits}
+use Rattle.port.specs.Answer.{number, numberOf}
 use Rattle.port.specs.Answer as answer
+use Rattle.port.proofs.Laws.{number-some}
 use Rattle.common.specs.Line.{allZero}
+use Rattle.common.proofs.Sweep.{size-is}
 use Rattle.effect.specs.Run.{ask}
+use Rattle.effect.specs.Contract.{Does}
 use Rattle.effect.proofs.Table.{Accepted, accepted, enough}
 use Rattle.effect.proofs.Contract.{refuses, accepts}
 use Rattle.chorus.specs.Chorus.{chorus, lineLength, places}
-use Rattle.chorus.proofs.Laws.{fits-parts, length-fits, length-is}
-use borrow.Author.Needs.{needs}
+use Rattle.chorus.proofs.Laws.{fits-parts, length-fits}
 use Rattle.chorus.proofs.Chorus.silent.Statement.{statement}
 use Rattle.chorus.proofs.Chorus.silent.Tie as tie
 
@@ -30,10 +32,11 @@ enum-known-refusal c = search needs
 
 returns : tie.Need-returns
 returns c =
-    let a = c .before .before .before .before .before .before .args in
-    let cause = c .before .refusal2 .given .0 .0 in
+    let refusal = c .before in
+    let a = refusal .before .before .before .before .before .args in
+    let cause = refusal .refusal2 .given .0 .0 in
     refuses chorus ask (a .self) (a .mem .now) (number cause)
-    (sym (ap numberOf (c .before .refusal2 .given .1)) ∙ c .before .before .before .refusal .ensures)
+    (sym (ap numberOf (refusal .refusal2 .given .1)) ∙ refusal .before .before .refusal .ensures)
     (number-some cause)
 
 enum-told : tie.Need-enum-told
@@ -49,29 +52,29 @@ module _ (c : tie.After-enum-told) where
 
   used : (c .before .before .before .line-length .result ≡ lineLength (start .args .self .«sample_rate»)) × (lineLength (start .args .self .«sample_rate») ≤ 6154)
   used =
-      let s = start .args .self in
-      let h = fits-parts s (passed .fits) .rate in
-      (length-is (s .«sample_rate») (c .before .before .before .line-length .ensures) h, length-fits (s .«sample_rate») h .1)
+      let rate = start .args .self .«sample_rate» in
+      let h = fits-parts (start .args .self) (passed .fits) .rate in
+      (size-is (rateFits rate) (lineLength rate) (c .before .before .before .line-length .ensures) h, length-fits rate h .1)
 
 mul-used : tie.Need-mul-used
 mul-used c = omega (arith, used c .0, used c .1)
 
 slice-aggregate-all-zero : tie.Need-slice-aggregate-all-zero
 slice-aggregate-all-zero c =
-    let s = c .before .before .before .before .before .before .args .self in
-    sym (length-take-le _ _ (omega (arith, used (c .before) .0, enough (places (s .«sample_rate»)) _ (passed (c .before) .number))))
+    let told = c .before in
+    sym (length-take-le _ _ (omega (arith, used told .0, enough (places (start told .args .self .«sample_rate»)) _ (passed told .number))))
 
 all-zero-requires : tie.Need-all-zero-requires
 all-zero-requires c κs = search needs
 
 -- accepted, with the answer b
 answered : (c : tie.After-all-zero) (b : Bool) → c .all-zero .result ≡ b
-    → Does chorus ask (c .before .before .before .before .before .before .before .args .self) (c .before .before .before .before .before .before .before .args .mem .now) (c .before .before .before .before .before .before .before .args .self) (c .before .before .before .before .before .before .before .args .mem .now) (answer.silent b)
+    → Does chorus ask (start (c .before .before) .args .self) (start (c .before .before) .args .mem .now) (start (c .before .before) .args .self) (start (c .before .before) .args .mem .now) (answer.silent b)
 answered c b e =
     let told = c .before .before in
     let a = start told .args in
     accepts chorus ask (a .self) (a .mem .now)
-    (sym (c .before .before .before .before .refusal .ensures) ∙ ap numberOf (told .enum-told .given .1))
+    (sym (told .before .before .refusal .ensures) ∙ ap numberOf (told .enum-told .given .1))
     refl
     refl
     (ap answer.silent (sym e ∙ c .all-zero .ensures ∙ ap (λ (n : ℕ). allZero (take (3 * n) (a .mem .now))) (used told .0)))

@@ -1,24 +1,24 @@
 -- `Chorus::tick` is the tick of `chorus`: causes 4 and 3, then the ports or their defaults, causes 5 and 6, then the tick with all its ports set.
 -- Assumes nothing.
+use Prim.Native.Nat.{ℕ}
 use mathlib.Core.Path.{_≡_, refl, sym, ap, _∙_}
 use mathlib.Core.Logic.{inl, inr}
-use Prim.Native.Nat.{ℕ}
 use mathlib.Core.Bool.{_&&_, _||_}
-use native.Mathlib.Omega.{arith}
 use lib.ListN.{length}
 use lib.Ieee.{ofBits, round, fits, isNan}
-use Rattle.float64.specs.Number.{plusZero, half, isNumber, frequencyFits, sineFits}
+use borrow.Author.Needs.{needs}
+use Rattle.float64.specs.Number.{plusZero, half, isNumber, rateFits, frequencyFits, sineFits}
 use Rattle.port.specs.Port.{valueOr}
 use Rattle.port.specs.Answer.{number, numberOf}
 use Rattle.port.proofs.Laws.{value-set, value-unset, nan-is, number-some}
 use Rattle.common.specs.Signal.{causeNumber}
+use Rattle.common.proofs.Sweep.{size-is}
 use Rattle.effect.specs.Run.{tick, reset, numberIn}
-use Rattle.effect.proofs.Table.{Accepted, accepted, enough}
+use Rattle.effect.proofs.Table.{Accepted, accepted}
 use Rattle.effect.proofs.Contract.{refuses, tick-number}
 use Rattle.effect.proofs.Rows.{unit-refused}
-use Rattle.chorus.specs.Chorus.{chorus, places, Tick, ticked, tickNumber}
-use Rattle.chorus.proofs.Laws.{fits-parts, length-fits, length-is, allSet, set-does}
-use borrow.Author.Needs.{needs}
+use Rattle.chorus.specs.Chorus.{chorus, Tick, ticked, lineLength, tickNumber}
+use Rattle.chorus.proofs.Laws.{fits-parts, allSet, set-does}
 use Rattle.chorus.proofs.Chorus.tick.Statement.{statement}
 use Rattle.chorus.proofs.Chorus.tick.Tie as tie
 
@@ -37,11 +37,12 @@ enum-known-refusal c = search needs
 
 returns : tie.Need-returns
 returns c =
-    let s = c .before .before .before .before .before .before in
+    let refusal = c .before in
+    let s = refusal .before .before .before .before .before in
     let a = s .args in
-    let cause = c .before .refusal2 .given .0 .0 in
+    let cause = refusal .refusal2 .given .0 .0 in
     refuses chorus (tick (handed s)) (a .self) (a .mem .now) (number cause)
-    (unit-refused chorus (length (a .mem .now)) (a .self) (handed s) (sym (ap numberOf (c .before .refusal2 .given .1)) ∙ c .before .before .before .refusal .ensures) (number-some cause))
+    (unit-refused chorus (length (a .mem .now)) (a .self) (handed s) (sym (ap numberOf (refusal .refusal2 .given .1)) ∙ refusal .before .before .refusal .ensures) (number-some cause))
     (number-some cause)
 
 enum-told : tie.Need-enum-told
@@ -122,6 +123,10 @@ module _ (c : tie.At-match4-came) where
   passed : Accepted chorus (length (start .args .mem .now)) reset (start .args .self)
   passed = accepted chorus (length (start .args .mem .now)) reset (start .args .self) (sym (c .before .before .before .before .before .refusal .ensures) ∙ ap numberOf (c .before .before .before .enum-told .given .1))
 
+  -- the tick with these numbers
+  abbrev all : Tick
+  all = allSet (handed start) audio-is depth-is mix-is
+
 -- the number by the ports
 module _ (c : tie.After-tick-causes) where
   abbrev values : tie.At-match4-came
@@ -135,26 +140,27 @@ module _ (c : tie.After-tick-causes) where
   unfolding tickNumber isNumber fits isNan round
   number-is k e =
       let a = start values .args in
+      let u = passed values in
       let depth = nan-is (a .depth) half refl (depth-is values) (c .before .before .before .is-nan .ensures) in
       let mix = nan-is (a .mix) half refl (mix-is values) (c .before .before .is-nan2 .ensures) in
-      tick-number chorus (length (a .mem .now)) (a .self) (handed (start values)) (passed values .fits) (sym (passed values .number))
+      tick-number chorus (length (a .mem .now)) (a .self) (handed (start values)) (u .fits) (sym (u .number))
       (sym e ∙ c .tick-causes .ensures ∙ (λ i. causeNumber (depth i || mix i) (curves-are i)))
 
   -- and by their numbers
-  set-number-is : (k : ℕ) → numberOf (c .tick-causes .result) ≡ k
-      → k ≡ numberIn chorus (tick (allSet (handed (start values)) (audio-is values) (depth-is values) (mix-is values))) (length (start values .args .mem .now)) (start values .args .self)
+  set-number-is : (k : ℕ) → numberOf (c .tick-causes .result) ≡ k → k ≡ numberIn chorus (tick (all values)) (length (start values .args .mem .now)) (start values .args .self)
   unfolding tickNumber
   set-number-is k e =
       let a = start values .args in
-      tick-number chorus (length (a .mem .now)) (a .self) (allSet (handed (start values)) (audio-is values) (depth-is values) (mix-is values)) (passed values .fits) (sym (passed values .number))
+      let u = passed values in
+      tick-number chorus (length (a .mem .now)) (a .self) (all values) (u .fits) (sym (u .number))
       (sym e ∙ c .tick-causes .ensures ∙ (λ i. causeNumber (c .before .before .before .is-nan .ensures i || c .before .before .is-nan2 .ensures i) (curves-are i)))
 
 returns-2 : tie.Need-returns-2
 returns-2 c =
     let causes = c .before .before .before in
     let cause = c .before .causes .given .0 .0 in
-    let a = start (values causes) .args in
-    refuses chorus (tick (handed (start (values causes)))) (a .self) (a .mem .now) (number cause)
+    let s = start (values causes) in
+    refuses chorus (tick (handed s)) (s .args .self) (s .args .mem .now) (number cause)
     (number-is causes (number cause) (ap numberOf (c .before .causes .given .1)))
     (number-some cause)
 
@@ -163,26 +169,26 @@ enum-told-5 c = search needs
 
 advance-requires : tie.Need-advance-requires
 advance-requires c κs =
-    let causes = c .before .before .before in
-    let s = start (values causes) .args .self in
-    let m = start (values causes) .args .mem .now in
-    let u = passed (values causes) in
-    let f = fits-parts s (u .fits) in
-    let l = length-fits (s .«sample_rate») (f .rate) in
-    let e = length-is (s .«sample_rate») (values causes .before .before .before .before .before .before .line-length .ensures) (f .rate) in
-    let room = enough (places (s .«sample_rate»)) (length m) (u .number) in
-    let none = ap numberOf (c .before .enum-told5 .given .1) in
-    (e, ((omega (arith, e, l .0), omega (arith, e, l .1)), (omega (arith, e, f .inside), (omega (arith, e, room), sym (set-number-is causes 0 none)))))
+    let told = c .before in
+    let causes = told .before .before in
+    let v = values causes in
+    let s = start v .args .self in
+    let rate = s .«sample_rate» in (
+      size-is (rateFits rate) (lineLength rate) (v .before .before .before .before .before .before .line-length .ensures) (fits-parts s (passed v .fits) .rate),
+      sym (set-number-is causes 0 (ap numberOf (told .enum-told5 .given .1))),
+    )
 
 same-length : tie.Need-same-length
 same-length c = search needs
 
 returns-3 : tie.Need-returns-3
 returns-3 c =
-    let causes = c .before .before .before .before .before .before in
+    let worked = c .before .before in
+    let told = worked .before .before in
+    let causes = told .before .before in
     let v = values causes in
-    let none = ap numberOf (c .before .before .before .before .enum-told5 .given .1) in
-    set-does (handed (start v)) (audio-is v) (depth-is v) (mix-is v) (sym (number-is causes 0 none)) (sym (set-number-is causes 0 none)) (c .before .before .advance .ensures)
+    let none = ap numberOf (told .enum-told5 .given .1) in
+    set-does (handed (start v)) (audio-is v) (depth-is v) (mix-is v) (sym (number-is causes 0 none)) (sym (set-number-is causes 0 none)) (worked .advance .ensures)
 
 pub tick-spec : {M : Type 1} → statement M
 tick-spec =
