@@ -1,14 +1,13 @@
 // The chorus's calls.
 ghost use Rattle.effect.specs.Run.{retune, reset};
 ghost use Rattle.chorus.specs.Chorus.{chorus, ticked};
-ghost use Rattle.room_effects.specs.Lent.{samplesFrom, Began, Called, Ticked, Asked};
+ghost use Rattle.room_effects.specs.Lent.{Began, Called, Ticked, Asked};
 ghost use Rattle.room_effects.specs.Units.{chorusOf, chorusUnit};
 ghost use Rattle.room_effects.specs.Ports.{portAt};
-ghost use Rattle.port.specs.Answer.{answerReply};
 ghost use mathlib.Core.Path.{_≡_};
+use crate::shared::port_at;
+use crate::shared::put_samples;
 use chorus::Chorus;
-use port::Answer;
-use port::port_if;
 
 // A chorus's state from lent numbers, and back into them.
 fn chorus_of(pos: u64, phases: &[f64; 3], rate: f64) -> Chorus
@@ -28,13 +27,6 @@ fn put_chorus(state: Chorus, pos: &mut u64, phases: &mut [f64; 3])
 {
     *pos = state.write_pos;
     *phases = [state.lfo_phase0, state.lfo_phase1, state.lfo_phase2];
-}
-
-// The three samples of an answer, +0 on a refusal.
-fn put_samples(answer: Answer, out: &mut [f64; 3])
-    ensures { λ _. ⌜ now (out .exit) ≡ samplesFrom 0 3 (answerReply answer) ⌝ }
-{
-    *out = [answer.first(), answer.second(), answer.third()];
 }
 
 // Start of a chorus. A refused one writes the state of zeros too.
@@ -119,13 +111,16 @@ pub extern "C" fn room_raw_chorus_tick(
     ensures { λ r. ⌜ Ticked chorus 3 (ticked (portAt set 1 audio) (portAt set 2 depth) (portAt set 4 mix) frequency sine0 sine1 sine2) (chorusUnit (now (pos .entry)) (now (phases .entry)) rate (now (memory .entry))) (chorusUnit (now (pos .exit)) (now (phases .exit)) rate (now (memory .exit))) (now (out .exit)) r ⌝ }
 {
     let state = chorus_of(*pos, phases, rate);
-    let audio_set = set / 1 % 2 == 1;
-    let depth_set = set / 2 % 2 == 1;
-    let mix_set = set / 4 % 2 == 1;
-    let input = port_if(audio_set, audio);
-    let amount = port_if(depth_set, depth);
-    let wet = port_if(mix_set, mix);
-    let ticked = state.tick(memory, input, amount, wet, frequency, sine0, sine1, sine2);
+    let ticked = state.tick(
+        memory,
+        port_at(set, 1, audio),
+        port_at(set, 2, depth),
+        port_at(set, 4, mix),
+        frequency,
+        sine0,
+        sine1,
+        sine2,
+    );
     let answer = ticked.answer;
     let number = answer.number();
     put_samples(answer, out);

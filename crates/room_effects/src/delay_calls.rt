@@ -7,8 +7,8 @@ ghost use Rattle.delay_line.specs.DelayLine.{delayLine, handing, retuning, tick
 ghost use Rattle.room_effects.specs.Lent.{Began, Called, Ticked, Asked};
 ghost use Rattle.room_effects.specs.Units.{isOn, delayUnit};
 ghost use Rattle.room_effects.specs.Ports.{portAt};
+use crate::shared::port_at;
 use delay_line::DelayLine;
-use port::port_if;
 
 fn flag(on: bool) -> u32
     ensures { λ r. ⌜ r ≡ cond on 1 0 ⌝ }
@@ -156,10 +156,10 @@ pub extern "C" fn room_raw_delay_tick(
     };
     let played = state.tick(
         memory,
-        port_if(set / 1 % 2 == 1, audio),
-        port_if(set / 2 % 2 == 1, time),
-        port_if(set / 4 % 2 == 1, feedback),
-        port_if(set / 8 % 2 == 1, mix),
+        port_at(set, 1, audio),
+        port_at(set, 2, time),
+        port_at(set, 4, feedback),
+        port_at(set, 8, mix),
         milliseconds,
     );
     let answer = played.answer;

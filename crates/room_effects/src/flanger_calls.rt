@@ -4,8 +4,9 @@ ghost use Rattle.flanger.specs.Flanger.{flanger, ticked};
 ghost use Rattle.room_effects.specs.Lent.{Began, Called, Ticked, Asked};
 ghost use Rattle.room_effects.specs.Units.{flangerUnit};
 ghost use Rattle.room_effects.specs.Ports.{portAt};
+use crate::shared::port_at;
+use crate::shared::put_samples;
 use flanger::Flanger;
-use port::port_if;
 
 // Start of a flanger. A refused one writes the state of zeros too, and leaves the memory as it was.
 #[no_mangle]
@@ -102,14 +103,19 @@ pub extern "C" fn room_raw_flanger_tick(
         lfo_phase: *phase,
         sample_rate: rate,
     };
-    let input = port_if(set / 1 % 2 == 1, audio);
-    let amount = port_if(set / 2 % 2 == 1, depth);
-    let back = port_if(set / 4 % 2 == 1, feedback);
-    let wet = port_if(set / 8 % 2 == 1, mix);
-    let ticked = state.tick(memory, input, amount, back, wet, frequency, sine0, sine1);
+    let ticked = state.tick(
+        memory,
+        port_at(set, 1, audio),
+        port_at(set, 2, depth),
+        port_at(set, 4, feedback),
+        port_at(set, 8, mix),
+        frequency,
+        sine0,
+        sine1,
+    );
     let answer = ticked.answer;
     let number = answer.number();
-    *out = [answer.first(), answer.second(), answer.third()];
+    put_samples(answer, out);
     if number != 0 {
         return number;
     }

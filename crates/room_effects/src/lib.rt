@@ -5,5 +5,6 @@ mod delay_calls;
 mod flanger_calls;
 mod places;
 mod reverb_calls;
+mod shared;
 mod tremolo_calls;
 mod vibrato_calls;

@@ -5,7 +5,7 @@ ghost use Rattle.reverb.specs.Reverb.{reverb, ticked};
 ghost use Rattle.room_effects.specs.Lent.{Began, Called, Ticked, Asked};
 ghost use Rattle.room_effects.specs.Units.{reverbOf, reverbUnit};
 ghost use Rattle.room_effects.specs.Ports.{portAt};
-use port::port_if;
+use crate::shared::port_at;
 use reverb::Reverb;
 
 // A reverb's state into lent arrays; the rate is written, or kept, beside.
@@ -189,11 +189,11 @@ pub extern "C" fn room_raw_reverb_tick(
         predelay_pos,
         rate,
         memory,
-        port_if(set / 1 % 2 == 1, audio),
-        port_if(set / 2 % 2 == 1, size),
-        port_if(set / 4 % 2 == 1, damping),
-        port_if(set / 8 % 2 == 1, mix),
-        port_if(set / 16 % 2 == 1, predelay),
+        port_at(set, 1, audio),
+        port_at(set, 2, size),
+        port_at(set, 4, damping),
+        port_at(set, 8, mix),
+        port_at(set, 16, predelay),
     );
     *out = [answer.first(), answer.second()];
     answer.number()

@@ -5,7 +5,7 @@ ghost use Rattle.room_effects.specs.Lent.{Began, Called, Ticked, Asked};
 ghost use Rattle.room_effects.specs.Units.{tremoloUnit};
 ghost use Rattle.room_effects.specs.Ports.{portAt};
 ghost use mathlib.Core.List.{[], _∷_};
-use port::port_if;
+use crate::shared::port_at;
 use tremolo::Tremolo;
 
 // Start of a tremolo. A refused one writes the state of zeros too.
@@ -58,9 +58,9 @@ pub extern "C" fn room_raw_tremolo_tick(
         sample_rate: rate,
     };
     let ticked = state.tick(
-        port_if(set / 1 % 2 == 1, audio),
-        port_if(set / 2 % 2 == 1, depth),
-        port_if(set / 4 % 2 == 1, shape),
+        port_at(set, 1, audio),
+        port_at(set, 2, depth),
+        port_at(set, 4, shape),
         frequency,
         sine,
     );

@@ -5,7 +5,7 @@ ghost use Rattle.room_effects.specs.Lent.{Began, Called, Ticked, Asked};
 ghost use Rattle.room_effects.specs.Units.{vibratoUnit};
 ghost use Rattle.room_effects.specs.Ports.{portAt};
 ghost use mathlib.Core.List.{[], _∷_};
-use port::port_if;
+use crate::shared::port_at;
 use vibrato::Vibrato;
 
 // Start of a vibrato. A refused one writes the state of zeros too, and leaves the memory as it was.
@@ -103,9 +103,9 @@ pub extern "C" fn room_raw_vibrato_tick(
     };
     let played = state.tick(
         memory,
-        port_if(set / 1 % 2 == 1, audio),
-        port_if(set / 2 % 2 == 1, depth),
-        port_if(set / 4 % 2 == 1, mix),
+        port_at(set, 1, audio),
+        port_at(set, 2, depth),
+        port_at(set, 4, mix),
         frequency,
         sine,
     );

@@ -33,23 +33,22 @@ module _ (c : tie.After-tick) where
   does =
       let a = start .args in
       let state = c .before .before .before .before .before .chorus-of in
-      let ports = c .before .before in
       of-state chorus (tick (handed start)) (state .ensures)
       (of-tick chorus (state .result)
-      (λ i. ticked (ports .before .before .port-if .ensures i) (ports .before .port-if2 .ensures i) (ports .port-if3 .ensures i) (a .frequency) (a .sine0) (a .sine1) (a .sine2))
+      (λ i. ticked (c .before .before .before .port-at .ensures i) (c .before .before .port-at2 .ensures i) (c .before .port-at3 .ensures i) (a .frequency) (a .sine0) (a .sine1) (a .sine2))
       (c .tick .ensures))
 
 chorus-of-requires : tie.Need-chorus-of-requires
 chorus-of-requires c κs = search needs
 
-port-if-requires : tie.Need-port-if-requires
-port-if-requires c κs = search needs
+port-at-requires : tie.Need-port-at-requires
+port-at-requires c κs = search needs
 
-port-if-requires-2 : tie.Need-port-if-requires-2
-port-if-requires-2 c κs = search needs
+port-at-requires-2 : tie.Need-port-at-requires-2
+port-at-requires-2 c κs = search needs
 
-port-if-requires-3 : tie.Need-port-if-requires-3
-port-if-requires-3 c κs = search needs
+port-at-requires-3 : tie.Need-port-at-requires-3
+port-at-requires-3 c κs = search needs
 
 tick-requires : tie.Need-tick-requires
 tick-requires c κs = search needs
@@ -93,9 +92,9 @@ room-raw-chorus-tick-spec =
     tie.close
     (tie.spec
     chorus-of-requires
-    port-if-requires
-    port-if-requires-2
-    port-if-requires-3
+    port-at-requires
+    port-at-requires-2
+    port-at-requires-3
     tick-requires
     number-requires
     put-samples-requires

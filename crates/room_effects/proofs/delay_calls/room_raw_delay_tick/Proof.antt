@@ -33,20 +33,20 @@ module _ (c : tie.After-tick) where
   does : Does delayLine (tick (handed start)) (unit start .state) (unit start .memory) (c .tick .result .state) (c .tick .last .1 .0) (answerReply (c .tick .result .answer))
   does =
       of-tick delayLine (unit start .state)
-      (λ i. ticked (c .before .before .before .before .port-if .ensures i) (c .before .before .before .port-if2 .ensures i) (c .before .before .port-if3 .ensures i) (c .before .port-if4 .ensures i) (start .args .milliseconds))
+      (λ i. ticked (c .before .before .before .before .port-at .ensures i) (c .before .before .before .port-at2 .ensures i) (c .before .before .port-at3 .ensures i) (c .before .port-at4 .ensures i) (start .args .milliseconds))
       (c .tick .ensures)
 
-port-if-requires : tie.Need-port-if-requires
-port-if-requires c κs = search needs
+port-at-requires : tie.Need-port-at-requires
+port-at-requires c κs = search needs
 
-port-if-requires-2 : tie.Need-port-if-requires-2
-port-if-requires-2 c κs = search needs
+port-at-requires-2 : tie.Need-port-at-requires-2
+port-at-requires-2 c κs = search needs
 
-port-if-requires-3 : tie.Need-port-if-requires-3
-port-if-requires-3 c κs = search needs
+port-at-requires-3 : tie.Need-port-at-requires-3
+port-at-requires-3 c κs = search needs
 
-port-if-requires-4 : tie.Need-port-if-requires-4
-port-if-requires-4 c κs = search needs
+port-at-requires-4 : tie.Need-port-at-requires-4
+port-at-requires-4 c κs = search needs
 
 tick-requires : tie.Need-tick-requires
 tick-requires c κs = search needs
@@ -91,10 +91,10 @@ pub room-raw-delay-tick-spec : {M : Type 1} → statement M
 room-raw-delay-tick-spec =
     tie.close
     (tie.spec
-    port-if-requires
-    port-if-requires-2
-    port-if-requires-3
-    port-if-requires-4
+    port-at-requires
+    port-at-requires-2
+    port-at-requires-3
+    port-at-requires-4
     tick-requires
     number-requires
     first-requires

@@ -1,6 +1,5 @@
 -- `room_raw_flanger_tick` is `Flanger::tick` with the ports of the mask, its state without the rate written back where it is accepted. Assumes nothing.
 use mathlib.Core.Path.{ap, sym, _∙_}
-use mathlib.Core.List.{[], _∷_}
 use Rattle.port.specs.Answer.{answerReply}
 use Rattle.effect.specs.Run.{tick, Device}
 use Rattle.effect.specs.Contract.{Does}
@@ -34,20 +33,20 @@ module _ (c : tie.After-tick) where
   does =
       let a = start .args in
       of-tick flanger (unit start .state)
-      (λ i. ticked (c .before .before .before .before .before .port-if .ensures i) (c .before .before .before .before .port-if2 .ensures i) (c .before .before .before .port-if3 .ensures i) (c .before .before .port-if4 .ensures i) (a .frequency) (a .sine0) (a .sine1))
+      (λ i. ticked (c .before .before .before .before .port-at .ensures i) (c .before .before .before .port-at2 .ensures i) (c .before .before .port-at3 .ensures i) (c .before .port-at4 .ensures i) (a .frequency) (a .sine0) (a .sine1))
       (c .tick .ensures)
 
-port-if-requires : tie.Need-port-if-requires
-port-if-requires c κs = search needs
+port-at-requires : tie.Need-port-at-requires
+port-at-requires c κs = search needs
 
-port-if-requires-2 : tie.Need-port-if-requires-2
-port-if-requires-2 c κs = search needs
+port-at-requires-2 : tie.Need-port-at-requires-2
+port-at-requires-2 c κs = search needs
 
-port-if-requires-3 : tie.Need-port-if-requires-3
-port-if-requires-3 c κs = search needs
+port-at-requires-3 : tie.Need-port-at-requires-3
+port-at-requires-3 c κs = search needs
 
-port-if-requires-4 : tie.Need-port-if-requires-4
-port-if-requires-4 c κs = search needs
+port-at-requires-4 : tie.Need-port-at-requires-4
+port-at-requires-4 c κs = search needs
 
 tick-requires : tie.Need-tick-requires
 tick-requires c κs = search needs
@@ -55,54 +54,44 @@ tick-requires c κs = search needs
 number-requires : tie.Need-number-requires
 number-requires c κs = search needs
 
-first-requires : tie.Need-first-requires
-first-requires c κs = search needs
-
-second-requires : tie.Need-second-requires
-second-requires c κs = search needs
-
-third-requires : tie.Need-third-requires
-third-requires c κs = search needs
+put-samples-requires : tie.Need-put-samples-requires
+put-samples-requires c κs = search needs
 
 same-length : tie.Need-same-length
 same-length c = search needs
 
 returns : tie.Need-returns
 returns c =
-    let third = c .before .before in
-    let numbered = third .before .before .before in
-    let inner = numbered .before .before .before in
+    let out = c .before in
+    let inner = out .before .before .before .before .before in
     let s = start inner in
-    played flanger 3 (does inner) (kept flanger (tick (handed s)) (unit s) (does inner) (numbered .number .ensures) (c .if1 .taken)) (λ i. third .before .before .first .ensures i ∷ third .before .second .ensures i ∷ third .third .ensures i ∷ [])
+    played flanger 3 (does inner) (kept flanger (tick (handed s)) (unit s) (does inner) (out .before .before .number .ensures) (c .if1 .taken)) (out .put-samples .ensures)
 
 same-length-2 : tie.Need-same-length-2
 same-length-2 c = search needs
 
 returns-2 : tie.Need-returns-2
 returns-2 c =
-    let third = c .before .before in
-    let numbered = third .before .before .before in
-    let inner = numbered .before .before .before in
+    let out = c .before in
+    let inner = out .before .before .before .before .before in
     let s = start inner in
     let left = inner .tick .result .state in
     played flanger 3 (does inner)
-    (stored flanger (tick (handed s)) (unit s) (does inner) (sym (c .if1 .left) ∙ numbered .number .ensures)
+    (stored flanger (tick (handed s)) (unit s) (does inner) (sym (c .if1 .left) ∙ out .before .before .number .ensures)
     (ap (flangerOf (left .«write_pos») (left .«lfo_phase»)) (tick-settings flanger laws (does inner))))
-    (λ i. third .before .before .first .ensures i ∷ third .before .second .ensures i ∷ third .third .ensures i ∷ [])
+    (out .put-samples .ensures)
 
 pub room-raw-flanger-tick-spec : {M : Type 1} → statement M
 room-raw-flanger-tick-spec =
     tie.close
     (tie.spec
-    port-if-requires
-    port-if-requires-2
-    port-if-requires-3
-    port-if-requires-4
+    port-at-requires
+    port-at-requires-2
+    port-at-requires-3
+    port-at-requires-4
     tick-requires
     number-requires
-    first-requires
-    second-requires
-    third-requires
+    put-samples-requires
     same-length
     returns
     same-length-2

@@ -23,20 +23,20 @@ unit s =
     let a = s .args in
     reverbUnit (a .comb-pos-l .now) (a .comb-pos-r .now) (a .stores-l .now) (a .stores-r .now) (a .allpass-pos-l .now) (a .allpass-pos-r .now) (a .predelay-pos .now) (a .rate) (a .memory .now)
 
-port-if-requires : tie.Need-port-if-requires
-port-if-requires c κs = search needs
+port-at-requires : tie.Need-port-at-requires
+port-at-requires c κs = search needs
 
-port-if-requires-2 : tie.Need-port-if-requires-2
-port-if-requires-2 c κs = search needs
+port-at-requires-2 : tie.Need-port-at-requires-2
+port-at-requires-2 c κs = search needs
 
-port-if-requires-3 : tie.Need-port-if-requires-3
-port-if-requires-3 c κs = search needs
+port-at-requires-3 : tie.Need-port-at-requires-3
+port-at-requires-3 c κs = search needs
 
-port-if-requires-4 : tie.Need-port-if-requires-4
-port-if-requires-4 c κs = search needs
+port-at-requires-4 : tie.Need-port-at-requires-4
+port-at-requires-4 c κs = search needs
 
-port-if-requires-5 : tie.Need-port-if-requires-5
-port-if-requires-5 c κs = search needs
+port-at-requires-5 : tie.Need-port-at-requires-5
+port-at-requires-5 c κs = search needs
 
 tick-in-place-requires : tie.Need-tick-in-place-requires
 tick-in-place-requires c κs = search needs
@@ -60,7 +60,7 @@ returns c =
     let s = inner .before .before .before .before .before .before .before .before .before .before .before .before .before .before .before in
     let does =
     of-tick reverb (unit s .state)
-    (λ i. ticked (inner .before .before .before .before .before .port-if .ensures i) (inner .before .before .before .before .port-if2 .ensures i) (inner .before .before .before .port-if3 .ensures i) (inner .before .before .port-if4 .ensures i) (inner .before .port-if5 .ensures i))
+    (λ i. ticked (inner .before .before .before .before .before .port-at .ensures i) (inner .before .before .before .before .port-at2 .ensures i) (inner .before .before .before .port-at3 .ensures i) (inner .before .before .port-at4 .ensures i) (inner .before .port-at5 .ensures i))
     (inner .tick-in-place .ensures)
     in
     played reverb 2 does (stored reverb (tick (handed s)) (unit s) does (c .number .ensures) refl) (λ i. second .before .first .ensures i ∷ second .second .ensures i ∷ [])
@@ -69,11 +69,11 @@ pub room-raw-reverb-tick-spec : {M : Type 1} → statement M
 room-raw-reverb-tick-spec =
     tie.close
     (tie.spec
-    port-if-requires
-    port-if-requires-2
-    port-if-requires-3
-    port-if-requires-4
-    port-if-requires-5
+    port-at-requires
+    port-at-requires-2
+    port-at-requires-3
+    port-at-requires-4
+    port-at-requires-5
     tick-in-place-requires
     first-requires
     second-requires

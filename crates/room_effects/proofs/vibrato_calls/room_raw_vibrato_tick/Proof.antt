@@ -34,17 +34,17 @@ module _ (c : tie.After-tick) where
   does =
       let a = start .args in
       of-tick vibrato (unit start .state)
-      (λ i. ticked (c .before .before .before .port-if .ensures i) (c .before .before .port-if2 .ensures i) (c .before .port-if3 .ensures i) (a .frequency) (a .sine))
+      (λ i. ticked (c .before .before .before .port-at .ensures i) (c .before .before .port-at2 .ensures i) (c .before .port-at3 .ensures i) (a .frequency) (a .sine))
       (c .tick .ensures)
 
-port-if-requires : tie.Need-port-if-requires
-port-if-requires c κs = search needs
+port-at-requires : tie.Need-port-at-requires
+port-at-requires c κs = search needs
 
-port-if-requires-2 : tie.Need-port-if-requires-2
-port-if-requires-2 c κs = search needs
+port-at-requires-2 : tie.Need-port-at-requires-2
+port-at-requires-2 c κs = search needs
 
-port-if-requires-3 : tie.Need-port-if-requires-3
-port-if-requires-3 c κs = search needs
+port-at-requires-3 : tie.Need-port-at-requires-3
+port-at-requires-3 c κs = search needs
 
 tick-requires : tie.Need-tick-requires
 tick-requires c κs = search needs
@@ -83,9 +83,9 @@ pub room-raw-vibrato-tick-spec : {M : Type 1} → statement M
 room-raw-vibrato-tick-spec =
     tie.close
     (tie.spec
-    port-if-requires
-    port-if-requires-2
-    port-if-requires-3
+    port-at-requires
+    port-at-requires-2
+    port-at-requires-3
     tick-requires
     number-requires
     first-requires
