@@ -6,6 +6,7 @@ mod words;
 
 use libc::STDOUT_FILENO;
 use reverb::Reverb;
+use units::Step;
 use units::Unit;
 use words::Tally;
 use words::float;
@@ -21,20 +22,27 @@ fn read_record(fd: i32, buffer: &mut [u8], size: usize) -> bool
 }
 
 // The unit at the start of a file: of a tremolo nothing is stored before the records.
-fn opened(fd: i32, effect: u64, mem: &mut [f64]) -> Unit {
+fn opened(fd: i32, effect: u64, mem: &mut [f64]) -> Step {
     if effect == 5 {
-        return Unit::Tremolo;
+        return Step {
+            unit: Unit::Tremolo,
+            equal: true,
+        };
     }
-    let mut start = [0u8; 24];
-    io::read_full(fd, &mut start);
-    let rate = float(&start, 1);
+    let mut start = [0u8; 128];
     if effect == 1 {
-        let mut rest = [0u8; 24];
-        io::read_full(fd, &mut rest);
-        let linear = word(&rest, 2) == 1;
-        return units::started_delay(rate, float(&rest, 0), float(&rest, 1), linear, mem);
+        read_record(fd, &mut start, 48);
+        let linear = word(start, 5) == 1;
+        return units::started_delay(
+            float(start, 1),
+            float(start, 3),
+            float(start, 4),
+            linear,
+            mem,
+        );
     }
-    units::started(effect, rate, mem)
+    read_record(fd, &mut start, 24);
+    units::started(effect, float(start, 1), mem)
 }
 
 // Replays the records of an open file, a million at the most.
@@ -46,13 +54,14 @@ fn replayed(fd: i32, effect: u64, size: usize, mem: &mut [f64]) -> Tally
         calls: 0,
         differ: 0,
     };
-    let mut unit = opened(fd, effect, mem);
+    let first = opened(fd, effect, mem);
+    let mut unit = first.unit;
     let mut buffer = [0u8; 128];
     while tally.calls < 1000000 {
         if !read_record(fd, &mut buffer, size) {
             break;
         }
-        let step = units::called(unit, mem, &buffer);
+        let step = units::called(unit, mem, buffer);
         unit = step.unit;
         tally = words::counted(tally, step.equal);
     }
@@ -61,9 +70,9 @@ fn replayed(fd: i32, effect: u64, size: usize, mem: &mut [f64]) -> Tally
 
 // The reverb at the start of its file.
 fn opened_reverb(fd: i32, mem: &mut [f64]) -> Reverb {
-    let mut start = [0u8; 24];
-    io::read_full(fd, &mut start);
-    reverbs::started(float(&start, 1), mem)
+    let mut start = [0u8; 128];
+    read_record(fd, &mut start, 24);
+    reverbs::started(float(start, 1), mem)
 }
 
 // Replays the reverb's records, a million at the most.
@@ -80,7 +89,7 @@ fn replayed_reverb(fd: i32, mem: &mut [f64]) -> Tally
         if !read_record(fd, &mut buffer, 128) {
             break;
         }
-        let after = reverbs::called(state, mem, &buffer);
+        let after = reverbs::called(state, mem, buffer);
         state = after.state;
         tally = words::counted(tally, after.equal);
     }
@@ -122,12 +131,20 @@ fn replay_reverb(path: &[u8], name: &[u8]) {
     libc::close(fd);
 }
 
-fn main() {
+fn modulations() {
     replay(b"tremolo.bin", b"tremolo: ", 5, 88);
     replay(b"vibrato.bin", b"vibrato: ", 4, 80);
     replay(b"chorus.bin", b"chorus: ", 2, 128);
     replay(b"flanger.bin", b"flanger: ", 3, 112);
+}
+
+fn echoes() {
     replay(b"delay.bin", b"delay: ", 1, 88);
     replay(b"linear_delay.bin", b"linear delay: ", 1, 88);
     replay_reverb(b"reverb.bin", b"reverb: ");
+}
+
+fn main() {
+    modulations();
+    echoes();
 }

@@ -8,8 +8,9 @@ ghost use Prim.Native.Nat.{_<_};
 use crate::units::one_sample;
 use crate::units::port;
 use crate::words::float;
-use crate::words::same;
+use crate::words::holds;
 use crate::words::word;
+use reverb::Cleared;
 use reverb::Reverb;
 
 // A reverb after a record, and whether it left and answered what is stored.
@@ -24,64 +25,62 @@ pub fn started(rate: f64, mem: &mut [f64]) -> Reverb {
     started.state
 }
 
-// Whether four positions from number k on are those packed in a word.
-fn four(positions: &[u64], k: usize, packed: u64) -> bool {
-    let n = positions.len();
-    if n < 4 {
-        return false;
+// The position number k of those packed from word i on.
+fn place(b: [u8; 128], i: usize, k: usize) -> u64
+    requires { ⌜ i < 15 ⌝ }
+    requires { ⌜ k < 8 ⌝ }
+{
+    let packed = word(b, i + k / 4);
+    match k % 4 {
+        0 => packed % 65536,
+        1 => packed / 65536 % 65536,
+        2 => packed / 4294967296 % 65536,
+        _ => packed / 281474976710656,
     }
-    if n - 4 < k {
-        return false;
-    }
-    (positions[k] == packed % 65536)
-        & (positions[k + 1] == packed / 65536 % 65536)
-        & (positions[k + 2] == packed / 4294967296 % 65536)
-        & (positions[k + 3] == packed / 281474976710656)
 }
 
-// Whether eight are those packed in word i and the next.
-fn eight(positions: &[u64], b: &[u8; 128], i: usize) -> bool
+// Whether the positions are those packed from word i on.
+fn places(positions: &[u64], b: [u8; 128], i: usize) -> bool
     requires { ⌜ i < 15 ⌝ }
 {
-    four(positions, 0, word(b, i)) & four(positions, 4, word(b, i + 1))
+    let n = positions.len();
+    if n > 8 {
+        return false;
+    }
+    let mut equal = true;
+    for k in 0..n {
+        equal = equal & (positions[k] == place(b, i, k));
+    }
+    equal
 }
 
 // Whether the positions after a record are those stored.
-fn left(r: Reverb, b: &[u8; 128]) -> bool {
+fn left(r: Reverb, b: [u8; 128]) -> bool {
     let combs_l = r.comb_pos_l;
     let combs_r = r.comb_pos_r;
     let passes_l = r.allpass_pos_l;
     let passes_r = r.allpass_pos_r;
-    eight(&combs_l, b, 9)
-        & eight(&combs_r, b, 11)
-        & four(&passes_l, 0, word(b, 13))
-        & four(&passes_r, 0, word(b, 14))
+    places(&combs_l, b, 9)
+        & places(&combs_r, b, 11)
+        & places(&passes_l, b, 13)
+        & places(&passes_r, b, 14)
         & (r.predelay_pos == word(b, 15))
 }
 
-// Whether four stores from number k on are those in word i and the next three.
-fn four_stores(held: &[f64], k: usize, b: &[u8; 128], i: usize) -> bool
-    requires { ⌜ i < 13 ⌝ }
-{
-    let n = held.len();
-    if n < 4 {
-        return false;
-    }
-    if n - 4 < k {
-        return false;
-    }
-    same(held[k], float(b, i))
-        & same(held[k + 1], float(b, i + 1))
-        & same(held[k + 2], float(b, i + 2))
-        & same(held[k + 3], float(b, i + 3))
-}
-
 // Whether a side's damping stores are those in words 1 to 8.
-fn stores(held: &[f64], b: &[u8; 128]) -> bool {
-    four_stores(held, 0, b, 1) & four_stores(held, 4, b, 5)
+fn stores(held: &[f64], b: [u8; 128]) -> bool {
+    let n = held.len();
+    if n > 8 {
+        return false;
+    }
+    let mut equal = true;
+    for k in 0..n {
+        equal = equal & holds(b, k + 1, held[k]);
+    }
+    equal
 }
 
-fn look(r: Reverb, left: bool, b: &[u8; 128]) -> Played {
+fn look(r: Reverb, left: bool, b: [u8; 128]) -> Played {
     let stores_l = r.comb_filter_state_l;
     let stores_r = r.comb_filter_state_r;
     if left {
@@ -96,26 +95,26 @@ fn look(r: Reverb, left: bool, b: &[u8; 128]) -> Played {
     }
 }
 
-fn tick(r: Reverb, mem: &mut [f64], b: &[u8; 128]) -> Played {
+fn tick(r: Reverb, mem: &mut [f64], b: [u8; 128]) -> Played {
     let set = word(b, 1);
     let ticked = r.tick(
         mem,
-        port(b, set, 2),
-        port(b, set / 2, 3),
-        port(b, set / 4, 4),
-        port(b, set / 8, 5),
-        port(b, set / 16, 6),
+        port(b, set, 1, 2),
+        port(b, set, 2, 3),
+        port(b, set, 4, 4),
+        port(b, set, 8, 5),
+        port(b, set, 16, 6),
     );
     let state = ticked.state;
     let answer = ticked.answer;
     Played {
         state,
-        equal: one_sample(answer, b, 7) & same(answer.second(), float(b, 8)),
+        equal: one_sample(answer, b, 7) & holds(b, 8, answer.second()),
     }
 }
 
-fn retune(r: Reverb, mem: &mut [f64], b: &[u8; 128]) -> Played {
-    let cleared = r.set_sample_rate(float(b, 6), mem);
+// What a clearing leaves; it is equal where it is accepted.
+fn cleared(cleared: Cleared) -> Played {
     let state = cleared.state;
     let outcome = cleared.outcome;
     Played {
@@ -124,23 +123,13 @@ fn retune(r: Reverb, mem: &mut [f64], b: &[u8; 128]) -> Played {
     }
 }
 
-fn reset(r: Reverb, mem: &mut [f64]) -> Played {
-    let cleared = r.reset(mem);
-    let state = cleared.state;
-    let outcome = cleared.outcome;
-    Played {
-        state,
-        equal: outcome.number() == 0,
-    }
-}
-
-fn call(r: Reverb, mem: &mut [f64], b: &[u8; 128]) -> Played {
+fn call(r: Reverb, mem: &mut [f64], b: [u8; 128]) -> Played {
     let code = word(b, 0);
     if code == 1 {
-        return retune(r, mem, b);
+        return cleared(r.set_sample_rate(float(b, 6), mem));
     }
     if code == 2 {
-        return reset(r, mem);
+        return cleared(r.reset(mem));
     }
     if code == 3 {
         return look(r, true, b);
@@ -152,7 +141,7 @@ fn call(r: Reverb, mem: &mut [f64], b: &[u8; 128]) -> Played {
 }
 
 // A record, of the reverb.
-pub fn called(r: Reverb, mem: &mut [f64], b: &[u8; 128]) -> Played {
+pub fn called(r: Reverb, mem: &mut [f64], b: [u8; 128]) -> Played {
     let after = call(r, mem, b);
     let state = after.state;
     Played {

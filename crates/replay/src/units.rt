@@ -8,15 +8,14 @@
 // The call is 0 tick, 1 retune (the new rate stands for the mix, the delay's new coefficient for the milliseconds) or 2 reset. A tremolo's record has
 // its own state before the tick; the others are calls of one unit from its start on, which stands before them: 1 delay, 2 chorus, 3 flanger, 4 vibrato
 // or 6 reverb; the rate; the places that the Rust needed; of a delay also the maximum, the glide coefficient, and 1 for linear mode, else 0.
-ghost use Prim.Native.Nat.{_<_};
+ghost use Prim.Native.Nat.{_≤_, _<_};
 use crate::words::float;
-use crate::words::same;
+use crate::words::holds;
 use crate::words::word;
 use chorus::Chorus;
 use delay_line::DelayLine;
 use flanger::Flanger;
 use port::Answer;
-use port::Outcome;
 use port::Port;
 use port::port_if;
 use tremolo::Tremolo;
@@ -37,102 +36,90 @@ pub struct Step {
 }
 
 // The port of the weight 1, 2, 4, .. in the mask, with the number in word i.
-pub fn port(b: &[u8; 128], set: u64, i: usize) -> Port
+pub fn port(b: [u8; 128], set: u64, weight: u64, i: usize) -> Port
+    requires { ⌜ 1 ≤ weight ⌝ }
     requires { ⌜ i < 16 ⌝ }
 {
-    port_if(set % 2 == 1, float(b, i))
+    port_if(set / weight % 2 == 1, float(b, i))
 }
 
-// The delay that an accepted start leaves.
-pub fn started_delay(rate: f64, maximum: f64, coef: f64, linear: bool, mem: &mut [f64]) -> Unit {
-    let started = DelayLine::with_max_delay(rate, maximum, coef, linear, mem);
-    let state = started.state;
-    Unit::Delay(state)
+// The delay that a start leaves.
+pub fn started_delay(rate: f64, maximum: f64, coef: f64, linear: bool, mem: &mut [f64]) -> Step {
+    cleared_delay(DelayLine::with_max_delay(rate, maximum, coef, linear, mem))
 }
 
-// The unit of any other effect that an accepted start leaves.
-pub fn started(effect: u64, rate: f64, mem: &mut [f64]) -> Unit {
+// The unit of any other effect that a start leaves.
+pub fn started(effect: u64, rate: f64, mem: &mut [f64]) -> Step {
     if effect == 2 {
-        let started = Chorus::new(rate, mem);
-        let state = started.state;
-        return Unit::Chorus(state);
+        return cleared_chorus(Chorus::new(rate, mem));
     }
     if effect == 3 {
-        let started = Flanger::new(rate, mem);
-        let state = started.state;
-        return Unit::Flanger(state);
+        return cleared_flanger(Flanger::new(rate, mem));
     }
-    if effect == 4 {
-        let started = Vibrato::new(rate, mem);
-        let state = started.state;
-        return Unit::Vibrato(state);
-    }
-    Unit::Tremolo
+    cleared_vibrato(Vibrato::new(rate, mem))
 }
 
 // Whether the unit after a call is the one stored.
-fn left(unit: Unit, b: &[u8; 128]) -> bool {
+fn left(unit: Unit, b: [u8; 128]) -> bool {
     match unit {
         Unit::Tremolo => true,
-        Unit::Vibrato(v) => (v.write_pos == word(b, 8)) & same(v.lfo_phase, float(b, 9)),
+        Unit::Vibrato(v) => (v.write_pos == word(b, 8)) & holds(b, 9, v.lfo_phase),
         Unit::Chorus(c) => {
             (c.write_pos == word(b, 12))
-                & same(c.lfo_phase0, float(b, 13))
-                & same(c.lfo_phase1, float(b, 14))
-                & same(c.lfo_phase2, float(b, 15))
+                & holds(b, 13, c.lfo_phase0)
+                & holds(b, 14, c.lfo_phase1)
+                & holds(b, 15, c.lfo_phase2)
         }
-        Unit::Flanger(f) => (f.write_pos == word(b, 12)) & same(f.lfo_phase, float(b, 13)),
+        Unit::Flanger(f) => (f.write_pos == word(b, 12)) & holds(b, 13, f.lfo_phase),
         Unit::Delay(d) => {
             (d.write_pos == word(b, 8))
-                & same(d.smoothed_delay, float(b, 9))
+                & holds(b, 9, d.smoothed_delay)
                 & (d.delay_primed == (word(b, 10) == 1))
         }
     }
 }
 
 // Whether a tick was accepted with the samples stored from word i on.
-pub fn one_sample(answer: Answer, b: &[u8; 128], i: usize) -> bool
+pub fn one_sample(answer: Answer, b: [u8; 128], i: usize) -> bool
     requires { ⌜ i < 16 ⌝ }
 {
-    (answer.number() == 0) & same(answer.first(), float(b, i))
+    (answer.number() == 0) & holds(b, i, answer.first())
 }
 
-fn three_samples(answer: Answer, b: &[u8; 128], i: usize) -> bool
+fn three_samples(answer: Answer, b: [u8; 128], i: usize) -> bool
     requires { ⌜ i < 14 ⌝ }
 {
-    one_sample(answer, b, i)
-        & same(answer.second(), float(b, i + 1))
-        & same(answer.third(), float(b, i + 2))
+    one_sample(answer, b, i) & holds(b, i + 1, answer.second()) & holds(b, i + 2, answer.third())
 }
 
 // Whether a tremolo's tick gives the stored phase and sample.
-fn tick_tremolo(b: &[u8; 128]) -> Step {
+fn tick_tremolo(b: [u8; 128]) -> Step {
     let state = Tremolo {
         lfo_phase: float(b, 1),
         sample_rate: float(b, 2),
     };
     let set = word(b, 3);
     let ticked = state.tick(
-        port(b, set, 4),
-        port(b, set / 2, 5),
-        port(b, set / 4, 6),
+        port(b, set, 1, 4),
+        port(b, set, 2, 5),
+        port(b, set, 4, 6),
         float(b, 7),
         float(b, 8),
     );
     let answer = ticked.answer;
     Step {
         unit: Unit::Tremolo,
-        equal: one_sample(answer, b, 10) & same(ticked.state.lfo_phase, float(b, 9)),
+        equal: one_sample(answer, b, 10) & holds(b, 9, ticked.state.lfo_phase),
     }
 }
 
-fn tick_vibrato(state: Vibrato, mem: &mut [f64], b: &[u8; 128]) -> Step {
+fn tick_vibrato(state: Vibrato, mem: &mut [f64], b: [u8; 128]) -> Step {
     let set = word(b, 1);
     let ticked = state.tick(
         mem,
-        port(b, set, 2),
-        port(b, set / 2, 3),
-        port(b, set / 4, 4),
+        port(b, set, 1, 2),
+        port(b, set, 2, 3),
+        port(b, set, 4, 4),
         float(b, 5),
         float(b, 6),
     );
@@ -144,13 +131,13 @@ fn tick_vibrato(state: Vibrato, mem: &mut [f64], b: &[u8; 128]) -> Step {
     }
 }
 
-fn tick_chorus(state: Chorus, mem: &mut [f64], b: &[u8; 128]) -> Step {
+fn tick_chorus(state: Chorus, mem: &mut [f64], b: [u8; 128]) -> Step {
     let set = word(b, 1);
     let ticked = state.tick(
         mem,
-        port(b, set, 2),
-        port(b, set / 2, 3),
-        port(b, set / 4, 4),
+        port(b, set, 1, 2),
+        port(b, set, 2, 3),
+        port(b, set, 4, 4),
         float(b, 5),
         float(b, 6),
         float(b, 7),
@@ -164,14 +151,14 @@ fn tick_chorus(state: Chorus, mem: &mut [f64], b: &[u8; 128]) -> Step {
     }
 }
 
-fn tick_flanger(state: Flanger, mem: &mut [f64], b: &[u8; 128]) -> Step {
+fn tick_flanger(state: Flanger, mem: &mut [f64], b: [u8; 128]) -> Step {
     let set = word(b, 1);
     let ticked = state.tick(
         mem,
-        port(b, set, 2),
-        port(b, set / 2, 3),
-        port(b, set / 4, 4),
-        port(b, set / 8, 5),
+        port(b, set, 1, 2),
+        port(b, set, 2, 3),
+        port(b, set, 4, 4),
+        port(b, set, 8, 5),
         float(b, 6),
         float(b, 7),
         float(b, 8),
@@ -184,14 +171,14 @@ fn tick_flanger(state: Flanger, mem: &mut [f64], b: &[u8; 128]) -> Step {
     }
 }
 
-fn tick_delay(state: DelayLine, mem: &mut [f64], b: &[u8; 128]) -> Step {
+fn tick_delay(state: DelayLine, mem: &mut [f64], b: [u8; 128]) -> Step {
     let set = word(b, 1);
     let ticked = state.tick(
         mem,
-        port(b, set, 2),
-        port(b, set / 2, 3),
-        port(b, set / 4, 4),
-        port(b, set / 8, 5),
+        port(b, set, 1, 2),
+        port(b, set, 2, 3),
+        port(b, set, 4, 4),
+        port(b, set, 8, 5),
         float(b, 6),
     );
     let next = ticked.state;
@@ -202,7 +189,7 @@ fn tick_delay(state: DelayLine, mem: &mut [f64], b: &[u8; 128]) -> Step {
     }
 }
 
-fn tick(unit: Unit, mem: &mut [f64], b: &[u8; 128]) -> Step {
+fn tick(unit: Unit, mem: &mut [f64], b: [u8; 128]) -> Step {
     match unit {
         Unit::Tremolo => tick_tremolo(b),
         Unit::Vibrato(v) => tick_vibrato(v, mem, b),
@@ -212,75 +199,64 @@ fn tick(unit: Unit, mem: &mut [f64], b: &[u8; 128]) -> Step {
     }
 }
 
-// A clearing is equal where it is accepted.
-fn cleared(unit: Unit, outcome: Outcome) -> Step {
+// What a start, a retune or a reset leaves; it is equal where it is accepted.
+fn cleared_vibrato(cleared: vibrato::Cleared) -> Step {
+    let next = cleared.state;
+    let outcome = cleared.outcome;
     Step {
-        unit,
+        unit: Unit::Vibrato(next),
         equal: outcome.number() == 0,
     }
 }
 
-fn retune(unit: Unit, mem: &mut [f64], b: &[u8; 128]) -> Step {
+fn cleared_chorus(cleared: chorus::Cleared) -> Step {
+    let next = cleared.state;
+    let outcome = cleared.outcome;
+    Step {
+        unit: Unit::Chorus(next),
+        equal: outcome.number() == 0,
+    }
+}
+
+fn cleared_flanger(cleared: flanger::Cleared) -> Step {
+    let next = cleared.state;
+    let outcome = cleared.outcome;
+    Step {
+        unit: Unit::Flanger(next),
+        equal: outcome.number() == 0,
+    }
+}
+
+fn cleared_delay(cleared: delay_line::Cleared) -> Step {
+    let next = cleared.state;
+    let outcome = cleared.outcome;
+    Step {
+        unit: Unit::Delay(next),
+        equal: outcome.number() == 0,
+    }
+}
+
+fn retune(unit: Unit, mem: &mut [f64], b: [u8; 128]) -> Step {
     match unit {
         Unit::Tremolo => Step { unit, equal: false },
-        Unit::Vibrato(v) => {
-            let r = v.set_sample_rate(float(b, 4), mem);
-            let next = r.state;
-            let outcome = r.outcome;
-            cleared(Unit::Vibrato(next), outcome)
-        }
-        Unit::Chorus(c) => {
-            let r = c.set_sample_rate(float(b, 4), mem);
-            let next = r.state;
-            let outcome = r.outcome;
-            cleared(Unit::Chorus(next), outcome)
-        }
-        Unit::Flanger(f) => {
-            let r = f.set_sample_rate(float(b, 5), mem);
-            let next = r.state;
-            let outcome = r.outcome;
-            cleared(Unit::Flanger(next), outcome)
-        }
-        Unit::Delay(d) => {
-            let r = d.set_sample_rate(float(b, 5), float(b, 6), mem);
-            let next = r.state;
-            let outcome = r.outcome;
-            cleared(Unit::Delay(next), outcome)
-        }
+        Unit::Vibrato(v) => cleared_vibrato(v.set_sample_rate(float(b, 4), mem)),
+        Unit::Chorus(c) => cleared_chorus(c.set_sample_rate(float(b, 4), mem)),
+        Unit::Flanger(f) => cleared_flanger(f.set_sample_rate(float(b, 5), mem)),
+        Unit::Delay(d) => cleared_delay(d.set_sample_rate(float(b, 5), float(b, 6), mem)),
     }
 }
 
 fn reset(unit: Unit, mem: &mut [f64]) -> Step {
     match unit {
         Unit::Tremolo => Step { unit, equal: false },
-        Unit::Vibrato(v) => {
-            let r = v.reset(mem);
-            let next = r.state;
-            let outcome = r.outcome;
-            cleared(Unit::Vibrato(next), outcome)
-        }
-        Unit::Chorus(c) => {
-            let r = c.reset(mem);
-            let next = r.state;
-            let outcome = r.outcome;
-            cleared(Unit::Chorus(next), outcome)
-        }
-        Unit::Flanger(f) => {
-            let r = f.reset(mem);
-            let next = r.state;
-            let outcome = r.outcome;
-            cleared(Unit::Flanger(next), outcome)
-        }
-        Unit::Delay(d) => {
-            let r = d.reset(mem);
-            let next = r.state;
-            let outcome = r.outcome;
-            cleared(Unit::Delay(next), outcome)
-        }
+        Unit::Vibrato(v) => cleared_vibrato(v.reset(mem)),
+        Unit::Chorus(c) => cleared_chorus(c.reset(mem)),
+        Unit::Flanger(f) => cleared_flanger(f.reset(mem)),
+        Unit::Delay(d) => cleared_delay(d.reset(mem)),
     }
 }
 
-fn call(unit: Unit, mem: &mut [f64], b: &[u8; 128]) -> Step {
+fn call(unit: Unit, mem: &mut [f64], b: [u8; 128]) -> Step {
     let code = word(b, 0);
     if code == 1 {
         return retune(unit, mem, b);
@@ -292,7 +268,7 @@ fn call(unit: Unit, mem: &mut [f64], b: &[u8; 128]) -> Step {
 }
 
 // A record's call, of the unit.
-pub fn called(unit: Unit, mem: &mut [f64], b: &[u8; 128]) -> Step {
+pub fn called(unit: Unit, mem: &mut [f64], b: [u8; 128]) -> Step {
     let step = call(unit, mem, b);
     let after = step.unit;
     Step {

@@ -20,21 +20,19 @@ fn half_word(b: &[u8], at: usize) -> u64
     wide(b[at]) + 256 * wide(b[at + 1]) + 65536 * wide(b[at + 2]) + 16777216 * wide(b[at + 3])
 }
 
-// The word number i of a record.
-pub fn word(b: &[u8], i: usize) -> u64
+// The word number i of a record. A record is handed on by value: of a loan the proof of each caller would follow the end too.
+pub fn word(b: [u8; 128], i: usize) -> u64
     requires { ⌜ i < 16 ⌝ }
-    requires { ⌜ i * 8 + 8 ≤ length (now b) ⌝ }
-    ensures { λ r. ⌜ r ≡ wordOf (now (b .entry)) i ⌝ }
+    ensures { λ r. ⌜ r ≡ wordOf b i ⌝ }
 {
     let at = i * 8;
-    half_word(b, at) + 4294967296 * half_word(b, at + 4)
+    half_word(&b, at) + 4294967296 * half_word(&b, at + 4)
 }
 
 // The float of a word: a NaN for every NaN pattern.
-pub fn float(b: &[u8], i: usize) -> f64
+pub fn float(b: [u8; 128], i: usize) -> f64
     requires { ⌜ i < 16 ⌝ }
-    requires { ⌜ i * 8 + 8 ≤ length (now b) ⌝ }
-    ensures { λ r. ⌜ r ≡ floatOf (now (b .entry)) i ⌝ }
+    ensures { λ r. ⌜ r ≡ floatOf b i ⌝ }
 {
     let bits = word(b, i);
     if bits % 9223372036854775808 > 9218868437227405312 {
@@ -54,6 +52,14 @@ pub fn same(x: f64, y: f64) -> bool
         return false;
     }
     f64::to_bits(x) == f64::to_bits(y)
+}
+
+// Whether word i is that float.
+pub fn holds(b: [u8; 128], i: usize, x: f64) -> bool
+    requires { ⌜ i < 16 ⌝ }
+    ensures { λ r. ⌜ Decides r x (floatOf b i) ⌝ }
+{
+    same(x, float(b, i))
 }
 
 // How many calls were replayed, and how many of them differ.

@@ -33,7 +33,7 @@ counted-requires : tie.Need-counted-requires Inv-loop μ-loop
 counted-requires c κs = search needs
 
 -- one call more
-one-more : (c : tie.After-counted Inv-loop μ-loop) → c .counted .result .calls ≡ c .before .before .before .before .before .before .before .before .before .before .before .before .loop .tally .calls + 1
+one-more : (c : tie.After-counted Inv-loop μ-loop) → c .counted .result .calls ≡ c .before .before .before .before .before .before .before .before .before .before .before .loop .tally .calls + 1
 one-more c = ap (λ (t : Tally). t .calls) (c .counted .ensures .0)
 
 loop-less : tie.Need-loop-less Inv-loop μ-loop
