@@ -34,7 +34,7 @@ module _ (c : tie.After-tick) where
       let a = start .args in
       let state = c .before .before .before .before .before .chorus-of in
       of-state chorus (tick (handed start)) (state .ensures)
-      (of-tick chorus (state .result)
+      (of-tick chorus (state .result) {t₀ = handed start}
       (λ i. ticked (c .before .before .before .port-at .ensures i) (c .before .before .port-at2 .ensures i) (c .before .port-at3 .ensures i) (a .frequency) (a .sine0) (a .sine1) (a .sine2))
       (c .tick .ensures))
 

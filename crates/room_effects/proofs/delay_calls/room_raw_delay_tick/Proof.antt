@@ -32,7 +32,7 @@ module _ (c : tie.After-tick) where
 
   does : Does delayLine (tick (handed start)) (unit start .state) (unit start .memory) (c .tick .result .state) (c .tick .last .1 .0) (answerReply (c .tick .result .answer))
   does =
-      of-tick delayLine (unit start .state)
+      of-tick delayLine (unit start .state) {t₀ = handed start}
       (λ i. ticked (c .before .before .before .before .port-at .ensures i) (c .before .before .before .port-at2 .ensures i) (c .before .before .port-at3 .ensures i) (c .before .port-at4 .ensures i) (start .args .milliseconds))
       (c .tick .ensures)
 

@@ -32,7 +32,7 @@ module _ (c : tie.After-tick) where
   does : Does flanger (tick (handed start)) (unit start .state) (unit start .memory) (c .tick .result .state) (c .tick .last .1 .0) (answerReply (c .tick .result .answer))
   does =
       let a = start .args in
-      of-tick flanger (unit start .state)
+      of-tick flanger (unit start .state) {t₀ = handed start}
       (λ i. ticked (c .before .before .before .before .port-at .ensures i) (c .before .before .before .port-at2 .ensures i) (c .before .before .port-at3 .ensures i) (c .before .port-at4 .ensures i) (a .frequency) (a .sine0) (a .sine1))
       (c .tick .ensures)
 

@@ -2,7 +2,9 @@
 use mathlib.Core.Path.{refl}
 use mathlib.Core.List.{[], _∷_}
 use borrow.Author.Needs.{needs}
+use Rattle.port.specs.Answer.{answerReply}
 use Rattle.effect.specs.Run.{Device, tick}
+use Rattle.effect.specs.Contract.{Does}
 use Rattle.reverb.specs.declared.Reverb.{Reverb}
 use Rattle.reverb.specs.Reverb.{Tick, reverb, ticked}
 use Rattle.room_effects.specs.Ports.{portAt}
@@ -22,6 +24,23 @@ abbrev unit : tie.Start → Device Reverb
 unit s =
     let a = s .args in
     reverbUnit (a .comb-pos-l .now) (a .comb-pos-r .now) (a .stores-l .now) (a .stores-r .now) (a .allpass-pos-l .now) (a .allpass-pos-r .now) (a .predelay-pos .now) (a .rate) (a .memory .now)
+
+-- the inner tick, with the ports as the mask has them
+module _ (c : tie.After-tick-in-place) where
+  abbrev start : tie.Start
+  start = c .before .before .before .before .before .before .before .before .before .before .before .before .before .before .before
+
+  -- the reverb that it leaves
+  abbrev left : Device Reverb
+  left =
+      let l = c .tick-in-place .last in
+      reverbUnit (l .0) (l .1 .0) (l .1 .1 .0) (l .1 .1 .1 .0) (l .1 .1 .1 .1 .0) (l .1 .1 .1 .1 .1 .0) (l .1 .1 .1 .1 .1 .1 .0) (start .args .rate) (l .1 .1 .1 .1 .1 .1 .1 .1 .0)
+
+  does : Does reverb (tick (handed start)) (unit start .state) (unit start .memory) (left .state) (left .memory) (answerReply (c .tick-in-place .result))
+  does =
+      of-tick reverb (unit start .state) {t₀ = handed start}
+      (λ i. ticked (c .before .before .before .before .before .port-at .ensures i) (c .before .before .before .before .port-at2 .ensures i) (c .before .before .before .port-at3 .ensures i) (c .before .before .port-at4 .ensures i) (c .before .port-at5 .ensures i))
+      (c .tick-in-place .ensures)
 
 port-at-requires : tie.Need-port-at-requires
 port-at-requires c κs = search needs
@@ -57,13 +76,8 @@ returns : tie.Need-returns
 returns c =
     let second = c .before .before in
     let inner = second .before .before .before .before in
-    let s = inner .before .before .before .before .before .before .before .before .before .before .before .before .before .before .before in
-    let does =
-    of-tick reverb (unit s .state)
-    (λ i. ticked (inner .before .before .before .before .before .port-at .ensures i) (inner .before .before .before .before .port-at2 .ensures i) (inner .before .before .before .port-at3 .ensures i) (inner .before .before .port-at4 .ensures i) (inner .before .port-at5 .ensures i))
-    (inner .tick-in-place .ensures)
-    in
-    played reverb 2 does (stored reverb (tick (handed s)) (unit s) does (c .number .ensures) refl) (λ i. second .before .first .ensures i ∷ second .second .ensures i ∷ [])
+    let s = start inner in
+    played reverb 2 (does inner) (stored reverb (tick (handed s)) (unit s) (does inner) (c .number .ensures) {s = left inner .state} refl) (λ i. second .before .first .ensures i ∷ second .second .ensures i ∷ [])
 
 pub room-raw-reverb-tick-spec : {M : Type 1} → statement M
 room-raw-reverb-tick-spec =

@@ -33,7 +33,7 @@ module _ (c : tie.After-tick) where
   does : Does tremolo (tick (handed start)) (unit start .state) (unit start .memory) (c .tick .result .state) [] (answerReply (c .tick .result .answer))
   does =
       let a = start .args in
-      of-tick tremolo (unit start .state)
+      of-tick tremolo (unit start .state) {t₀ = handed start}
       (λ i. ticked (c .before .before .before .port-at .ensures i) (c .before .before .port-at2 .ensures i) (c .before .port-at3 .ensures i) (a .frequency) (a .sine))
       (c .tick .ensures)
 
