@@ -12,12 +12,10 @@ use Rattle.float64.proofs.Parts.{parts-of}
 use Rattle.common.specs.Line.{newestFirst, readLine}
 use Rattle.common.proofs.Sweep.{control-in}
 use Rattle.effect.specs.Run.{Run}
-use Rattle.effect.specs.Demand3.{Demand3, inForce}
-use Rattle.effect.specs.Covers.{Covers}
+use Rattle.effect.specs.Demand3.{Demand3}
 use Rattle.effect.proofs.LineLaws.{LineLaws}
 use Rattle.effect.proofs.Lines.{read-of}
 use Rattle.effect.proofs.Demand3.{demand-3}
-use Rattle.effect.proofs.Covers.{covers}
 use Rattle.chorus.specs.declared.Chorus.{Chorus}
 use Rattle.chorus.specs.Chorus.{Tick, chorus, lines, fits, lineLength, tickNumber, depth, input, mix, distance, voice, mixed, samples, nextPhases, next, writes}
 use Rattle.chorus.proofs.Laws.{fits-parts, length-fits, tick-fits, distance-in}
@@ -72,9 +70,5 @@ line-laws =
 
 -- ---- the demand
 
-pub shown3 : (x y : Run chorus) → inForce chorus x ≡ inForce chorus y → Demand3 chorus lines x y
+pub shown3 : (x y : Run chorus) → Demand3 chorus lines x y
 shown3 = demand-3 chorus lines laws line-laws
-
--- the later calls that it speaks of leave out none that document 01 allows
-pub covered : Covers chorus
-covered = covers chorus laws

@@ -14,12 +14,10 @@ use Rattle.common.specs.Line.{newestFirst, readLine}
 use Rattle.common.proofs.Sweep.{control-in}
 use Rattle.float64.proofs.Parts.{parts-of}
 use Rattle.effect.specs.Run.{Run}
-use Rattle.effect.specs.Demand3.{Demand3, inForce}
-use Rattle.effect.specs.Covers.{Covers}
+use Rattle.effect.specs.Demand3.{Demand3}
 use Rattle.effect.proofs.LineLaws.{LineLaws}
 use Rattle.effect.proofs.Lines.{read-of}
 use Rattle.effect.proofs.Demand3.{demand-3}
-use Rattle.effect.proofs.Covers.{covers}
 use Rattle.vibrato.specs.declared.Vibrato.{Vibrato}
 use Rattle.vibrato.specs.Vibrato.{Tick, vibrato, lines, fits, lineLength, tickNumber, input, depth, mix, distance, delayed, next, writes, sample}
 use Rattle.vibrato.proofs.Laws.{fits-parts, length-fits, tick-fits, distance-in}
@@ -57,8 +55,5 @@ line-laws =
       plays = λ t s m l f r n e. ap (λ (x : Float). x ∷ []) (plays t s m l f n (e 0 (omega arith)));
     }
 
-pub shown3 : (x y : Run vibrato) → inForce vibrato x ≡ inForce vibrato y → Demand3 vibrato lines x y
+pub shown3 : (x y : Run vibrato) → Demand3 vibrato lines x y
 shown3 = demand-3 vibrato lines laws line-laws
-
-pub covered : Covers vibrato
-covered = covers vibrato laws
