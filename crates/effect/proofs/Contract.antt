@@ -10,7 +10,7 @@ use lib.Ieee.{Float}
 use Rattle.port.specs.Answer.{Reply, done, refused}
 use Rattle.common.specs.Line.{zeros}
 use Rattle.effect.specs.Effect.{Effect}
-use Rattle.effect.specs.Run.{tick, retune, reset, ask, CallOf, Device, memoryNumber, startNumber, numberFor, numberIn, moved, says}
+use Rattle.effect.specs.Run.{tick, reset, ask, CallOf, Device, memoryNumber, startNumber, numberFor, numberIn, moved, says}
 use Rattle.effect.specs.Contract.{Does, Starts}
 use Rattle.effect.proofs.Table.{ifNone-some, first-some}
 
@@ -70,16 +70,6 @@ module _ (E : Effect) (n : ℕ) (s : E .State) where
   -- without it the rest of the call's row decides
   pub state-passed : (c : CallOf E) {k : ℕ} → E .fits s ≡ true → k ≡ numberFor E c n (E .settings s) → k ≡ numberIn E c n s
   state-passed c f e = rw f e
-
-  -- retune 1, 2, 3
-  pub retune-settings : (r : E .Retune) {k : ℕ} → E .fits s ≡ true → k ≡ E .settingsNumber (E .retuneSettings r (E .settings s)) → k ≢ 0
-      → k ≡ numberIn E (retune r) n s
-  retune-settings r {k} f e some = rw (f, ← e) (sym (first-some k (memoryNumber (E .places (E .retuneSettings r (E .settings s))) n) some))
-
-  pub retune-memory : (r : E .Retune) {k : ℕ} → E .fits s ≡ true → 0 ≡ E .settingsNumber (E .retuneSettings r (E .settings s))
-      → k ≡ memoryNumber (E .places (E .retuneSettings r (E .settings s))) n
-      → k ≡ numberIn E (retune r) n s
-  retune-memory r f z e = rw (f, ← z) e
 
   -- reset and silent 3
   pub reset-memory : {k : ℕ} → E .fits s ≡ true → k ≡ memoryNumber (E .places (E .settings s)) n → k ≡ numberIn E reset n s

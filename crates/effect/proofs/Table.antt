@@ -1,11 +1,11 @@
 -- The table's numbers: what stands behind a 0. Assumes nothing.
-use Prim.Native.Nat.{ℕ, zero, suc, _≤_, _<_}
+use Prim.Native.Nat.{ℕ, zero, suc, _≤_}
 use native.Mathlib.Omega.{arith}
 use mathlib.Core.Path.{_≡_, refl}
 use mathlib.Core.Logic.{_≢_}
 use mathlib.Core.Bool.{Bool, true, false, cond}
 use lib.Dec.{ltb}
-use borrow.Author.Tests.{ltb-false, lt-ltb, le-ltb}
+use borrow.Author.Tests.{ltb-false, le-ltb}
 use Rattle.effect.specs.Effect.{Effect}
 use Rattle.effect.specs.Run.{tick, CallOf, ifNone, first, memoryNumber, numberFor, numberIn}
 
@@ -45,9 +45,6 @@ none-5-6 false true e = refl
 none-5-6 false false e = absurd (omega arith)
 
 -- ---- cause 3
-
-pub memory-short : {needed n : ℕ} → n < needed → _≡_ {A = ℕ} 3 (memoryNumber needed n)
-memory-short {needed} {n} h = rw (lt-ltb n needed h)
 
 pub memory-enough : {needed n : ℕ} → needed ≤ n → _≡_ {A = ℕ} 0 (memoryNumber needed n)
 memory-enough {needed} {n} h = rw (le-ltb n needed h)
