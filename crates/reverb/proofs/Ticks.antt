@@ -22,7 +22,7 @@ use Rattle.effect.proofs.Contract.{accepts}
 use Rattle.reverb.specs.declared.Reverb.{Reverb}
 use Rattle.reverb.specs.Freeverb.{combStore, combFed, passOutput, passFed}
 use Rattle.reverb.specs.Tunings.{Side, left, right}
-use Rattle.reverb.specs.Reverb.{Tick, ticked, reverb, combState, allpassState, predelayStart, combStores, input, feedback, damping, mix, delaySamples, delayed, predelayed, combPlace, combHeld, sumOf, combStored, combWrite, combMoved, allpassPlace, allpassHeld, passedOn, sided, allpassWrite, allpassMoved, summed, wet, bySides, writes}
+use Rattle.reverb.specs.Reverb.{Tick, ticked, reverb, stateOf, combState, allpassState, predelayStart, combStores, input, feedback, damping, mix, delaySamples, delayed, predelayed, combPlace, combHeld, sumOf, combStored, combWrite, combMoved, allpassPlace, allpassHeld, passedOn, sided, allpassWrite, allpassMoved, summed, wet, bySides, writes}
 use Rattle.reverb.specs.Reverb as page
 use Rattle.reverb.proofs.Laws.{Fits}
 use Rattle.reverb.proofs.Tank.{comb-place, allpass-place, by-sides-elsewhere}
@@ -57,6 +57,16 @@ module _ (s : Reverb) (m : List Float) where
   unfolding combHeld combStored
   stored-part left d i = refl
   stored-part right d i = refl
+
+  pub combs-moved : (side : Side) → table (combMoved side (onlyCombs s)) 8 ≡ table (combMoved side s) 8
+  unfolding combMoved
+  combs-moved left = refl
+  combs-moved right = refl
+
+  pub allpasses-moved : (side : Side) → table (allpassMoved side (onlyAllpasses s)) 4 ≡ table (allpassMoved side s) 4
+  unfolding allpassMoved
+  allpasses-moved left = refl
+  allpasses-moved right = refl
 
   comb-part : (x d f : Float) (i : ℕ) (side : Side) → combWrite x d f (onlyCombs s) m i side ≡ combWrite x d f s m i side
   unfolding combHeld combStored combWrite
@@ -168,6 +178,27 @@ module _ (t : Tick) (s : Reverb) (m : List Float) (f : Fits s) where
         ∙ ap (λ (ws : List Write). laid ws m2)
         (by-sides-ext (allpassWrite (summed s m) s m2) (allpassWrite (summed s m) s m) 4 (λ i h side. same-allpass s m m2 (summed s m) i side (λ k l. allpass-held side k (omega arith))))
         ∙ sym (laid-append combWrites (bySides (allpassWrite (summed s m) s m) 4) m1)
+
+  -- ---- the whole tick, from what its steps leave and answer
+
+  module _ (number : numberIn reverb (tick t) (length m) s ≡ 0) where
+    pub does : {wl wr : List ℕ} {sl sr : List Float} {vl vr : List ℕ} {p : ℕ} {m' : List Float} {l r : Float} → wl ≡ table (combMoved left s) 8
+        → wr ≡ table (combMoved right s) 8
+        → sl ≡ table (combStored left (damping t) s m) 8
+        → sr ≡ table (combStored right (damping t) s m) 8
+        → vl ≡ table (allpassMoved left s) 4
+        → vr ≡ table (allpassMoved right s) 4
+        → p ≡ nextPlace 9600 (s .«predelay_pos»)
+        → m' ≡ laid (writes t s m) m
+        → l ≡ blended (input t) (wet left s m) (mix t)
+        → r ≡ blended (input t) (wet right s m) (mix t)
+        → Does reverb (tick t) s m (stateOf wl wr sl sr vl vr p (s .«sample_rate»)) m' (played (l ∷ r ∷ []))
+    unfolding page.next page.samples
+    does wl wr sl sr vl vr p memory l r =
+        accepts reverb (tick t) s m number
+        (λ i. stateOf (wl i) (wr i) (sl i) (sr i) (vl i) (vr i) (p i) (s .«sample_rate»))
+        memory
+        (λ i. played (l i ∷ r i ∷ []))
 
 -- ---- ports: a tick is the one with all ports set to the values that it takes from them
 

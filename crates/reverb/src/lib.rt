@@ -765,6 +765,18 @@ impl Reverb {
         line[back]
     }
 
+    // The predelay whose part of the tank starts at place o.
+    fn predelay_at(mem: &mut [f64], o: usize, pos: u64, samples: u64, input: f64) -> f64
+        requires { ⌜ pos < 9600 ⌝ }
+        requires { ⌜ samples < 9600 ⌝ }
+        requires { ⌜ o + 9600 ≤ ListN.length (now mem) ⌝ }
+        ensures { λ r. ⌜ r ≡ delayed o pos samples input (now (mem .entry)) ⌝ }
+        ensures { λ _. ⌜ now (mem .exit) ≡ ListN.set (now (mem .entry)) (o + pos) input ⌝ }
+    {
+        let e = o + Reverb::MAX_PREDELAY_SIZE;
+        Reverb::process_predelay(&mut mem[o..e], pos, samples, input)
+    }
+
     // An accepted tick with all its ports set. The predelay writes before it reads, every other line reads first.
     fn advance(
         comb_pos_l: &mut [u64; 8],
@@ -794,9 +806,7 @@ impl Reverb {
         let control = float64::clamp(predelay, 0.0, 1.0);
         let samples = Reverb::predelay_samples(control, rate);
         let w = *predelay_pos;
-        let o = Reverb::PREDELAY;
-        let e = Reverb::END;
-        let delayed = Reverb::process_predelay(&mut mem[o..e], w, samples, input);
+        let delayed = Reverb::predelay_at(mem, Reverb::PREDELAY, w, samples, input);
         *predelay_pos = common::next_place(9600, w);
         let sums = Reverb::combs(
             comb_pos_l,

@@ -1,29 +1,25 @@
 -- `Reverb::advance` is an accepted tick with all its ports set: the predelay writes and reads, then the combs step, then the all-passes. Assumes nothing.
 use Prim.Native.Nat.{_+_}
-use native.Mathlib.Omega.{arith}
 use mathlib.Core.Path.{_≡_, refl, ap, _∙_}
-use mathlib.Core.List.{List, [], _∷_}
+use mathlib.Core.List.{List}
 use lib.ListN.{length, set, length-set}
 use lib.Ieee.{Float, binary64, add, mul, isNan, ofBits, ofInt, round}
 use lib.Ieee as Ieee
-use borrow.Rule.Slice.PartMut.{putMid}
 use Rattle.float64.specs.Number.{plusZero, isNumber}
 use Rattle.port.specs.declared.Port.the-variants.{Set}
-use Rattle.port.specs.Answer.{played}
 use Rattle.common.specs.Signal.{blended}
-use Rattle.common.proofs.Sweep.{control-in, part-length}
-use Rattle.common.proofs.Slices.{part-set}
+use Rattle.common.specs.Line.{table}
+use Rattle.common.proofs.Sweep.{control-in}
+use Rattle.effect.specs.Effect.{laid}
 use Rattle.effect.specs.Run.{tick}
 use Rattle.effect.proofs.Table.{Accepted, accepted, TickAccepted, tick-accepted}
-use Rattle.effect.proofs.Contract.{accepts}
 use Rattle.reverb.specs.Tunings.{left, right}
 use Rattle.reverb.specs.declared.Reverb.{Reverb}
-use Rattle.reverb.specs.Reverb.{Tick, ticked, reverb, stateOf, combMoved, allpassMoved, input, feedback, damping, predelayed, delayed, summed}
+use Rattle.reverb.specs.Reverb.{Tick, ticked, reverb, stateOf, input, feedback, damping, predelayed, delayed, combStored, summed, wet, writes}
 use Rattle.reverb.specs.Reverb as page
 use Rattle.reverb.proofs.Laws.{Fits, fits-parts, predelay-number}
-use Rattle.reverb.proofs.Predelay.{delay-less, delayed-part}
-use Rattle.reverb.proofs.Ticks.{m1, m2, stores-are, sum-is, combs-are-stored, wet-is, written}
-use borrow.Author.Needs.{needs}
+use Rattle.reverb.proofs.Predelay.{delay-less}
+use Rattle.reverb.proofs.Ticks.{m1, m2, combs-moved, allpasses-moved, stores-are, sum-is, combs-are-stored, wet-is, written, does}
 use Rattle.reverb.proofs.Reverb.advance.Statement.{statement}
 use Rattle.reverb.proofs.Reverb.advance.Tie as tie
 
@@ -68,54 +64,37 @@ clamp-requires-4 c κs = tt
 predelay-samples-requires : tie.Need-predelay-samples-requires
 predelay-samples-requires c κs = tt
 
-mul-process-predelay : tie.Need-mul-process-predelay
-mul-process-predelay c = search needs
-
-sub-process-predelay : tie.Need-sub-process-predelay
-sub-process-predelay c = search needs
-
-part-process-predelay-start : tie.Need-part-process-predelay-start
-part-process-predelay-start c = search needs
-
-part-process-predelay-end : tie.Need-part-process-predelay-end
-part-process-predelay-end c = omega (arith, row (c .before .before .before .before .before .before .before .before .before .before) .enough)
-
-process-predelay-requires : tie.Need-process-predelay-requires
+predelay-at-requires : tie.Need-predelay-at-requires
 unfolding isNumber Ieee.fits isNan round ofBits ofInt
-process-predelay-requires c κs =
+predelay-at-requires c κs =
     let s = c .before .before .before .before .before .before .before .before .before .before .before in
     let a = s .args in
     let some = predelay-number (handed s) (row s .number) in (
-      part-length 9600 77536 9600 (a .mem .now) refl (row s .enough),
+      unit s .predelay,
       (
-        unit s .predelay,
         rw (c .before .before .predelay-samples .ensures, c .before .before .before .clamp4 .ensures) (delay-less _ (a .rate) (control-in (Set (a .predelay)) plusZero some refl) (unit s .rate)),
+        row s .enough,
       ),
     )
 
 -- what the predelay leaves and passes on
-module _ (c : tie.After-process-predelay) where
+module _ (c : tie.After-predelay-at) where
   abbrev start : tie.Start
   start = c .before .before .before .before .before .before .before .before .before .before .before .before
 
-  first-is : putMid 77536 9600 (start .args .mem .now) (c .process-predelay .last .0) ≡ m1 (handed start) (self start) (start .args .mem .now) (unit start)
+  first-is : c .predelay-at .last .0 ≡ m1 (handed start) (self start) (start .args .mem .now) (unit start)
   first-is =
       let a = start .args in
-      let w = a .predelay-pos .now in
-      let m = a .mem .now in
-      ap (λ (l : List Float). putMid 77536 9600 m l) (c .process-predelay .ensures .1)
-      ∙ part-set 77536 9600 m w _ (unit start .predelay) (row start .enough)
-      ∙ ap (λ (x : Float). set m (77536 + w) x) (c .before .before .before .before .before .before .before .before .sanitize-audio .ensures)
+      c .predelay-at .ensures .1
+      ∙ ap (λ (x : Float). set (a .mem .now) (77536 + a .predelay-pos .now) x) (c .before .before .before .before .before .before .before .before .sanitize-audio .ensures)
 
-  into-is : c .process-predelay .result ≡ predelayed (handed start) (self start) (start .args .mem .now)
+  into-is : c .predelay-at .result ≡ predelayed (handed start) (self start) (start .args .mem .now)
   unfolding ofBits ofInt
   into-is =
       let a = start .args in
-      let w = a .predelay-pos .now in
-      let m = a .mem .now in
-      c .process-predelay .ensures .0
-      ∙ delayed-part 77536 w _ m _ 9600 refl (unit start .predelay)
-      ∙ (λ i. delayed 77536 w ((c .before .before .before .predelay-samples .ensures ∙ ap (λ (x : Float). page.delaySamples x (a .rate)) (c .before .before .before .before .clamp4 .ensures)) i) (c .before .before .before .before .before .before .before .before .sanitize-audio .ensures i) m)
+      let samples = c .before .before .before .predelay-samples .ensures ∙ ap (λ (x : Float). page.delaySamples x (a .rate)) (c .before .before .before .before .clamp4 .ensures) in
+      let audio = c .before .before .before .before .before .before .before .before .sanitize-audio .ensures in
+      c .predelay-at .ensures .0 ∙ (λ i. delayed 77536 (a .predelay-pos .now) (samples i) (audio i) (a .mem .now))
 
   damped-is : mul binary64 (c .before .before .before .before .before .before .clamp2 .result) (ofBits binary64 4600877379321698714) ≡ damping (handed start)
   unfolding ofBits ofInt round
@@ -141,11 +120,21 @@ combs-requires c κs =
 
 -- what the combs leave and pass on
 module _ (c : tie.After-combs) where
-  abbrev before : tie.After-process-predelay
+  abbrev before : tie.After-predelay-at
   before = c .before .before .before .before .before .before .before .before .before
 
   abbrev begun : tie.Start
   begun = start before
+
+  stores-left : c .combs .last .1 .1 .0 ≡ table (combStored left (damping (handed begun)) (self begun) (begun .args .mem .now)) 8
+  stores-left =
+      stores-are (handed begun) (self begun) (begun .args .mem .now) (unit begun) (into-is before) (damped-is before) (fed-is before) (first-is before) left
+      (c .combs .ensures .1 .1 .0)
+
+  stores-right : c .combs .last .1 .1 .1 .0 ≡ table (combStored right (damping (handed begun)) (self begun) (begun .args .mem .now)) 8
+  stores-right =
+      stores-are (handed begun) (self begun) (begun .args .mem .now) (unit begun) (into-is before) (damped-is before) (fed-is before) (first-is before) right
+      (c .combs .ensures .1 .1 .1 .0)
 
   second-is : c .combs .last .1 .1 .1 .1 .1 .1 .0 ≡ m2 (handed begun) (self begun) (begun .args .mem .now) (unit begun)
   second-is =
@@ -191,39 +180,49 @@ same-length-3 c =
     let a = start p .args in
     q .allpasses .kept .1 .1 .1 .1 .0 ∙ k .combs .kept .1 .1 .1 .1 .1 .1 .0 ∙ ap (λ (l : List Float). length l) (first-is p) ∙ length-set (a .mem .now) (77536 + a .predelay-pos .now) (input (handed (start p)))
 
+-- what the all-passes leave and pass on
+module _ (c : tie.After-allpasses) where
+  abbrev combed : tie.After-combs
+  combed = c .before .before .before .before .before .before .before .before .before .before .before .before
+
+  abbrev origin : tie.Start
+  origin = begun combed
+
+  third-is : c .allpasses .last .1 .1 .1 .1 .0 ≡ laid (writes (handed origin) (self origin) (origin .args .mem .now)) (origin .args .mem .now)
+  third-is =
+      written (handed origin) (self origin) (origin .args .mem .now) (unit origin) (left-is combed) (right-is combed) (second-is combed)
+      (c .allpasses .ensures .1 .1 .1 .1)
+
+  wet-left : c .allpasses .result .left ≡ wet left (self origin) (origin .args .mem .now)
+  wet-left =
+      wet-is (handed origin) (self origin) (origin .args .mem .now) (unit origin) (left-is combed) (right-is combed) (second-is combed) left
+      (c .allpasses .ensures .1 .1 .0)
+
+  wet-right : c .allpasses .result .right ≡ wet right (self origin) (origin .args .mem .now)
+  wet-right =
+      wet-is (handed origin) (self origin) (origin .args .mem .now) (unit origin) (left-is combed) (right-is combed) (second-is combed) right
+      (c .allpasses .ensures .1 .1 .1 .0)
+
 returns : tie.Need-returns
-unfolding page.next page.samples combMoved allpassMoved
 returns c =
     let q = c .before .before .before .before in
-    let k = q .before .before .before .before .before .before .before .before .before .before .before .before in
-    let p = before k in
-    let s = start p in
-    let a = s .args in
+    let k = combed q in
+    let s = origin q in
     let u = self s in
-    let m = a .mem .now in
-    let t = handed s in
-    let f = unit s in
-    let combs = k .combs .ensures in
-    let passes = q .allpasses .ensures in
-    let audio = p .before .before .before .before .before .before .before .before .sanitize-audio .ensures in
-    let mix = mixed-is p in
-    let wet-left = wet-is t u m f (left-is k) (right-is k) (second-is k) left (passes .1 .1 .0) in
-    let wet-right = wet-is t u m f (left-is k) (right-is k) (second-is k) right (passes .1 .1 .1 .0) in
-    accepts reverb (tick t) u m (s .pre .1)
-    (λ i.
-    record {
-      «comb_pos_l» = combs .0 i;
-      «comb_pos_r» = combs .1 .0 i;
-      «comb_filter_state_l» = stores-are t u m f (into-is p) (damped-is p) (fed-is p) (first-is p) left (combs .1 .1 .0) i;
-      «comb_filter_state_r» = stores-are t u m f (into-is p) (damped-is p) (fed-is p) (first-is p) right (combs .1 .1 .1 .0) i;
-      «allpass_pos_l» = passes .0 i;
-      «allpass_pos_r» = passes .1 .0 i;
-      «predelay_pos» = k .before .before .before .before .before .before .next-place .ensures i;
-      «sample_rate» = a .rate;
-    })
-    (written t u m f (left-is k) (right-is k) (second-is k) (passes .1 .1 .1 .1))
-    ((λ i. played (c .before .blend .ensures i ∷ c .blend2 .ensures i ∷ []))
-    ∙ (λ i. played (blended (audio i) (wet-left i) (mix i) ∷ blended (audio i) (wet-right i) (mix i) ∷ [])))
+    let m = s .args .mem .now in
+    let audio = before k .before .before .before .before .before .before .before .before .sanitize-audio .ensures in
+    let mix = mixed-is (before k) in
+    does (handed s) u m (unit s) (s .pre .1)
+    (k .combs .ensures .0 ∙ combs-moved u m left)
+    (k .combs .ensures .1 .0 ∙ combs-moved u m right)
+    (stores-left k)
+    (stores-right k)
+    (q .allpasses .ensures .0 ∙ allpasses-moved u m left)
+    (q .allpasses .ensures .1 .0 ∙ allpasses-moved u m right)
+    (k .before .before .before .before .before .before .next-place .ensures)
+    (third-is q)
+    (c .before .blend .ensures ∙ (λ i. blended (audio i) (wet-left q i) (mix i)))
+    (c .blend2 .ensures ∙ (λ i. blended (audio i) (wet-right q i) (mix i)))
 
 pub advance-spec : {M : Type 1} → statement M
 advance-spec =
@@ -235,11 +234,7 @@ advance-spec =
     clamp-requires-3
     clamp-requires-4
     predelay-samples-requires
-    mul-process-predelay
-    sub-process-predelay
-    part-process-predelay-start
-    part-process-predelay-end
-    process-predelay-requires
+    predelay-at-requires
     next-place-requires
     combs-requires
     allpasses-requires
