@@ -318,6 +318,40 @@ fn milliseconds(k: u64) -> f64 {
 """
 
 
+SETTINGS = """
+fn nan_if(x: f64, nan: bool) -> f64 {
+    if nan { 0.0 / 0.0 } else { x }
+}
+
+// the delay's settings, one unusual and two, and every set of NaNs that a tick may get
+fn settings_calls() -> u64 {
+    let mut lent = [0.0f64; 401];
+    let mut h: u64 = 0;
+    let mut k: u64 = 0;
+    while k < 40 {
+        dirty(&mut lent);
+        let mem = &mut lent[..];
+        let c = DelayLine::with_max_delay(special(k), 0.05, special(k + 19), false, mem);
+        let o = c.outcome;
+        h = places(delay_line_left(mix(h, o.number() as u64), c.state), mem);
+        let d = DelayLine::with_max_delay(8000.0, 0.05, special(k), false, mem);
+        let p = d.outcome;
+        h = places(delay_line_left(mix(h, p.number() as u64), d.state), mem);
+        let e = DelayLine::with_max_delay(8000.0, 0.05, 0.5, k >= 16, mem);
+        let s = e.state;
+        let t = s.tick(mem, Port::Set(1.0), Port::Set(nan_if(0.01, k % 2 == 0)), Port::Set(nan_if(0.5, k / 2 % 2 == 0)), Port::Set(nan_if(0.5, k / 4 % 2 == 0)), nan_if(10.0, k / 8 % 2 == 0));
+        h = places(delay_line_left(answered(h, t.answer), t.state), mem);
+        let r = s.set_sample_rate(8000.0, special(k), mem);
+        let q = r.outcome;
+        h = places(delay_line_left(mix(h, q.number() as u64), r.state), mem);
+        h = mix(h, DelayLine::places_needed(8000.0, special(k)));
+        k += 1;
+    }
+    h
+}
+"""
+
+
 def field(name, i):
     """Two lines of code for a field: what it adds to the sum, and how it is put to another value."""
     kind = "mix" if name == "write_pos" else "flag" if name in ("linear_time", "delay_primed") else "float"
@@ -344,8 +378,8 @@ def effect(name, kind, fields, start, retune, n, tick):
 
 
 def program():
-    text = COMMON + MILLISECONDS + "".join(effect(*e) for e in EFFECTS)
-    names = ["float64", "port", "common", "line"] + [e[0] for e in EFFECTS]
+    text = COMMON + MILLISECONDS + "".join(effect(*e) for e in EFFECTS) + SETTINGS
+    names = ["float64", "port", "common", "line"] + [e[0] for e in EFFECTS] + ["settings"]
     # the interpreter cannot open a file and stops here: it would take longer than the compiled program
     body = ["let none = os::open_read(b\"none\");", "let mut sum = if none < 0 { 0 } else { 1 };"]
     body += [f"sum = mix(sum, {n}_calls());" for n in names] + ["io::print_decimal(STDOUT_FILENO, sum);", "io::write_all(STDOUT_FILENO, b\"\\n\");"]
