@@ -16,8 +16,10 @@ import rattle_mutants
 ROOT = Path(__file__).resolve().parents[2]
 # the function (or else the file) that an error belongs to, where it stands, and its text
 Error = namedtuple("Error", "owner place text")
-# an error's further lines are set in by two spaces; of a proof that rattle makes itself it notes what it cannot show
-ERROR = re.compile(r"^(?:note: )?(\S+?):(\d+):(\d+): (?:error(?:\[\S+\])?: |(?=it is not proved that ))(.*(?:\n  .*)*)", re.M)
+# an error's further lines are set in by two spaces; of a proof that rattle makes itself there are notes on what it cannot show
+ERROR = re.compile(
+    r"^(?:(?:note: )?(?=\S+: (?:error\b|it is not proved that ))|note: what antt said of a `search` in the proof that rattle made: )"
+    r"(\S+?):(\d+):(\d+): (?:error(?:\[\S+\])?: )?(.*(?:\n  .*)*)", re.M)
 # it says no more than that something else, which has an error of its own, was refused
 RESTS = re.compile(r"` was not admitted \(")
 # what the prover says where a proof's text does not fit the code's steps any more, and no fact is asked for
