@@ -1,8 +1,14 @@
 -- What a controller is told is what a start asks, effect by effect. Assumes nothing.
-use mathlib.Core.Path.{_∙_}
-use lib.Ieee.{le, lt, ofInt}
+use Prim.Native.Nat.{ℕ, _≤_}
+use native.Mathlib.Omega.{arith}
+use mathlib.Core.Path.{_≡_, refl, _∙_}
+use mathlib.Core.Bool.{Bool, true, false, cond}
+use lib.Dec.{eqb}
+use lib.Ieee.{Float, le, lt, ofInt}
 use lib.Ieee as Ieee
+use borrow.Author.Tests.{ne-eqb}
 use Rattle.float64.specs.Number.{inUnit, rateFits, coefficientFits}
+use Rattle.effect.specs.Needed.{noPlaces}
 use Rattle.effect.proofs.Needed.{start-asks}
 use Rattle.effect.proofs.Table.{none-1-2}
 use Rattle.delay_line.specs.DelayLine.{delayLine, settingsNumber}
@@ -24,6 +30,23 @@ delay-asks =
           start-asks delayLine x n e ∙ (rw (r .0, r .1));
     }
 
+either-way : {A : Type 0} (b : Bool) (x : A) → cond b x x ≡ x
+either-way true x = refl
+either-way false x = refl
+
+-- whichever number it is, the answer is the one for a refused rate
+refused-is : (effect : ℕ) (rate maximum : Float) → rateFits rate ≡ false → neededBy effect rate maximum ≡ noPlaces
+unfolding neededBy settingsNumber
+refused-is effect rate maximum h =
+    rw (h, either-way (eqb effect 6) noPlaces, either-way (eqb effect 5) noPlaces, either-way (eqb effect 4) noPlaces, either-way (eqb effect 3) noPlaces, either-way (eqb effect 2) noPlaces)
+    (either-way (eqb effect 1) noPlaces)
+
+-- a number that is none of the six
+other-is : (effect : ℕ) (rate maximum : Float) → 7 ≤ effect → neededBy effect rate maximum ≡ noPlaces
+unfolding neededBy
+other-is effect rate maximum h =
+    rw (ne-eqb effect 1 (omega arith), ne-eqb effect 2 (omega arith), ne-eqb effect 3 (omega arith), ne-eqb effect 4 (omega arith), ne-eqb effect 5 (omega arith), ne-eqb effect 6 (omega arith))
+
 pub places-needed : PlacesNeeded
 unfolding neededBy
 places-needed =
@@ -34,4 +57,9 @@ places-needed =
       vibratos = λ maximum. record { accepted = start-asks vibrato };
       tremolos = λ maximum. record { accepted = start-asks tremolo };
       reverbs = λ maximum. record { accepted = start-asks reverb };
+      no-tremolo-places = λ rate maximum h. rw h;
+      tank-places = λ rate maximum h. rw h;
+      refused-rate = refused-is;
+      number-0 = λ rate maximum. refl;
+      numbers-from-7 = other-is;
     }
