@@ -17,6 +17,7 @@ target/room: $(wildcard host/*.c host/*.h) include/room_effects.h $(LIB)
 # rt proves the crates before it writes the library, and does nothing where nothing changed
 $(LIB): FORCE
 	@mkdir -p target
+	@test -e $@ || echo "proving the library, which takes some minutes the first time"
 	rt staticlib room_effects >target/staticlib.log 2>&1 || { cat target/staticlib.log; exit 1; }
 
 test:
