@@ -3,7 +3,7 @@
 use mathlib.Core.Path.{_≡_, refl, sym, ap, _∙_, subst}
 use mathlib.Core.Bool.{Bool, true, false, not, _||_, cond}
 use Prim.Native.Nat.{ℕ, zero, suc, _+_, _-_, _*_, _/_, _%_, _^_, _≤_, _<_, min}
-use native.Mathlib.Nat.{le-trans, le-of-eq, lt-of-lt-of-le, lt-of-le-of-lt, lt-of-not-le, lt-irrefl, mul-comm, mul-assoc, mul-right-comm, mul-le-mul-right, mul-lt-mul-of-pos-right, le-of-mul-le-mul-right, lt-of-mul-lt-mul-right, le-add-right, mul-one, one-mul, mod-lt, mod-eq-of-lt, div-lt-iff-lt-mul}
+use native.Mathlib.Nat.{le-trans, le-of-eq, lt-of-lt-of-le, lt-of-le-of-lt, lt-of-not-le, lt-irrefl, mul-comm, mul-right-comm, mul-le-mul-right, mul-lt-mul-of-pos-right, le-of-mul-le-mul-right, lt-of-mul-lt-mul-right, le-add-right, mul-one, one-mul, mod-lt, mod-eq-of-lt, div-lt-iff-lt-mul}
 use native.Mathlib.Omega.{arith}
 use lib.IntN.{pos}
 use lib.Dec.{T, leb, eqb, ltb→lt, nleb→lt, lit≤}
@@ -25,22 +25,8 @@ two-to w = fin false 1 (pos w)
 
 -- ---- a test's answer as a fact
 
-yes : {b : Bool} → b ≡ true → T b
-yes h = subst T (sym h) tt
-
 no : {b : Bool} → b ≡ false → T (not b)
 no h = subst (λ (a : Bool). T (not a)) (sym h) tt
-
--- 1.0 as MIR has it, by its bit pattern
-one-is : ofBits binary64 0x3ff0_0000_0000_0000 ≡ one
-unfolding ofBits
-one-is = refl
-
-pub at-least-one : (x : Float) → le (ofBits binary64 0x3ff0_0000_0000_0000) x ≡ true → T (le one x)
-at-least-one x h = subst (λ (k : Float). T (le k x)) one-is (yes h)
-
-pub under-one : (x : Float) → le (ofBits binary64 0x3ff0_0000_0000_0000) x ≡ false → T (not (le one x))
-under-one x h = subst (λ (k : Float). T (not (le k x))) one-is (no h)
 
 -- ---- at least 1 and below 2 ^ w, as a fraction
 
@@ -196,19 +182,13 @@ join j h = omega arith
 shifted-down : (q j : ℕ) → j ≤ 1074 → q / 2 ^ (1074 - j) ≡ q * 2 ^ j / 2 ^ 1074
 shifted-down q j h = ap (λ (k : ℕ). k / 2 ^ (1074 - j)) (sym (shl-shr q j)) ∙ shr-shr (q * 2 ^ j) j (1074 - j) ∙ ap (λ (k : ℕ). q * 2 ^ j / 2 ^ k) (join j h)
 
-rejoin : (j : ℕ) → 1074 ≤ j → j - 1074 + 1074 ≡ j
-rejoin j h = omega arith
-
-shifted-up : (q j : ℕ) → 1074 ≤ j → q * 2 ^ (j - 1074) ≡ q * 2 ^ j / 2 ^ 1074
-shifted-up q j h = sym (ap (λ (k : ℕ). k / 2 ^ 1074) (ap (λ (k : ℕ). q * 2 ^ k) (sym (rejoin j h)) ∙ ap (λ (k : ℕ). q * k) (pow-add 2 (j - 1074) 1074) ∙ sym (mul-assoc q (2 ^ (j - 1074)) (2 ^ 1074))) ∙ shl-shr (q * 2 ^ (j - 1074)) 1074)
-
 finite : (y : Float) → T (positive y) → T (not (isNan y))
 unfolding isNan
 finite nan p = absurd p
 finite (inf s) p = tt
 finite (fin s m e) p = tt
 
--- ---- what the proof of `truncating_f64_to_u64` cites, of an x that the format holds and that is at least 1 and below 2 ^ 64, and of its pattern b
+-- ---- what the proof of `whole_part_small` cites, of an x that the format holds and that is at least 1 and below 2 ^ 53, and of its pattern b
 module _ (x : Float) (F : T (fits binary64 x)) (a : T (le one x)) (c : T (lt x (two-to 53))) where
   abbrev b : ℕ
   b = toBits binary64 x

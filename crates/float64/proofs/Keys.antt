@@ -63,9 +63,6 @@ module _ {f : Format} {x y : Float} {i j : ℕ} (a : At f x (cap f + i)) (b : At
   pub size-of-le : T (le x y) → i ≤ j
   size-of-le h = omega (arith, of-le a b h)
 
-  pub lt-of-size : i < j → T (lt x y)
-  lt-of-size h = lt-of a b (omega arith)
-
   pub size-of-lt : T (lt x y) → i < j
   size-of-lt h = omega (arith, of-lt a b h)
 
