@@ -12,7 +12,7 @@ use Rattle.effect.specs.Run.{tick, retune, reset, ask, CallOf, Device, ifNone, 
 use Rattle.effect.specs.Contract.{Does, Starts}
 use Rattle.effect.proofs.Laws.{Laws}
 use Rattle.effect.proofs.Table.{ifNone-both}
-use Rattle.room_effects.specs.Units.{isOn}
+use Rattle.room_effects.specs.Units.{isOn, FlagWritten, FlagLeft}
 use Rattle.room_effects.specs.Lent.{samplesFrom, Began, Called, Ticked, Asked}
 
 -- a call whose answer has a number leaves the unit as it was
@@ -29,11 +29,21 @@ refused-keeps E c h some = go (numberAt E c h) some
     go zero f = absurd (f (accepted c))
     go (suc k) f = refl
 
--- ---- a flag that is written as 0 or 1 is on where it was
+-- ---- a flag that is written as 0 or 1 is on where it was, and one that is not written stays
 
 pub on-flag : {n : ℕ} (b : Bool) → n ≡ cond b 1 0 → isOn n ≡ b
 on-flag true e = rw e
 on-flag false e = rw e
+
+pub written : {n : ℕ} (b : Bool) → n ≡ cond b 1 0 → FlagWritten n
+written {n} b e = e ∙ ap (λ (on : Bool). cond on 1 0) (sym (on-flag b e))
+
+pub unwritten : {r : ℕ} (n : ℕ) → r ≢ 0 → FlagLeft r n n
+unwritten {r} n some = go r some
+  where
+    go : (r : ℕ) → r ≢ 0 → FlagLeft r n n
+    go zero some = absurd (some refl)
+    go (suc r) some = refl
 
 -- ---- a start: the state written, s, is the one given
 

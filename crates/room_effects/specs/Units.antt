@@ -1,11 +1,12 @@
 -- Each effect's unit in lent numbers: its state, and the memory lent to it. Definitions only. Assumes nothing.
 use Prim.Native.Nat.{ℕ}
-use mathlib.Core.Bool.{Bool, not}
+use mathlib.Core.Path.{_≡_}
+use mathlib.Core.Bool.{Bool, not, cond}
 use mathlib.Core.List.{List, []}
 use lib.Dec.{eqb}
 use lib.ListN.{getD}
 use lib.Ieee.{Float, nan}
-use Rattle.effect.specs.Run.{Device}
+use Rattle.effect.specs.Run.{Device, ifNone}
 use Rattle.delay_line.specs.declared.DelayLine.{DelayLine}
 use Rattle.reverb.specs.declared.Reverb.{Reverb}
 use Rattle.reverb.specs.Reverb.{stateOf}
@@ -47,10 +48,20 @@ flangerOf pos phase rate = record { «write_pos» = pos; «lfo_phase» = phase; 
 abbrev pub flangerUnit : ℕ → Float → Float → List Float → Device Flanger
 flangerUnit pos phase rate memory = record { state = flangerOf pos phase rate; memory = memory }
 
--- ---- the delay: a position, the glide's distance, whether it is primed, and the settings. A flag is a number: 0 is off, any other is on
+-- ---- a flag in a lent number: 0 is off, any other is on, and 1 is written for it
 
 abbrev pub isOn : ℕ → Bool
 isOn n = not (eqb n 0)
+
+-- the number is one that is written for a flag
+abbrev pub FlagWritten : ℕ → Type 0
+FlagWritten n = n ≡ cond (isOn n) 1 0
+
+-- a call that returns r, and found n, leaves n': one that is written if the call is accepted, and n if it is refused
+abbrev pub FlagLeft : ℕ → ℕ → ℕ → Type 0
+FlagLeft r n n' = n' ≡ ifNone r (cond (isOn n') 1 0) n
+
+-- ---- the delay: a position, the glide's distance, whether it is primed, and the settings
 
 abbrev pub delayOf : ℕ → Float → Bool → Float → Float → Float → Bool → DelayLine
 delayOf pos distance primed rate coefficient maximum linear =

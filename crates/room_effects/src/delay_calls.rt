@@ -5,7 +5,7 @@ ghost use mathlib.Core.List.{[], _∷_};
 ghost use Rattle.effect.specs.Run.{retune, reset};
 ghost use Rattle.delay_line.specs.DelayLine.{delayLine, handing, retuning, ticked};
 ghost use Rattle.room_effects.specs.Lent.{Began, Called, Ticked, Asked};
-ghost use Rattle.room_effects.specs.Units.{isOn, delayUnit};
+ghost use Rattle.room_effects.specs.Units.{isOn, FlagWritten, FlagLeft, delayUnit};
 ghost use Rattle.room_effects.specs.Ports.{portAt};
 use crate::shared::port_at;
 use delay_line::DelayLine;
@@ -32,7 +32,7 @@ pub extern "C" fn room_raw_delay_start(
     maximum: &mut f64,
     linear: &mut u32,
 ) -> u32
-    ensures { λ r. ⌜ Began delayLine (handing «sample_rate» coef «max_delay_secs» (isOn «linear_time»)) (now (memory .entry)) (delayUnit (now (pos .exit)) (now (distance .exit)) (now (primed .exit)) (now (rate .exit)) (now (coefficient .exit)) (now (maximum .exit)) (now (linear .exit)) (now (memory .exit))) r ⌝ }
+    ensures { λ r. ⌜ Began delayLine (handing «sample_rate» coef «max_delay_secs» (isOn «linear_time»)) (now (memory .entry)) (delayUnit (now (pos .exit)) (now (distance .exit)) (now (primed .exit)) (now (rate .exit)) (now (coefficient .exit)) (now (maximum .exit)) (now (linear .exit)) (now (memory .exit))) r × FlagWritten (now (primed .exit)) × FlagWritten (now (linear .exit)) ⌝ }
 {
     let started = DelayLine::with_max_delay(
         sample_rate,
@@ -65,7 +65,7 @@ pub extern "C" fn room_raw_delay_retune(
     maximum: f64,
     linear: u32,
 ) -> u32
-    ensures { λ r. ⌜ Called delayLine (retune (retuning «sample_rate» coef)) (delayUnit (now (pos .entry)) (now (distance .entry)) (now (primed .entry)) (now (rate .entry)) (now (coefficient .entry)) maximum linear (now (memory .entry))) (delayUnit (now (pos .exit)) (now (distance .exit)) (now (primed .exit)) (now (rate .exit)) (now (coefficient .exit)) maximum linear (now (memory .exit))) r ⌝ }
+    ensures { λ r. ⌜ Called delayLine (retune (retuning «sample_rate» coef)) (delayUnit (now (pos .entry)) (now (distance .entry)) (now (primed .entry)) (now (rate .entry)) (now (coefficient .entry)) maximum linear (now (memory .entry))) (delayUnit (now (pos .exit)) (now (distance .exit)) (now (primed .exit)) (now (rate .exit)) (now (coefficient .exit)) maximum linear (now (memory .exit))) r × FlagLeft r (now (primed .entry)) (now (primed .exit)) ⌝ }
 {
     let state = DelayLine {
         write_pos: *pos,
@@ -101,7 +101,7 @@ pub extern "C" fn room_raw_delay_reset(
     maximum: f64,
     linear: u32,
 ) -> u32
-    ensures { λ r. ⌜ Called delayLine reset (delayUnit (now (pos .entry)) (now (distance .entry)) (now (primed .entry)) rate coefficient maximum linear (now (memory .entry))) (delayUnit (now (pos .exit)) (now (distance .exit)) (now (primed .exit)) rate coefficient maximum linear (now (memory .exit))) r ⌝ }
+    ensures { λ r. ⌜ Called delayLine reset (delayUnit (now (pos .entry)) (now (distance .entry)) (now (primed .entry)) rate coefficient maximum linear (now (memory .entry))) (delayUnit (now (pos .exit)) (now (distance .exit)) (now (primed .exit)) rate coefficient maximum linear (now (memory .exit))) r × FlagLeft r (now (primed .entry)) (now (primed .exit)) ⌝ }
 {
     let state = DelayLine {
         write_pos: *pos,
@@ -143,7 +143,7 @@ pub extern "C" fn room_raw_delay_tick(
     milliseconds: f64,
     out: &mut f64,
 ) -> u32
-    ensures { λ r. ⌜ Ticked delayLine 1 (ticked (portAt set 1 audio) (portAt set 2 time) (portAt set 4 feedback) (portAt set 8 mix) milliseconds) (delayUnit (now (pos .entry)) (now (distance .entry)) (now (primed .entry)) rate coefficient maximum linear (now (memory .entry))) (delayUnit (now (pos .exit)) (now (distance .exit)) (now (primed .exit)) rate coefficient maximum linear (now (memory .exit))) (now (out .exit) ∷ []) r ⌝ }
+    ensures { λ r. ⌜ Ticked delayLine 1 (ticked (portAt set 1 audio) (portAt set 2 time) (portAt set 4 feedback) (portAt set 8 mix) milliseconds) (delayUnit (now (pos .entry)) (now (distance .entry)) (now (primed .entry)) rate coefficient maximum linear (now (memory .entry))) (delayUnit (now (pos .exit)) (now (distance .exit)) (now (primed .exit)) rate coefficient maximum linear (now (memory .exit))) (now (out .exit) ∷ []) r × FlagLeft r (now (primed .entry)) (now (primed .exit)) ⌝ }
 {
     let state = DelayLine {
         write_pos: *pos,

@@ -6,7 +6,7 @@ use Rattle.effect.proofs.Table.{ifNone-both}
 use Rattle.delay_line.specs.declared.DelayLine.{DelayLine}
 use Rattle.delay_line.specs.DelayLine.{Retune, delayLine, retuning}
 use Rattle.room_effects.specs.Units.{delayOf, delayUnit}
-use Rattle.room_effects.proofs.Laws.{on-flag, stored, kept}
+use Rattle.room_effects.proofs.Laws.{on-flag, written, unwritten, stored, kept}
 use Rattle.room_effects.proofs.delay_calls.room_raw_delay_retune.Statement.{statement}
 use Rattle.room_effects.proofs.delay_calls.room_raw_delay_retune.Tie as tie
 
@@ -38,8 +38,10 @@ same-length c = search needs
 returns : tie.Need-returns
 returns c =
     let inner = c .before .before .before .before in
-    let s = inner .before .before .before .before .before in
-    kept delayLine (retune (handed s)) (unit s) (inner .set-sample-rate .ensures) (c .before .number .ensures) (c .if1 .taken)
+    let s = inner .before .before .before .before .before in (
+      kept delayLine (retune (handed s)) (unit s) (inner .set-sample-rate .ensures) (c .before .number .ensures) (c .if1 .taken),
+      unwritten (s .args .primed .now) (c .if1 .taken),
+    )
 
 flag-requires : tie.Need-flag-requires
 flag-requires c κs = search needs
@@ -56,9 +58,11 @@ returns-2 c =
     let n = inner .set-sample-rate .result .state in
     let primed = on-flag (n .«delay_primed») (c .flag .ensures) in
     let maximum = keeps-maximum (handed s) (unit s) ∙ ap (λ (u : DelayLine). u .«max_delay_secs») (sym (does .state)) in
-    let linear = keeps-mode (handed s) (unit s) ∙ ap (λ (u : DelayLine). u .«linear_time») (sym (does .state)) in
-    stored delayLine (retune (handed s)) (unit s) does (sym (left .if1 .left) ∙ left .before .number .ensures)
-    (λ i. delayOf (n .«write_pos») (n .«smoothed_delay») (primed i) (n .«sample_rate») (n .«delay_smooth_coef») (maximum i) (linear i))
+    let linear = keeps-mode (handed s) (unit s) ∙ ap (λ (u : DelayLine). u .«linear_time») (sym (does .state)) in (
+      stored delayLine (retune (handed s)) (unit s) does (sym (left .if1 .left) ∙ left .before .number .ensures)
+      (λ i. delayOf (n .«write_pos») (n .«smoothed_delay») (primed i) (n .«sample_rate») (n .«delay_smooth_coef») (maximum i) (linear i)),
+      written (n .«delay_primed») (c .flag .ensures),
+    )
 
 pub room-raw-delay-retune-spec : {M : Type 1} → statement M
 room-raw-delay-retune-spec =

@@ -2,7 +2,7 @@
 use borrow.Author.Needs.{needs}
 use Rattle.delay_line.specs.DelayLine.{delayLine}
 use Rattle.room_effects.specs.Units.{delayOf}
-use Rattle.room_effects.proofs.Laws.{on-flag, began}
+use Rattle.room_effects.proofs.Laws.{on-flag, written, began}
 use Rattle.room_effects.proofs.delay_calls.room_raw_delay_start.Statement.{statement}
 use Rattle.room_effects.proofs.delay_calls.room_raw_delay_start.Tie as tie
 
@@ -25,11 +25,16 @@ returns : tie.Need-returns
 returns c =
     let inner = c .before .before .before .before .before in
     let s = inner .with-max-delay .result .state in
-    let primed = on-flag (s .«delay_primed») (c .before .before .flag .ensures) in
-    let linear = on-flag (s .«linear_time») (c .before .flag2 .ensures) in
-    began delayLine (inner .with-max-delay .ensures)
-    (λ i. delayOf (s .«write_pos») (s .«smoothed_delay») (primed i) (s .«sample_rate») (s .«delay_smooth_coef») (s .«max_delay_secs») (linear i))
-    (c .number .ensures)
+    let primed = c .before .before .flag .ensures in
+    let linear = c .before .flag2 .ensures in
+    let primed-on = on-flag (s .«delay_primed») primed in
+    let linear-on = on-flag (s .«linear_time») linear in (
+      began delayLine (inner .with-max-delay .ensures)
+      (λ i. delayOf (s .«write_pos») (s .«smoothed_delay») (primed-on i) (s .«sample_rate») (s .«delay_smooth_coef») (s .«max_delay_secs») (linear-on i))
+      (c .number .ensures),
+      written (s .«delay_primed») primed,
+      written (s .«linear_time») linear,
+    )
 
 pub room-raw-delay-start-spec : {M : Type 1} → statement M
 room-raw-delay-start-spec = tie.close (tie.spec with-max-delay-requires flag-requires flag-requires-2 number-requires same-length returns)

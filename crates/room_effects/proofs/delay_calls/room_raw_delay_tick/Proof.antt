@@ -10,7 +10,7 @@ use Rattle.delay_line.specs.DelayLine.{Tick, delayLine, ticked}
 use Rattle.delay_line.proofs.Demand1.{laws}
 use Rattle.room_effects.specs.Ports.{portAt}
 use Rattle.room_effects.specs.Units.{delayOf, delayUnit}
-use Rattle.room_effects.proofs.Laws.{of-tick, on-flag, stored, kept, tick-settings, played}
+use Rattle.room_effects.proofs.Laws.{of-tick, on-flag, written, unwritten, stored, kept, tick-settings, played}
 use Rattle.room_effects.proofs.delay_calls.room_raw_delay_tick.Statement.{statement}
 use Rattle.room_effects.proofs.delay_calls.room_raw_delay_tick.Tie as tie
 
@@ -64,8 +64,10 @@ returns : tie.Need-returns
 returns c =
     let numbered = c .before .before in
     let inner = numbered .before .before .before in
-    let s = start inner in
-    played delayLine 1 (does inner) (kept delayLine (tick (handed s)) (unit s) (does inner) (numbered .number .ensures) (c .if1 .taken)) (λ i. c .before .first .ensures i ∷ [])
+    let s = start inner in (
+      played delayLine 1 (does inner) (kept delayLine (tick (handed s)) (unit s) (does inner) (numbered .number .ensures) (c .if1 .taken)) (λ i. c .before .first .ensures i ∷ []),
+      unwritten (s .args .primed .now) (c .if1 .taken),
+    )
 
 flag-requires : tie.Need-flag-requires
 flag-requires c κs = search needs
@@ -81,11 +83,13 @@ returns-2 c =
     let s = start inner in
     let n = inner .tick .result .state in
     let primed = on-flag (n .«delay_primed») (c .flag .ensures) in
-    let settings = tick-settings delayLine laws (does inner) in
-    played delayLine 1 (does inner)
-    (stored delayLine (tick (handed s)) (unit s) (does inner) (sym (left .if1 .left) ∙ numbered .number .ensures)
-    (λ i. delayOf (n .«write_pos») (n .«smoothed_delay») (primed i) (settings i .rate) (settings i .coefficient) (settings i .maximum) (settings i .linear)))
-    (λ i. left .before .first .ensures i ∷ [])
+    let settings = tick-settings delayLine laws (does inner) in (
+      played delayLine 1 (does inner)
+      (stored delayLine (tick (handed s)) (unit s) (does inner) (sym (left .if1 .left) ∙ numbered .number .ensures)
+      (λ i. delayOf (n .«write_pos») (n .«smoothed_delay») (primed i) (settings i .rate) (settings i .coefficient) (settings i .maximum) (settings i .linear)))
+      (λ i. left .before .first .ensures i ∷ []),
+      written (n .«delay_primed») (c .flag .ensures),
+    )
 
 pub room-raw-delay-tick-spec : {M : Type 1} → statement M
 room-raw-delay-tick-spec =
