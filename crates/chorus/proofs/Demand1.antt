@@ -13,8 +13,8 @@ use Rattle.effect.proofs.Laws.{Laws, Below}
 use Rattle.effect.specs.Demand1.{Demand1}
 use Rattle.effect.proofs.Demand1.{demand-1}
 use Rattle.chorus.specs.declared.Chorus.{Chorus}
-use Rattle.chorus.specs.Chorus.{Tick, Phases, chorus, fits, lineLength, places, phasesOf, startPhases, cleared, blank, tickNumber, nextPhases, next, writes}
-use Rattle.chorus.proofs.Laws.{fits-parts, fit, length-fits, tick-fits}
+use Rattle.chorus.specs.Chorus.{Tick, Phases, chorus, fits, lineLength, places, phasesOf, startPhases, cleared, blank, tickNumber, factor, nextPhases, next, writes}
+use Rattle.chorus.proofs.Laws.{factor-0, factor-1, factor-2, fits-parts, fit, length-fits, tick-fits}
 
 -- ---- the laws
 
@@ -37,17 +37,17 @@ cleared-fits p rate h f =
     fit (cleared p rate) (record { rate = h; inside = omega (arith, length-fits rate h .0); phase0 = f .phase0; phase1 = f .phase1; phase2 = f .phase2 })
 
 -- the factors of the voices lie from 0 to 1.1
-low : In binary64 plusZero (fraction 11 10) (fraction 9 10)
+low : In binary64 plusZero (fraction 11 10) (factor 0)
 unfolding le round Ieee.fits
-low = widen plusZero (fraction 11 10) tt (point (fraction 9 10) tt)
+low = rw factor-0 (widen plusZero (fraction 11 10) tt (point (fraction 9 10) tt))
 
-middle : In binary64 plusZero (fraction 11 10) (whole 1)
+middle : In binary64 plusZero (fraction 11 10) (factor 1)
 unfolding le ofInt round Ieee.fits
-middle = widen plusZero (fraction 11 10) tt (point (whole 1) tt)
+middle = rw factor-1 (widen plusZero (fraction 11 10) tt (point (whole 1) tt))
 
-high : In binary64 plusZero (fraction 11 10) (fraction 11 10)
+high : In binary64 plusZero (fraction 11 10) (factor 2)
 unfolding le round Ieee.fits
-high = widen plusZero (fraction 11 10) tt (point (fraction 11 10) tt)
+high = rw factor-2 (widen plusZero (fraction 11 10) tt (point (fraction 11 10) tt))
 
 next-fits : (t : Tick) (s : Chorus) → fits s ≡ true → tickNumber t ≡ 0 → fits (next t s) ≡ true
 unfolding next nextPhases
@@ -81,6 +81,7 @@ laws =
       retuned-fits = λ k s e f. let g = fits-parts s f in
           cleared-fits (phasesOf s) k (none-1 (rateFits k) e) (record { phase0 = g .phase0; phase1 = g .phase1; phase2 = g .phase2 });
       next-fits = λ t s m e r n. next-fits t s e n;
+      used = λ k p h. h;
       inside = λ t s m e. inside t s e;
     }
 

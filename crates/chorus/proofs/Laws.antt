@@ -2,15 +2,16 @@
 -- steps, also where ports are unset. Assumes nothing.
 use Prim.Native.Nat.{ℕ, _+_, _-_, _*_, _≤_, _<_}
 use native.Mathlib.Omega.{arith}
-use mathlib.Core.Path.{_≡_, ap, _∙_}
+use mathlib.Core.Path.{_≡_, refl, sym, ap, _∙_}
 use mathlib.Core.Bool.{Bool, true, false, _&&_, _||_, cond}
 use mathlib.Core.List.{List}
+use lib.IntN.{negsuc}
 use lib.Dec.{T, ltb}
 use lib.ListN.{length, take, drop, set}
-use lib.Ieee.{Float, binary64, add, mul, div, neg, le, lt, ofInt, round}
+use lib.Ieee.{Float, fin, binary64, add, sub, mul, div, neg, le, lt, ofInt, round}
 use lib.Ieee as Ieee
 use borrow.Author.Tests.{ltb-true, lt-ltb}
-use Rattle.float64.specs.Number.{plusZero, whole, half, rateFits, phaseFits, frequencyFits, sineFits, clampOf}
+use Rattle.float64.specs.Number.{plusZero, whole, fraction, half, rateFits, phaseFits, frequencyFits, sineFits, clampOf}
 use Rattle.float64.proofs.Tests.{both}
 use Rattle.float64.proofs.Interval.{In, point, add-in, mul-in, div-in, scale-in}
 use Rattle.float64.proofs.Ranges.{rate-in, sine-in, in-number}
@@ -28,7 +29,7 @@ use Rattle.effect.specs.Run.{tick, numberIn}
 use Rattle.effect.specs.Contract.{Does}
 use Rattle.effect.proofs.Contract.{accepts}
 use Rattle.chorus.specs.declared.Chorus.{Chorus}
-use Rattle.chorus.specs.Chorus.{Tick, ticked, chorus, lineLength, phasesOf, nextPhases, fits, tickNumber, input, depth, mix, distance, voice, mixed, next, writes}
+use Rattle.chorus.specs.Chorus.{Tick, ticked, chorus, lineLength, Phases, phasesOf, factor, stepped, nextPhases, fits, tickNumber, input, depth, mix, distance, voice, mixed, next, writes}
 use Rattle.chorus.specs.Chorus as page
 
 -- ---- the length of a line
@@ -43,6 +44,55 @@ module _ (rate : Float) (h : rateFits rate ≡ true) where
   unfolding Ieee.fits le lt mul div ofInt
   samples-small =
       small (div-in (whole 1) (whole 16777216) tt tt tt (mul-in (whole 256000) (whole 6144000) tt tt tt (rate-in h) (point (whole 32) tt)) (point (whole 1000) tt))
+
+-- ---- the factors of the voices, as the code has them. Each side is computed by itself: against each other they are compared step by step
+
+abbrev low : Float
+low = fin false 8106479329266893 (negsuc 52)
+
+abbrev high : Float
+high = fin false 2476979795053773 (negsuc 50)
+
+factor-low : factor 0 ≡ low
+unfolding factor add sub mul ofInt round
+factor-low = refl
+
+tenths-low : fraction 9 10 ≡ low
+unfolding round
+tenths-low = refl
+
+factor-high : factor 2 ≡ high
+unfolding factor add sub mul ofInt round
+factor-high = refl
+
+tenths-high : fraction 11 10 ≡ high
+unfolding round
+tenths-high = refl
+
+pub factor-0 : factor 0 ≡ fraction 9 10
+factor-0 = factor-low ∙ sym tenths-low
+
+pub factor-1 : factor 1 ≡ whole 1
+unfolding factor add sub mul ofInt round
+factor-1 = refl
+
+pub factor-2 : factor 2 ≡ fraction 11 10
+factor-2 = factor-high ∙ sym tenths-high
+
+pub phases-by : (frequency rate : Float) (p : Phases)
+    → record {
+      phase0 = stepped (p .phase0) frequency (fraction 9 10) rate;
+      phase1 = stepped (p .phase1) frequency (whole 1) rate;
+      phase2 = stepped (p .phase2) frequency (fraction 11 10) rate;
+    }
+    ≡ nextPhases frequency rate p
+unfolding nextPhases
+phases-by frequency rate p = λ i.
+    record {
+      phase0 = stepped (p .phase0) frequency (sym factor-0 i) rate;
+      phase1 = stepped (p .phase1) frequency (sym factor-1 i) rate;
+      phase2 = stepped (p .phase2) frequency (sym factor-2 i) rate;
+    }
 
 -- ---- the state test
 

@@ -1,10 +1,10 @@
 -- The chorus: three lines of one length that all store the audio, each read by its own voice at its own swept distance. Definitions only. Assumes nothing.
-use Prim.Native.Nat.{ℕ, _+_, _-_, _*_}
+use Prim.Native.Nat.{ℕ, _+_, _-_, _*_, _<_}
 use mathlib.Core.Bool.{Bool, _&&_, _||_, cond}
 use mathlib.Core.List.{List, [], _∷_}
 use lib.Dec.{ltb}
 use lib.ListN.{take}
-use lib.Ieee.{Float, binary64, add, mul, div}
+use lib.Ieee.{Float, binary64, add, sub, mul, div}
 use Rattle.float64.specs.Number.{plusZero, whole, fraction, half, rateFits, phaseFits, frequencyFits, sineFits, clampOf, wholePart}
 use Rattle.port.specs.declared.Port.{Port}
 use Rattle.port.specs.Port.{valueOr, isNanSet}
@@ -52,16 +52,20 @@ startPhases = record { phase0 = plusZero; phase1 = fraction 33 100; phase2 = fra
 abbrev pub zeroPhases : Phases
 zeroPhases = record { phase0 = plusZero; phase1 = plusZero; phase2 = plusZero }
 
--- a voice moves on by (frequency × its factor) / rate; the factors are 0.9, 1 and 1.1
+-- the factor of voice i, from 0 on: 1 + (i − 1) × 0.1
+unfoldable pub factor : ℕ → Float
+factor i = add binary64 (whole 1) (mul binary64 (sub binary64 (whole i) (whole 1)) (fraction 1 10))
+
+-- a voice moves on by (frequency × its factor) / rate
 abbrev pub stepped : Float → Float → Float → Float → Float
 stepped phase frequency factor rate = advanced phase (div binary64 (mul binary64 frequency factor) rate)
 
 unfoldable pub nextPhases : Float → Float → Phases → Phases
 nextPhases frequency rate p =
     record {
-      phase0 = stepped (p .phase0) frequency (fraction 9 10) rate;
-      phase1 = stepped (p .phase1) frequency (whole 1) rate;
-      phase2 = stepped (p .phase2) frequency (fraction 11 10) rate;
+      phase0 = stepped (p .phase0) frequency (factor 0) rate;
+      phase1 = stepped (p .phase1) frequency (factor 1) rate;
+      phase2 = stepped (p .phase2) frequency (factor 2) rate;
     }
 
 -- ---- states
@@ -165,6 +169,7 @@ chorus =
       retuneSettings = λ rate old. rate;
       settingsNumber = λ rate. cond (rateFits rate) 0 1;
       places = places;
+      InUse = λ k p. p < places k;
       tickNumber = λ t rate. tickNumber t;
       blank = blank;
       fresh = fresh;

@@ -64,6 +64,7 @@ laws =
           let r = row (a .rate) (a .coefficient) e in
           cleared-fits (delayLine .retuneSettings a (settings s)) (r .0) (r .1) (fits-parts s f .maximum);
       next-fits = λ t s m e r n. next-fits t s e n;
+      used = λ k p h. h;
       inside = λ t s m e. inside t s m e;
     }
 

@@ -1,5 +1,5 @@
 -- The delay line: one line with feedback, read at a distance that glides to the delay time. Definitions only. Assumes nothing.
-use Prim.Native.Nat.{ℕ, _+_, _-_}
+use Prim.Native.Nat.{ℕ, _+_, _-_, _<_}
 use mathlib.Core.Bool.{Bool, true, false, _&&_, _||_, cond}
 use mathlib.Core.List.{List, [], _∷_}
 use lib.Dec.{ltb}
@@ -187,6 +187,7 @@ delayLine =
       retuneSettings = retuneSettings;
       settingsNumber = λ k. settingsNumber (k .rate) (k .coefficient);
       places = places;
+      InUse = λ k p. p < places k;
       tickNumber = λ t k. tickNumber t (k .linear);
       blank = blank;
       fresh = cleared;

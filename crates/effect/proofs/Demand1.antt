@@ -1,7 +1,6 @@
 -- Demand 1 holds of every effect that has the laws. Assumes them.
-use Prim.Native.Nat.{ℕ, zero, suc, _≤_}
-use native.Mathlib.Omega.{arith}
-use mathlib.Core.Path.{_≡_, refl, sym, ap, _∙_}
+use Prim.Native.Nat.{ℕ, zero, suc}
+use mathlib.Core.Path.{_≡_, refl, sym, ap, _∙_, subst}
 use mathlib.Core.List.{List, [], _∷_, _++_}
 use lib.ListN.{length, getD}
 use Rattle.float64.specs.Number.{plusZero}
@@ -10,7 +9,7 @@ use Rattle.effect.specs.Effect.{Effect, Unnamed}
 use Rattle.effect.specs.Run.{tick, retune, reset, ask, CallOf, Device, numberAt, startNumber, started, moved, step, after, replies, Run, left}
 use Rattle.effect.specs.Demand1.{Demand1, EndsCleared, at-start, at-reset, at-retune, clearedState, begun}
 use Rattle.effect.proofs.Laws.{Laws}
-use Rattle.effect.proofs.Memory.{laid-elsewhere, below-unnamed}
+use Rattle.effect.proofs.Memory.{laid-elsewhere, within-unnamed}
 use Rattle.effect.proofs.Table.{ifNone-both, ifNone-some, accepted}
 use Rattle.effect.proofs.Runs.{InRun, number-is, retune-clears, reset-clears, length-moved, moved-fits, start-in, after-in, run-in, along, run-told}
 
@@ -64,15 +63,14 @@ module _ (E : Effect) (laws : Laws E) where
   -- ---- spare places
 
   abbrev SpareZero : ℕ → Device (E .State) → Type 0
-  SpareZero p h = E .places (E .settings (h .state)) ≤ p → getD (h .memory) p plusZero ≡ plusZero
+  SpareZero p h = ¬ E .InUse (E .settings (h .state)) p → getD (h .memory) p plusZero ≡ plusZero
 
   spare-moved : (p n : ℕ) (u : Device (E .State)) (c : CallOf E) → InRun E n u → SpareZero p u → SpareZero p (moved E c u)
   spare-moved p n u (tick t) i z h =
       let ws = E .writes t (u .state) (u .memory) in
-      let e = ap (E .places) (laws .next-settings t (u .state) (u .memory)) in
-      laid-elsewhere ws (u .memory) p plusZero
-      (below-unnamed ws (E .places (E .settings (u .state))) p (laws .inside t (u .state) (u .memory) (i .fits)) (omega (arith, e)))
-      ∙ z (omega (arith, e))
+      let k = E .settings (u .state) in
+      let free : ¬ E .InUse k p = subst (λ (q : E .Settings). ¬ E .InUse q p) (laws .next-settings t (u .state) (u .memory)) h in
+      laid-elsewhere ws (u .memory) p plusZero (within-unnamed (E .InUse k) ws p (laws .inside t (u .state) (u .memory) (i .fits)) free) ∙ z free
   spare-moved p n u (retune r) i z h = rw (retune-clears E r u) (getD-zeros (length (u .memory)) p)
   spare-moved p n u reset i z h = rw (reset-clears E u) (getD-zeros (length (u .memory)) p)
   spare-moved p n u ask i z h = z h
@@ -84,11 +82,11 @@ module _ (E : Effect) (laws : Laws E) where
 
   -- ---- one call, in a run or not
 
-  spares : (t : E .Tick) (h : Device (E .State)) (p : ℕ) → numberAt E (tick t) h ≡ 0 → E .places (E .settings (h .state)) ≤ p
+  spares : (t : E .Tick) (h : Device (E .State)) (p : ℕ) → numberAt E (tick t) h ≡ 0 → ¬ E .InUse (E .settings (h .state)) p
       → getD (step E (tick t) h .memory) p plusZero ≡ getD (h .memory) p plusZero
   spares t h p e l =
       let inside = laws .inside t (h .state) (h .memory) (accepted E (length (h .memory)) (tick t) (h .state) e .fits) in
-      leaves E t h p (below-unnamed (E .writes t (h .state) (h .memory)) (E .places (E .settings (h .state))) p inside l)
+      leaves E t h p (within-unnamed (E .InUse (E .settings (h .state))) (E .writes t (h .state) (h .memory)) p inside l)
 
   pub demand-1 : Demand1 E
   demand-1 =
@@ -102,6 +100,7 @@ module _ (E : Effect) (laws : Laws E) where
         passes = λ x. run-in E laws x .fits;
         numbers = λ x c. number-is E c (run-in E laws x) refl;
         enough = λ x. run-in E laws x .enough;
+        in-use = laws .used;
         spare = spare;
         leaves = leaves E;
         spares = spares;

@@ -7,10 +7,14 @@ use lib.ListN.{length}
 use lib.Ieee.{Float}
 use Rattle.effect.specs.Effect.{Effect, Write}
 
--- all the places that are written lie below n
+-- all the places that are written are in P
+abbrev pub Within : (ℕ → Type 0) → List Write → Type 0
+Within P [] = Unit {0}
+Within P (w ∷ ws) = P (w .place) × Within P ws
+
+-- they lie below n
 abbrev pub Below : ℕ → List Write → Type 0
-Below n [] = Unit {0}
-Below n (w ∷ ws) = (w .place < n) × Below n ws
+Below n ws = Within (λ p. p < n) ws
 
 pub record Laws (E : Effect) : Type 0 where
   -- the blank state is refused
@@ -27,5 +31,7 @@ pub record Laws (E : Effect) : Type 0 where
   pub next-fits : (t : E .Tick) (s : E .State) (m : List Float) → E .fits s ≡ true → E .places (E .settings s) ≤ length m
       → E .tickNumber t (E .settings s) ≡ 0
       → E .fits (E .next t s m) ≡ true
+  -- places in use are among those needed
+  pub used : (k : E .Settings) (p : ℕ) → E .InUse k p → p < E .places k
   -- a tick writes only places in use
-  pub inside : (t : E .Tick) (s : E .State) (m : List Float) → E .fits s ≡ true → Below (E .places (E .settings s)) (E .writes t s m)
+  pub inside : (t : E .Tick) (s : E .State) (m : List Float) → E .fits s ≡ true → Within (E .InUse (E .settings s)) (E .writes t s m)

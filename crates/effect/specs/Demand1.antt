@@ -1,6 +1,6 @@
 -- Demand 1 of document 01, for any effect: what any list of calls after an accepted start leaves, refused calls included, whatever the memory held
 -- before the start. Definitions only. Assumes nothing.
-use Prim.Native.Nat.{ℕ, _≤_}
+use Prim.Native.Nat.{ℕ, _≤_, _<_}
 use mathlib.Core.Path.{_≡_}
 use mathlib.Core.Logic.{_≢_}
 use mathlib.Core.Bool.{true, false}
@@ -47,15 +47,16 @@ pub record Demand1 (E : Effect) : Type 0 where
   -- every state of a run passes the state test, so cause 4 never applies
   pub passes : (x : Run E) → E .fits (left E x .state) ≡ true
   pub numbers : (x : Run E) (c : CallOf E) → numberAt E c (left E x) ≡ numberFor E c (length (x .memory)) (E .settings (left E x .state))
-  -- the places in use are there, and the spare ones are +0
+  -- the places needed are there, those in use are among them, and all others are +0
   pub enough : (x : Run E) → E .places (E .settings (left E x .state)) ≤ length (x .memory)
-  pub spare : (x : Run E) (p : ℕ) → E .places (E .settings (left E x .state)) ≤ p → getD (left E x .memory) p plusZero ≡ plusZero
+  pub in-use : (k : E .Settings) (p : ℕ) → E .InUse k p → p < E .places k
+  pub spare : (x : Run E) (p : ℕ) → ¬ E .InUse (E .settings (left E x .state)) p → getD (left E x .memory) p plusZero ≡ plusZero
   -- ---- what one call leaves, in a run or not
 
-  -- a tick leaves every place that it does not name; an accepted one names no spare place
+  -- a tick leaves every place that it does not name; an accepted one names only places in use
   pub leaves : (t : E .Tick) (h : Device (E .State)) (p : ℕ) → Unnamed p (E .writes t (h .state) (h .memory))
       → getD (step E (tick t) h .memory) p plusZero ≡ getD (h .memory) p plusZero
-  pub spares : (t : E .Tick) (h : Device (E .State)) (p : ℕ) → numberAt E (tick t) h ≡ 0 → E .places (E .settings (h .state)) ≤ p
+  pub spares : (t : E .Tick) (h : Device (E .State)) (p : ℕ) → numberAt E (tick t) h ≡ 0 → ¬ E .InUse (E .settings (h .state)) p
       → getD (step E (tick t) h .memory) p plusZero ≡ getD (h .memory) p plusZero
   -- a refused call leaves every place and field, and so does the question "silent?"
   pub refuses : (c : CallOf E) (h : Device (E .State)) → numberAt E c h ≢ 0 → step E c h ≡ h

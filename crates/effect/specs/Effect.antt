@@ -42,8 +42,9 @@ pub record Effect : Type 1 where
   pub retuneSettings : Retune → Settings → Settings
   -- causes 1 and 2: the number of the first that applies, 0 for none
   pub settingsNumber : Settings → ℕ
-  -- the places needed
+  -- the places needed, and which places are in use: all of these, but for the reverb, whose lines have room up to their longest length
   pub places : Settings → ℕ
+  pub InUse : Settings → ℕ → Type 0
   -- causes 5 and 6: the number of the first that applies, 0 for none
   pub tickNumber : Tick → Settings → ℕ
   -- the state that a refused start gives

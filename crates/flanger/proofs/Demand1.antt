@@ -58,6 +58,7 @@ laws =
       reset-fits = λ s f. cleared-fits plusZero (s .«sample_rate») (fits-parts s f .rate) zero-phase;
       retuned-fits = λ k s e f. cleared-fits (s .«lfo_phase») k (none-1 (rateFits k) e) (fits-parts s f .phase);
       next-fits = λ t s m e r n. next-fits t s e n;
+      used = λ k p h. h;
       inside = λ t s m e. inside t s m e;
     }
 

@@ -1,5 +1,5 @@
 -- The flanger: two lines, left and right, swept by one phase, each fed back into itself. Definitions only. Assumes nothing.
-use Prim.Native.Nat.{ℕ, _+_, _-_, _*_}
+use Prim.Native.Nat.{ℕ, _+_, _-_, _*_, _<_}
 use mathlib.Core.Bool.{Bool, _&&_, _||_, cond}
 use mathlib.Core.List.{List, [], _∷_}
 use lib.Dec.{ltb}
@@ -133,6 +133,7 @@ flanger =
       retuneSettings = λ rate old. rate;
       settingsNumber = λ rate. cond (rateFits rate) 0 1;
       places = places;
+      InUse = λ k p. p < places k;
       tickNumber = λ t rate. tickNumber t;
       blank = blank;
       fresh = fresh;

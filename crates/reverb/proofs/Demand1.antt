@@ -4,6 +4,7 @@ use native.Mathlib.Omega.{arith}
 use mathlib.Core.Path.{_≡_, refl}
 use mathlib.Core.Bool.{true, false}
 use mathlib.Core.List.{List, [], _∷_, _++_}
+use lib.ListN.{getD}
 use lib.Ieee.{Float, le, ofInt}
 use lib.Ieee as Ieee
 use Rattle.float64.specs.Number.{rateFits, inRange}
@@ -12,15 +13,15 @@ use Rattle.common.proofs.Tables.{length-table}
 use Rattle.effect.specs.Effect.{Write}
 use Rattle.effect.specs.Demand1.{Demand1}
 use Rattle.effect.proofs.Table.{none-1}
-use Rattle.effect.proofs.Laws.{Laws, Below}
+use Rattle.effect.proofs.Laws.{Laws, Within}
 use Rattle.effect.proofs.Demand1.{demand-1}
 use Rattle.reverb.specs.declared.Reverb.{Reverb}
 use Rattle.reverb.specs.Tunings.{Side, left, right, combTunings, allpassTunings, combLengths, allpassLengths, tuned}
-use Rattle.reverb.specs.Reverb.{Tick, reverb, combPositions, allpassPositions, cleared, blank, fits, damping, feedback, predelayed, summed, combStored, combWrite, combMoved, allpassWrite, allpassMoved, bySides, next, writes}
-use Rattle.reverb.proofs.Scaling.{lines-some}
+use Rattle.reverb.specs.Reverb.{Tick, InUse, of-comb, of-allpass, of-predelay, reverb, combPositions, allpassPositions, cleared, blank, fits, damping, feedback, predelayed, summed, combStored, combWrite, combMoved, allpassWrite, allpassMoved, bySides, next, writes}
+use Rattle.reverb.proofs.Scaling.{lines-some, lines-most}
 use Rattle.reverb.proofs.Lists.{moved-below}
 use Rattle.reverb.proofs.Laws.{Fits, SideFits, fits-parts, fit}
-use Rattle.reverb.proofs.Tank.{comb-place, allpass-place}
+use Rattle.reverb.proofs.Tank.{comb-below, allpass-below}
 
 -- ---- states
 
@@ -62,27 +63,37 @@ next-fits t s m e =
 
 -- ---- writes
 
-below-append : (n : ℕ) (vs ws : List Write) → Below n vs → Below n ws → Below n (vs ++ ws)
-below-append n [] ws a b = b
-below-append n (v ∷ vs) ws a b = (a .0, below-append n vs ws (a .1) b)
+module _ (P : ℕ → Type 0) where
+  within-append : (vs ws : List Write) → Within P vs → Within P ws → Within P (vs ++ ws)
+  within-append [] ws a b = b
+  within-append (v ∷ vs) ws a b = (a .0, within-append vs ws (a .1) b)
 
-below-sides : (n : ℕ) (f : ℕ → Side → Write) (k : ℕ) → ((i : ℕ) → i < k → (side : Side) → f i side .place < n) → Below n (bySides f k)
-unfolding bySides
-below-sides n f zero h = tt
-below-sides n f (suc k) h =
-    below-append n (bySides f k) (f k left ∷ f k right ∷ []) (below-sides n f k (λ i l. h i (omega arith))) (h k (omega arith) left, (h k (omega arith) right, tt))
+  within-sides : (f : ℕ → Side → Write) (k : ℕ) → ((i : ℕ) → i < k → (side : Side) → P (f i side .place)) → Within P (bySides f k)
+  unfolding bySides
+  within-sides f zero h = tt
+  within-sides f (suc k) h =
+      within-append (bySides f k) (f k left ∷ f k right ∷ []) (within-sides f k (λ i l. h i (omega arith))) (h k (omega arith) left, (h k (omega arith) right, tt))
 
-inside : (t : Tick) (s : Reverb) (m : List Float) → fits s ≡ true → Below 87136 (writes t s m)
+inside : (t : Tick) (s : Reverb) (m : List Float) → fits s ≡ true → Within (InUse (s .«sample_rate»)) (writes t s m)
 unfolding writes combWrite allpassWrite
 inside t s m e =
     let f = fits-parts s e in
+    let used = InUse (s .«sample_rate») in
     let combs = combWrite (predelayed t s m) (damping t) (feedback t) s m in
     let allpasses = allpassWrite (summed s m) s m in (
-      omega (arith, f .predelay),
-      below-append 87136 (bySides combs 8) (bySides allpasses 4)
-          (below-sides 87136 combs 8 (λ i h side. omega (arith, comb-place s (λ w. f .sides w .combs) side i h)))
-          (below-sides 87136 allpasses 4 (λ i h side. omega (arith, allpass-place s (λ w. f .sides w .allpasses) side i h .1))),
+      of-predelay (s .«predelay_pos») (f .predelay),
+      within-append used (bySides combs 8) (bySides allpasses 4)
+          (within-sides used combs 8 (λ i h side. of-comb side i (getD (combPositions side s) i 0) h (comb-below s (λ w. f .sides w .combs) side i h .0)))
+          (within-sides used allpasses 4 (λ i h side. of-allpass side i (getD (allpassPositions side s) i 0) h (allpass-below s (λ w. f .sides w .allpasses) side i h .0))),
     )
+
+-- the places in use at any rate lie in the tank
+used : (rate : Float) (p : ℕ) → InUse rate p → p < 87136
+used rate p (of-comb left i w h l) = omega (arith, lines-most 4095 combTunings left rate i)
+used rate p (of-comb right i w h l) = omega (arith, lines-most 4095 combTunings right rate i)
+used rate p (of-allpass left i w h l) = omega (arith, lines-most 1499 allpassTunings left rate i)
+used rate p (of-allpass right i w h l) = omega (arith, lines-most 1499 allpassTunings right rate i)
+used rate p (of-predelay w l) = omega arith
 
 pub laws : Laws reverb
 unfolding next
@@ -96,6 +107,7 @@ laws =
       reset-fits = λ s e. cleared-fits (s .«sample_rate») (fits-parts s e .rate);
       retuned-fits = λ k s e f. cleared-fits k (none-1 (rateFits k) e);
       next-fits = λ t s m e r n. next-fits t s m e;
+      used = used;
       inside = inside;
     }
 

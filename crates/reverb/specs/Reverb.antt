@@ -1,5 +1,5 @@
 -- The reverb: a predelay, and on each side eight combs in parallel, summed, and four all-passes in series. Definitions only. Assumes nothing.
-use Prim.Native.Nat.{ℕ, zero, suc, _+_, _*_}
+use Prim.Native.Nat.{ℕ, zero, suc, _+_, _*_, _<_}
 use mathlib.Core.Bool.{Bool, true, false, _&&_, _||_, cond}
 use mathlib.Core.List.{List, [], _∷_, _++_}
 use lib.Dec.{ltb, eqb}
@@ -235,7 +235,14 @@ writes t s m =
 unfoldable pub samples : Tick → Reverb → List Float → List Float
 samples t s m = blended (input t) (wet left s m) (mix t) ∷ blended (input t) (wet right s m) (mix t) ∷ []
 
--- ---- silence: each line's first `length` places, and the whole predelay
+-- ---- the places in use: each line's first `length` places, and the whole predelay
+
+pub data InUse (rate : Float) : ℕ → Type 0 where
+  of-comb : (side : Side) (i w : ℕ) → i < 8 → w < getD (combLengths side rate) i 0 → InUse rate (combStart side i + w)
+  of-allpass : (side : Side) (i w : ℕ) → i < 4 → w < getD (allpassLengths side rate) i 0 → InUse rate (allpassStart side i + w)
+  of-predelay : (w : ℕ) → w < 9600 → InUse rate (predelayStart + w)
+
+-- ---- silence: all of them are zeros
 
 -- of lines that lie `apart` places from each other, the first from place o on: each is zeros up to its length
 unfoldable pub linesZero : ℕ → ℕ → List ℕ → List Float → Bool
@@ -265,6 +272,7 @@ reverb =
       retuneSettings = λ rate old. rate;
       settingsNumber = λ rate. cond (rateFits rate) 0 1;
       places = places;
+      InUse = InUse;
       tickNumber = λ t rate. tickNumber t;
       blank = blank;
       fresh = cleared;

@@ -51,6 +51,7 @@ laws =
       reset-fits = λ s f. fresh-fits (s .«sample_rate») (parts s f .0);
       retuned-fits = λ r s e f. absurd r;
       next-fits = λ t s m e r n. next-fits t s e n;
+      used = λ k p h. h;
       inside = λ t s m e. tt;
     }
 

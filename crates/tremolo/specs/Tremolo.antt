@@ -1,6 +1,6 @@
 -- The tremolo: it has no line and is lent no memory, so cause 3 never applies, and it has no retune: a new rate means a new start.
 -- Definitions only. Assumes nothing.
-use Prim.Native.Nat.{ℕ}
+use Prim.Native.Nat.{ℕ, _<_}
 use mathlib.Core.Bool.{Bool, true, _&&_, _||_, cond}
 use mathlib.Core.List.{[], _∷_}
 use lib.Ieee.{Float, binary64, add, sub, mul, div}
@@ -84,6 +84,7 @@ tremolo =
       retuneSettings = λ none rate. rate;
       settingsNumber = λ rate. cond (rateFits rate) 0 1;
       places = λ rate. 0;
+      InUse = λ rate p. p < 0;
       tickNumber = λ t rate. tickNumber t;
       blank = blank;
       fresh = fresh;

@@ -57,6 +57,7 @@ laws =
       reset-fits = λ s f. fresh-fits (s .«sample_rate») (fits-parts s f .rate);
       retuned-fits = λ k s e f. fresh-fits k (none-1 (rateFits k) e);
       next-fits = λ t s m e r n. next-fits t s e n;
+      used = λ k p h. h;
       inside = λ t s m e. inside t s e;
     }
 

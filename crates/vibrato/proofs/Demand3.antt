@@ -1,5 +1,4 @@
--- Demand 3 for the vibrato: the lines of two units are equal exactly where their recent pasts are, and units with equal lines and phases answer the same later
--- ticks alike; and the later calls it speaks of leave out none that document 01 allows. Assumes nothing.
+-- Demand 3 for two vibratos, by the laws of their line: it is the recent past, and what a tick plays is worked out from it. Assumes nothing.
 use Prim.Native.Nat.{_-_, _*_}
 use native.Mathlib.Omega.{arith}
 use native.Mathlib.Nat.{one-mul, zero-mul}

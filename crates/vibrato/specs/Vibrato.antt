@@ -1,5 +1,5 @@
 -- The vibrato: one line, read at a swept distance. Definitions only. Assumes nothing.
-use Prim.Native.Nat.{ℕ, _+_, _-_}
+use Prim.Native.Nat.{ℕ, _+_, _-_, _<_}
 use mathlib.Core.Bool.{Bool, _&&_, _||_, cond}
 use mathlib.Core.List.{List, [], _∷_}
 use lib.Dec.{ltb}
@@ -102,6 +102,7 @@ vibrato =
       retuneSettings = λ rate old. rate;
       settingsNumber = λ rate. cond (rateFits rate) 0 1;
       places = lineLength;
+      InUse = λ k p. p < lineLength k;
       tickNumber = λ t rate. tickNumber t;
       blank = blank;
       fresh = fresh;

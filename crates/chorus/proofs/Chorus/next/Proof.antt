@@ -1,8 +1,8 @@
 -- `Chorus::next` is the state after a tick, part by part. Assumes nothing.
-use mathlib.Core.Path.{refl}
+use mathlib.Core.Path.{refl, _∙_}
 use lib.Ieee.{ofBits, ofInt, round}
-use Rattle.chorus.specs.Chorus.{nextPhases}
 use borrow.Author.Needs.{needs}
+use Rattle.chorus.proofs.Laws.{phases-by}
 use Rattle.chorus.proofs.Chorus.next.Statement.{statement}
 use Rattle.chorus.proofs.Chorus.next.Tie as tie
 
@@ -19,10 +19,14 @@ advance-phase-requires-3 : tie.Need-advance-phase-requires-3
 advance-phase-requires-3 c κs = search needs
 
 returns : tie.Need-returns
-unfolding nextPhases ofBits ofInt round
+unfolding ofBits ofInt round
 returns c = (
   c .before .before .before .next-place .ensures,
-  ((λ i. record { phase0 = c .before .before .advance-phase .ensures i; phase1 = c .before .advance-phase2 .ensures i; phase2 = c .advance-phase3 .ensures i }), refl),
+  (
+    (λ i. record { phase0 = c .before .before .advance-phase .ensures i; phase1 = c .before .advance-phase2 .ensures i; phase2 = c .advance-phase3 .ensures i })
+        ∙ phases-by _ _ _,
+    refl,
+  ),
 )
 
 pub next-spec : {M : Type 1} → statement M

@@ -47,7 +47,7 @@ returns-2 c =
     let primed = on-flag (n .«delay_primed») (c .flag .ensures) in
     let settings = reset-settings delayLine laws (inner .reset .ensures) in (
       stored delayLine reset (unit (inner .before .before .before .before .before)) (inner .reset .ensures) (sym (left .if1 .left) ∙ left .before .number .ensures)
-      (λ i. delayOf (n .«write_pos») (n .«smoothed_delay») (primed i) (settings i .rate) (settings i .coefficient) (settings i .maximum) (settings i .linear)),
+          (λ i. delayOf (n .«write_pos») (n .«smoothed_delay») (primed i) (settings i .rate) (settings i .coefficient) (settings i .maximum) (settings i .linear)),
       written (n .«delay_primed») (c .flag .ensures),
     )
 

@@ -60,7 +60,7 @@ returns-2 c =
     let maximum = keeps-maximum (handed s) (unit s) ∙ ap (λ (u : DelayLine). u .«max_delay_secs») (sym (does .state)) in
     let linear = keeps-mode (handed s) (unit s) ∙ ap (λ (u : DelayLine). u .«linear_time») (sym (does .state)) in (
       stored delayLine (retune (handed s)) (unit s) does (sym (left .if1 .left) ∙ left .before .number .ensures)
-      (λ i. delayOf (n .«write_pos») (n .«smoothed_delay») (primed i) (n .«sample_rate») (n .«delay_smooth_coef») (maximum i) (linear i)),
+          (λ i. delayOf (n .«write_pos») (n .«smoothed_delay») (primed i) (n .«sample_rate») (n .«delay_smooth_coef») (maximum i) (linear i)),
       written (n .«delay_primed») (c .flag .ensures),
     )
 

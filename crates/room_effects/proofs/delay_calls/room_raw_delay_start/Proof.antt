@@ -30,8 +30,8 @@ returns c =
     let primed-on = on-flag (s .«delay_primed») primed in
     let linear-on = on-flag (s .«linear_time») linear in (
       began delayLine (inner .with-max-delay .ensures)
-      (λ i. delayOf (s .«write_pos») (s .«smoothed_delay») (primed-on i) (s .«sample_rate») (s .«delay_smooth_coef») (s .«max_delay_secs») (linear-on i))
-      (c .number .ensures),
+          (λ i. delayOf (s .«write_pos») (s .«smoothed_delay») (primed-on i) (s .«sample_rate») (s .«delay_smooth_coef») (s .«max_delay_secs») (linear-on i))
+          (c .number .ensures),
       written (s .«delay_primed») primed,
       written (s .«linear_time») linear,
     )

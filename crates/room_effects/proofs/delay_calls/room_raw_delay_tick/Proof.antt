@@ -85,9 +85,9 @@ returns-2 c =
     let primed = on-flag (n .«delay_primed») (c .flag .ensures) in
     let settings = tick-settings delayLine laws (does inner) in (
       played delayLine 1 (does inner)
-      (stored delayLine (tick (handed s)) (unit s) (does inner) (sym (left .if1 .left) ∙ numbered .number .ensures)
-      (λ i. delayOf (n .«write_pos») (n .«smoothed_delay») (primed i) (settings i .rate) (settings i .coefficient) (settings i .maximum) (settings i .linear)))
-      (λ i. left .before .first .ensures i ∷ []),
+          (stored delayLine (tick (handed s)) (unit s) (does inner) (sym (left .if1 .left) ∙ numbered .number .ensures)
+          (λ i. delayOf (n .«write_pos») (n .«smoothed_delay») (primed i) (settings i .rate) (settings i .coefficient) (settings i .maximum) (settings i .linear)))
+          (λ i. left .before .first .ensures i ∷ []),
       written (n .«delay_primed») (c .flag .ensures),
     )
 
