@@ -106,11 +106,11 @@ static take play(unit *u, phrase *song)
 /* A song, a clearing, and a take of silence after it; `rate` 0 is a reset, another a retune to it. */
 static int next_hirer(unit *u, phrase *song, uint32_t rate, trouble *why)
 {
-    int loud = 0;
+    int silent_before = 0;
     int silent = 0;
     phrase_begin(song, DEMO_RATE);
     const take first = play(u, song);
-    uint32_t refused = first.refused | u->kind->silent(u, &loud);
+    uint32_t refused = first.refused | u->kind->silent(u, &silent_before);
     refused |= rate == 0 ? u->kind->reset(u) : u->kind->retune(u, rate);
     refused |= u->kind->silent(u, &silent);
     const take next = play(u, NULL);
@@ -119,7 +119,7 @@ static int next_hirer(unit *u, phrase *song, uint32_t rate, trouble *why)
            (unsigned long long)next.sounding, (unsigned long long)next.samples);
     if ((refused | next.refused) != 0)
         return trouble_say(why, "%s refused a call", u->kind->name);
-    if (first.sounding == 0 || loud)
+    if (first.sounding == 0 || silent_before)
         return trouble_say(why, "%s: the song before the clearing is not heard, so this shows nothing", u->kind->name);
     if (next.sounding != 0 || !silent)
         return trouble_say(why, "%s: the next take is not silent", u->kind->name);

@@ -82,8 +82,11 @@ static int check_whole(const options *o, trouble *why)
 {
     if (o->help)
         return 1;
-    if (o->demo != NULL && (o->in != NULL || o->out != NULL || o->chain != NULL || o->setting_count > 0))
-        return trouble_say(why, "--demo chooses its own files, chains and controls");
+    if (o->demo != NULL && (o->in != NULL || o->out != NULL || o->chain != NULL || o->setting_count > 0 || o->tail > 0.0 ||
+                            o->bytes != 4 || o->rate != 0))
+        return trouble_say(why, "--demo chooses its own files, chains, controls, tail, bits and rate");
+    if (o->demo != NULL && o->demo[0] == '\0')
+        return trouble_say(why, "no folder for the demonstration: --demo names it");
     if (o->demo != NULL)
         return 1;
     if (o->chain == NULL)

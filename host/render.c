@@ -40,12 +40,12 @@ double level_rms(const level *l)
     return l->samples > 0 ? sqrt(l->squares / (double)l->samples) : 0.0;
 }
 
-static void measure_block(level *l, const block *sound)
+static void measure_block(level *l, const block *sound, unsigned bytes)
 {
     for (unsigned c = 0; c < sound->channels; c++)
         for (size_t i = 0; i < sound->frames; i++) {
             const double x = sound->side[c][i];
-            if (!isfinite(x))
+            if (!wav_finite(x, bytes))
                 continue;
             l->peak = fmax(l->peak, fabs(x));
             l->squares += x * x;
@@ -87,7 +87,7 @@ static int render_all(source *from, chain *through, wav_writer *to, uint64_t tot
         const uint64_t before = at;
         good = next_block(from, at, total, sound, why) && chain_play(through, sound, why) && wav_write(to, sound, why);
         if (good) {
-            measure_block(loud, sound);
+            measure_block(loud, sound, to->bytes);
             at += sound->frames;
             say_progress(before, at, total, from->rate);
         }

@@ -23,7 +23,7 @@ typedef struct level {
     double peak;
     double squares;
     uint64_t samples;
-    uint64_t not_finite; /* samples that are NaN or infinite; peak and squares leave them out */
+    uint64_t not_finite; /* samples that are NaN or infinite as they are written; peak and squares leave them out */
 } level;
 
 double level_rms(const level *l);

@@ -44,10 +44,13 @@ typedef struct wav_writer {
     uint64_t not_finite; /* samples written that are NaN or infinite */
 } wav_writer;
 
-/* Begins a file of so many frames. It lies beside `path` until wav_finish; before that, wav_drop removes it. */
+/* Begins a file of so many frames. It lies beside `path` until wav_finish, under a name that must be free; before that, wav_drop
+ * removes it. */
 int wav_create(wav_writer *wav, const char *path, uint32_t rate, unsigned channels, unsigned bytes, uint64_t frames,
                trouble *why);
 int wav_write(wav_writer *wav, const block *sound, trouble *why);
+/* Whether a sample is a finite number as it is written: 32 bits have none for the largest doubles. */
+int wav_finite(double x, unsigned bytes);
 int wav_finish(wav_writer *wav, trouble *why);
 void wav_drop(wav_writer *wav);
 

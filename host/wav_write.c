@@ -1,14 +1,17 @@
-/* POSIX is used for one question, whether a path is an ordinary file: a rename onto /dev/null would replace it. */
+/* POSIX is used to ask whether a path is an ordinary file (a rename onto /dev/null would replace it), and to make a file only
+ * where none is. */
 #define _POSIX_C_SOURCE 200112L
 
 #include "wav.h"
 
 #include <errno.h>
+#include <fcntl.h>
 #include <float.h>
 #include <math.h>
 #include <stdlib.h>
 #include <string.h>
 #include <sys/stat.h>
+#include <unistd.h>
 
 enum { HEAD_BYTES = 58, FORMAT_FLOAT = 3 };
 
@@ -67,6 +70,18 @@ static int cannot_write(const wav_writer *wav, trouble *why)
     return trouble_say(why, "%s: cannot be written: %s", wav->path, strerror(errno));
 }
 
+/* A file that was not there: one of this name may be anybody's, even the one that is being read. */
+static FILE *new_file(const char *path)
+{
+    const int made = open(path, O_WRONLY | O_CREAT | O_EXCL, 0666);
+    FILE *file = made < 0 ? NULL : fdopen(made, "wb");
+    if (made >= 0 && file == NULL) {
+        close(made);
+        remove(path);
+    }
+    return file;
+}
+
 int wav_create(wav_writer *wav, const char *path, uint32_t rate, unsigned channels, unsigned bytes, uint64_t frames,
                trouble *why)
 {
@@ -80,14 +95,22 @@ int wav_create(wav_writer *wav, const char *path, uint32_t rate, unsigned channe
         return trouble_say(why, "%s: not enough memory", path);
     strcpy(wav->part, path);
     strcat(wav->part, part_ending);
-    wav->file = fopen(wav->part, "wb");
+    wav->file = new_file(wav->part);
     wav->made = wav->file != NULL;
     make_head(head, wav, rate, frames);
     if (wav->file != NULL && fwrite(head, 1, sizeof head, wav->file) == sizeof head)
         return 1;
-    cannot_write(wav, why);
+    if (wav->file == NULL && errno == EEXIST)
+        trouble_say(why, "%s: cannot be written: %s is there already", path, wav->part);
+    else
+        cannot_write(wav, why);
     wav_drop(wav);
     return 0;
+}
+
+int wav_finite(double x, unsigned bytes)
+{
+    return isfinite(x) && (bytes == 8 || fabs(x) <= FLT_MAX);
 }
 
 /* C leaves open what becomes of a double that is beyond a float; here it is infinity. */
@@ -112,7 +135,7 @@ int wav_write(wav_writer *wav, const block *sound, trouble *why)
         unsigned char *at = frame;
         for (unsigned c = 0; c < wav->channels; c++) {
             const double x = sound->side[c][i];
-            wav->not_finite += !isfinite(x) || (wav->bytes == 4 && fabs(x) > FLT_MAX);
+            wav->not_finite += !wav_finite(x, wav->bytes);
             at = put(at, sample_bits(x, wav->bytes), wav->bytes);
         }
         if (fwrite(frame, 1, (size_t)(at - frame), wav->file) != (size_t)(at - frame))
