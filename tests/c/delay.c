@@ -384,22 +384,23 @@ static void state_refused(room_delay state, unsigned i)
     tick_refused(state, 0, wrong_tick(), 4, "tick: 4 before 3, 5 and 6", i);
 }
 
-static void states_refused(void)
+static void positions_refused(void)
 {
     const uint64_t positions[] = {LENGTH, LENGTH + 1u, 2u * LENGTH, UINT64_C(1) << 63, UINT64_MAX};
-    const struct numbers rates = rates_refused();
-    const struct numbers coefficients = coefficients_refused();
-    const struct numbers wrong_maxima = maxima_refused();
-    const struct numbers primed = primed_refused();
-    const struct numbers unprimed = unprimed_refused();
-    const room_delay blank = {0, 0.0, 0, 0.0, 0.0, 0.0, 0};
-    room_delay state;
     unsigned i;
-    state_refused(blank, 0);
     for (i = 0; i < COUNT(positions); i++) {
         state_refused(unprimed_at(positions[i]), i);
         state_refused(primed_at(positions[i], 250.0), 10u + i);
     }
+}
+
+static void settings_refused(void)
+{
+    const struct numbers rates = rates_refused();
+    const struct numbers coefficients = coefficients_refused();
+    const struct numbers wrong_maxima = maxima_refused();
+    room_delay state;
+    unsigned i;
     for (i = 0; i < rates.count; i++) {
         state = fresh();
         state.sample_rate = rates.list[i];
@@ -415,6 +416,14 @@ static void states_refused(void)
         state.maximum = wrong_maxima.list[i];
         state_refused(state, 300u + i);
     }
+}
+
+static void distances_refused(void)
+{
+    const struct numbers primed = primed_refused();
+    const struct numbers unprimed = unprimed_refused();
+    room_delay state;
+    unsigned i;
     for (i = 0; i < primed.count; i++) {
         state = primed_at(3u, primed.list[i]);
         state.primed = flags_on[i % FLAGS_ON];
@@ -425,6 +434,15 @@ static void states_refused(void)
         state.distance = unprimed.list[i];
         state_refused(state, 500u + i);
     }
+}
+
+static void states_refused(void)
+{
+    const room_delay blank = {0, 0.0, 0, 0.0, 0.0, 0.0, 0};
+    state_refused(blank, 0);
+    positions_refused();
+    settings_refused();
+    distances_refused();
 }
 
 /* What the test lets pass: each call accepts it. */

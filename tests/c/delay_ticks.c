@@ -210,10 +210,8 @@ static void feedbacks(void)
 {
     const struct numbers above = at_least_one();
     const struct numbers below = at_most_zero();
-    const struct numbers unset = not_read();
     const double within[] = {0.5, 0.1, nearer(0.99), 0.99, SMALLEST};
     const uint64_t positions[] = {0, 1, 250, LENGTH - 2u, LENGTH - 1u};
-    const double wild[] = {(double)NAN, ODD_NAN, (double)INFINITY, -(double)INFINITY};
     struct tick_of_delay t = delay_tick(1.0, 1.0, 2.0);
     unsigned i;
     for (i = 0; i < COUNT(within); i++) {
@@ -233,6 +231,15 @@ static void feedbacks(void)
     stores(3u, 4.0, t, LENGTH, 0.0, 401u);
     t.feedback = room_set(-0.0);
     stores(3u, 4.0, t, LENGTH, -0.0, 402u);
+}
+
+/* An unset feedback is 0, whatever number stands beside it; audio that is not finite counts as +0, samples are taken as they are. */
+static void unset_and_not_finite(void)
+{
+    const struct numbers unset = not_read();
+    const double wild[] = {(double)NAN, ODD_NAN, (double)INFINITY, -(double)INFINITY};
+    struct tick_of_delay t = delay_tick(-0.0, 1.0, 2.0);
+    unsigned i;
     for (i = 0; i < unset.count; i++) {
         t.feedback = room_set(unset.list[i]);
         t.feedback.set = 0;
@@ -312,6 +319,7 @@ void delay_ticks(void)
     glides();
     mixes();
     feedbacks();
+    unset_and_not_finite();
     bench_case();
     echo();
     mask();

@@ -10,14 +10,11 @@ static void needed(uint32_t effect, double rate, double maximum, uint64_t count,
     check(room_places_needed(effect, rate, maximum) == count, "the places that an effect needs", i);
 }
 
-void places(void)
+/* Of every effect but the delay, which alone reads the maximum. */
+static void by_the_rate(void)
 {
-    const double nan_ = (double)NAN;
-    const double infinity = (double)INFINITY;
-    const double maxima[] = {0.0, 2.0, 60.0, -1.0, nan_, infinity};
-    const uint32_t others[] = {0u, 7u, 8u, 256u + 6u, UINT32_C(0x80000001), UINT32_MAX};
+    const double maxima[] = {0.0, 2.0, 60.0, -1.0, (double)NAN, (double)INFINITY};
     const struct numbers rates = rates_accepted();
-    const struct numbers wrong = rates_refused();
     unsigned i, k;
     for (i = 0; i < COUNT(maxima); i++) {
         needed(CHORUS, 44100.0, maxima[i], 3u * 1421u, i);
@@ -34,15 +31,29 @@ void places(void)
             needed(REVERB, rates.list[k], maxima[i], 87136u, k);
         }
     }
+}
+
+static void by_the_maximum(void)
+{
+    const double infinity = (double)INFINITY;
     needed(DELAY, 44100.0, 2.0, 88201u, 0);
     needed(DELAY, 8000.0, 0.001, 9u, 1);
     needed(DELAY, 192000.0, 60.0, 11520001u, 2);
     needed(DELAY, 192000.0, 61.0, 11520001u, 3);
     needed(DELAY, 8000.0, -1.0, 9u, 4);
-    needed(DELAY, 44100.0, nan_, 88201u, 5);
+    needed(DELAY, 44100.0, (double)NAN, 88201u, 5);
     needed(DELAY, 44100.0, infinity, 88201u, 6);
     needed(DELAY, 44100.0, -infinity, 88201u, 7);
     needed(DELAY, 10260.0, 0.35, 3591u, 8); /* rate x maximum */
+}
+
+void places(void)
+{
+    const uint32_t others[] = {0u, 7u, 8u, 256u + 6u, UINT32_C(0x80000001), UINT32_MAX};
+    const struct numbers wrong = rates_refused();
+    unsigned i, k;
+    by_the_rate();
+    by_the_maximum();
     for (i = 0; i < wrong.count; i++) {
         for (k = DELAY; k <= REVERB; k++) {
             needed(k, wrong.list[i], 2.0, none, 10u * i + k);
@@ -50,6 +61,6 @@ void places(void)
     }
     for (i = 0; i < COUNT(others); i++) {
         needed(others[i], 44100.0, 2.0, none, i);
-        needed(others[i], nan_, nan_, none, i);
+        needed(others[i], (double)NAN, (double)NAN, none, i);
     }
 }

@@ -75,7 +75,6 @@ static void moves_at(const struct tuning *at, unsigned which)
     for (i = 0; i < COUNT(states); i++) {
         room_reverb state = states[i];
         double out[2] = {JUNK, JUNK};
-        unsigned written = 0;
         fill_tank();
         for (line = 0; line < LINES; line++) {
             *at_pos(&states[i], line) = 0.25;
@@ -86,9 +85,8 @@ static void moves_at(const struct tuning *at, unsigned which)
             check(*line_pos(&state, line) == next, "a position moves on", 1000u * which + 10u * line + i);
             check(!same(*at_pos(&states[i], line), 0.25), "a line is written", 1000u * which + 10u * line + i);
             *at_pos(&states[i], line) = filled(line_start(line) + (unsigned)*line_pos(&states[i], line));
-            written++;
         }
-        check(written == 25u && tank_kept(), "25 places are written and no other", 10u * which + i);
+        check(tank_kept(), "no other place is written", 10u * which + i);
         check(same(state.sample_rate, at->rate), "the rate stays", 10u * which + i);
         for (k = 0; k < 8u; k++) {
             const double store_l = 0.25 * (1.0 - 0.25 * 0.4) + states[i].comb_store_l[k] * (0.25 * 0.4);
@@ -263,10 +261,9 @@ static void zeros(void)
     check(same(state.comb_store_l[0], 0.0), "-0 x 1 + 1 x +0", 4);
 }
 
-/* Samples and stores that are not finite are taken as they are; huge audio overflows. */
-static void not_finite(void)
+/* Samples and stores that are not finite are taken as they are. */
+static void not_finite_combs(void)
 {
-    const double nan_ = (double)NAN;
     const double infinity = (double)INFINITY;
     room_reverb state;
     unsigned line;
@@ -289,16 +286,27 @@ static void not_finite(void)
         tick_plays(&state, reverb_tick(0.0, 0.5, 0.0, 0.5), 0.0, 0.0, "a store of NaN is not heard at once", line);
         check(isnan(*store) && isnan(tank[line_start(line)]), "a store of NaN stays, at a damping of 0 too", line);
     }
+}
+
+static void not_finite_allpasses(void)
+{
+    const double nan_ = (double)NAN;
+    unsigned line;
     for (line = LEFT_ALLPASS; line < PREDELAY; line++) {
         const int left = line < RIGHT_ALLPASS;
-        state = cleared_reverb(8000.0);
+        room_reverb state = cleared_reverb(8000.0);
         quiet_tank();
         *at_pos(&state, line) = nan_;
         tick_plays(&state, reverb_tick(1.0, 0.5, 0.5, 0.0), left ? nan_ : 1.0, left ? 1.0 : nan_,
                    "a sample of NaN is multiplied by a mix of 0 too", line);
         check(isnan(tank[line_start(line)]), "it stays in its all-pass", line);
     }
-    state = cleared_reverb(8000.0);
+}
+
+static void huge_samples(void)
+{
+    const double infinity = (double)INFINITY;
+    room_reverb state = cleared_reverb(8000.0);
     quiet_tank();
     *at_pos(&state, 0) = DBL_MAX;
     *at_pos(&state, 1u) = DBL_MAX;
@@ -369,7 +377,9 @@ void reverb_ticks(void)
     mixes();
     combs();
     zeros();
-    not_finite();
+    not_finite_combs();
+    not_finite_allpasses();
+    huge_samples();
     echo();
     mask();
 }

@@ -78,7 +78,33 @@ impl Call {
     }
 
     pub fn shown(&self) -> String {
-        let mut lines = match &self.what {
+        let mut lines = self.what.shown();
+        if let Some((place, value)) = self.planted {
+            lines += &format!("\n  place {place} {}", shown(&[("planted", value)]));
+        }
+        let State {
+            write_pos,
+            primed,
+            linear,
+            ..
+        } = self.state;
+        let numbers = shown(&[
+            ("distance", self.state.distance),
+            ("rate", self.state.sample_rate),
+            ("coefficient", self.state.coefficient),
+            ("maximum", self.state.maximum),
+        ]);
+        let lent = self.lent;
+        lines
+            + &format!(
+                "\n  position {write_pos}\n  primed {primed:#x}, linear {linear:#x}\n  {numbers}\n  {lent} places"
+            )
+    }
+}
+
+impl What {
+    fn shown(&self) -> String {
+        match self {
             What::Start { settings, seed } => format!(
                 "start, junk {seed}, linear {:#x}:\n  {}",
                 settings.linear,
@@ -109,27 +135,7 @@ impl Call {
                 ]);
                 format!("tick:\n  set {:#x}\n  {numbers}", t.set)
             }
-        };
-        if let Some((place, value)) = self.planted {
-            lines += &format!("\n  place {place} {}", shown(&[("planted", value)]));
         }
-        let State {
-            write_pos,
-            primed,
-            linear,
-            ..
-        } = self.state;
-        let numbers = shown(&[
-            ("distance", self.state.distance),
-            ("rate", self.state.sample_rate),
-            ("coefficient", self.state.coefficient),
-            ("maximum", self.state.maximum),
-        ]);
-        let lent = self.lent;
-        lines
-            + &format!(
-                "\n  position {write_pos}\n  primed {primed:#x}, linear {linear:#x}\n  {numbers}\n  {lent} places"
-            )
     }
 }
 
