@@ -3,9 +3,7 @@
 LIB = target/staticlib/libroom_effects.a
 CFLAGS = -std=c99 -O2 -Wall -Wextra -Wpedantic -Werror
 
-# An earlier version had a program at target/demo, where the folder is now.
 demo: target/room
-	@test -d target/demo || rm -f target/demo
 	@mkdir -p target/demo
 	target/room --demo target/demo
 
