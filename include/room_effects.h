@@ -35,10 +35,10 @@
  * Where several apply, the first in this order is returned: start 1, 2, 3; retune 4, 1, 2, 3; reset and silent 4, 3; tick 4,
  * 3, 5, 6.
  *
- * A refused call changes nothing: every field of the state and every place of the memory is left as it was, to the bit. Two
- * things are written all the same, so that a host that overlooks the number plays silence and not noise: a refused tick puts
- * +0 into every sample of `out`, and a refused start, which has no state to leave, writes a state of zeros, which every later
- * call refuses with 4.
+ * A refused call changes nothing: every field of the state and every place of the memory is left as it was, to the bit. What
+ * it puts out is written all the same, so that a host that overlooks the number plays silence and not noise: a refused tick
+ * puts +0 into every sample of `out`, a refused silent puts 0, for no, and a refused start, which has no state to leave, writes
+ * a state of zeros, which every later call refuses with 4.
  *
  * Memory
  *
