@@ -5,7 +5,7 @@ ghost use mathlib.Core.List.{[], _∷_};
 ghost use Rattle.effect.specs.Run.{retune, reset};
 ghost use Rattle.delay_line.specs.DelayLine.{delayLine, handing, retuning, ticked};
 ghost use Rattle.room_effects.specs.Lent.{Began, Called, Ticked, Asked};
-ghost use Rattle.room_effects.specs.Units.{isOn, FlagWritten, FlagLeft, delayUnit};
+ghost use Rattle.room_effects.specs.Units.{isOn, FlagWritten, FlagLeft, delayOf, delayUnit};
 ghost use Rattle.room_effects.specs.Ports.{portAt};
 use crate::shared::port_at;
 use delay_line::DelayLine;
@@ -14,6 +14,29 @@ fn flag(on: bool) -> u32
     ensures { λ r. ⌜ r ≡ cond on 1 0 ⌝ }
 {
     if on { 1 } else { 0 }
+}
+
+// A delay's state from lent numbers.
+fn delay_of(
+    pos: u64,
+    distance: f64,
+    primed: u32,
+    rate: f64,
+    coefficient: f64,
+    maximum: f64,
+    linear: u32,
+) -> DelayLine
+    ensures { λ r. ⌜ r ≡ delayOf pos distance (isOn primed) rate coefficient maximum (isOn linear) ⌝ }
+{
+    DelayLine {
+        write_pos: pos,
+        sample_rate: rate,
+        max_delay_secs: maximum,
+        linear_time: linear != 0,
+        smoothed_delay: distance,
+        delay_smooth_coef: coefficient,
+        delay_primed: primed != 0,
+    }
 }
 
 // Start of a delay. A refused one writes the state of zeros too, and leaves the memory as it was.
@@ -67,15 +90,15 @@ pub extern "C" fn room_raw_delay_retune(
 ) -> u32
     ensures { λ r. ⌜ Called delayLine (retune (retuning «sample_rate» coef)) (delayUnit (now (pos .entry)) (now (distance .entry)) (now (primed .entry)) (now (rate .entry)) (now (coefficient .entry)) maximum linear (now (memory .entry))) (delayUnit (now (pos .exit)) (now (distance .exit)) (now (primed .exit)) (now (rate .exit)) (now (coefficient .exit)) maximum linear (now (memory .exit))) r × FlagLeft r (now (primed .entry)) (now (primed .exit)) ⌝ }
 {
-    let state = DelayLine {
-        write_pos: *pos,
-        sample_rate: *rate,
-        max_delay_secs: maximum,
-        linear_time: linear != 0,
-        smoothed_delay: *distance,
-        delay_smooth_coef: *coefficient,
-        delay_primed: *primed != 0,
-    };
+    let state = delay_of(
+        *pos,
+        *distance,
+        *primed,
+        *rate,
+        *coefficient,
+        maximum,
+        linear,
+    );
     let cleared = state.set_sample_rate(sample_rate, coef, memory);
     let outcome = cleared.outcome;
     let number = outcome.number();
@@ -103,15 +126,7 @@ pub extern "C" fn room_raw_delay_reset(
 ) -> u32
     ensures { λ r. ⌜ Called delayLine reset (delayUnit (now (pos .entry)) (now (distance .entry)) (now (primed .entry)) rate coefficient maximum linear (now (memory .entry))) (delayUnit (now (pos .exit)) (now (distance .exit)) (now (primed .exit)) rate coefficient maximum linear (now (memory .exit))) r × FlagLeft r (now (primed .entry)) (now (primed .exit)) ⌝ }
 {
-    let state = DelayLine {
-        write_pos: *pos,
-        sample_rate: rate,
-        max_delay_secs: maximum,
-        linear_time: linear != 0,
-        smoothed_delay: *distance,
-        delay_smooth_coef: coefficient,
-        delay_primed: *primed != 0,
-    };
+    let state = delay_of(*pos, *distance, *primed, rate, coefficient, maximum, linear);
     let cleared = state.reset(memory);
     let outcome = cleared.outcome;
     let number = outcome.number();
@@ -145,15 +160,7 @@ pub extern "C" fn room_raw_delay_tick(
 ) -> u32
     ensures { λ r. ⌜ Ticked delayLine 1 (ticked (portAt set 1 audio) (portAt set 2 time) (portAt set 4 feedback) (portAt set 8 mix) milliseconds) (delayUnit (now (pos .entry)) (now (distance .entry)) (now (primed .entry)) rate coefficient maximum linear (now (memory .entry))) (delayUnit (now (pos .exit)) (now (distance .exit)) (now (primed .exit)) rate coefficient maximum linear (now (memory .exit))) (now (out .exit) ∷ []) r × FlagLeft r (now (primed .entry)) (now (primed .exit)) ⌝ }
 {
-    let state = DelayLine {
-        write_pos: *pos,
-        sample_rate: rate,
-        max_delay_secs: maximum,
-        linear_time: linear != 0,
-        smoothed_delay: *distance,
-        delay_smooth_coef: coefficient,
-        delay_primed: *primed != 0,
-    };
+    let state = delay_of(*pos, *distance, *primed, rate, coefficient, maximum, linear);
     let played = state.tick(
         memory,
         port_at(set, 1, audio),
@@ -188,15 +195,7 @@ pub extern "C" fn room_raw_delay_silent(
 ) -> u32
     ensures { λ r. ⌜ Asked delayLine (delayUnit pos distance primed rate coefficient maximum linear (now (memory .entry))) (now (out .exit)) r ⌝ }
 {
-    let state = DelayLine {
-        write_pos: pos,
-        sample_rate: rate,
-        max_delay_secs: maximum,
-        linear_time: linear != 0,
-        smoothed_delay: distance,
-        delay_smooth_coef: coefficient,
-        delay_primed: primed != 0,
-    };
+    let state = delay_of(pos, distance, primed, rate, coefficient, maximum, linear);
     let silence = state.silent(memory);
     *out = silence.flag();
     silence.number()

@@ -6,7 +6,7 @@ use Rattle.delay_line.specs.declared.DelayLine.{DelayLine}
 use Rattle.delay_line.specs.DelayLine.{delayLine}
 use Rattle.delay_line.proofs.Demand1.{laws}
 use Rattle.room_effects.specs.Units.{delayOf, delayUnit}
-use Rattle.room_effects.proofs.Laws.{on-flag, written, unwritten, stored, kept, reset-settings}
+use Rattle.room_effects.proofs.Laws.{of-state, on-flag, written, unwritten, stored, kept, reset-settings}
 use Rattle.room_effects.proofs.delay_calls.room_raw_delay_reset.Statement.{statement}
 use Rattle.room_effects.proofs.delay_calls.room_raw_delay_reset.Tie as tie
 
@@ -15,6 +15,12 @@ abbrev unit : tie.Start → Device DelayLine
 unit s =
     let a = s .args in
     delayUnit (a .pos .now) (a .distance .now) (a .primed .now) (a .rate) (a .coefficient) (a .maximum) (a .linear) (a .memory .now)
+
+abbrev start : tie.After-reset → tie.Start
+start c = c .before .before .before .before .before .before
+
+delay-of-requires : tie.Need-delay-of-requires
+delay-of-requires c κs = search needs
 
 reset-requires : tie.Need-reset-requires
 reset-requires c κs = search needs
@@ -28,8 +34,9 @@ same-length c = search needs
 returns : tie.Need-returns
 returns c =
     let inner = c .before .before .before .before in
-    let s = inner .before .before .before .before .before in (
-      kept delayLine reset (unit s) (inner .reset .ensures) (c .before .number .ensures) (c .if1 .taken),
+    let s = start inner in
+    let does = of-state delayLine reset (inner .before .before .delay-of .ensures) (inner .reset .ensures) in (
+      kept delayLine reset (unit s) does (c .before .number .ensures) (c .if1 .taken),
       unwritten (s .args .primed .now) (c .if1 .taken),
     )
 
@@ -45,11 +52,12 @@ returns-2 c =
     let inner = left .before .before .before .before in
     let n = inner .reset .result .state in
     let primed = on-flag (n .«delay_primed») (c .flag .ensures) in
-    let settings = reset-settings delayLine laws (inner .reset .ensures) in (
-      stored delayLine reset (unit (inner .before .before .before .before .before)) (inner .reset .ensures) (sym (left .if1 .left) ∙ left .before .number .ensures)
+    let does = of-state delayLine reset (inner .before .before .delay-of .ensures) (inner .reset .ensures) in
+    let settings = reset-settings delayLine laws does in (
+      stored delayLine reset (unit (start inner)) does (sym (left .if1 .left) ∙ left .before .number .ensures)
           (λ i. delayOf (n .«write_pos») (n .«smoothed_delay») (primed i) (settings i .rate) (settings i .coefficient) (settings i .maximum) (settings i .linear)),
       written (n .«delay_primed») (c .flag .ensures),
     )
 
 pub room-raw-delay-reset-spec : {M : Type 1} → statement M
-room-raw-delay-reset-spec = tie.close (tie.spec reset-requires number-requires same-length returns flag-requires same-length-2 returns-2)
+room-raw-delay-reset-spec = tie.close (tie.spec delay-of-requires reset-requires number-requires same-length returns flag-requires same-length-2 returns-2)

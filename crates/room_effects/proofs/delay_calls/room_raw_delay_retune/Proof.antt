@@ -6,7 +6,7 @@ use Rattle.effect.proofs.Table.{ifNone-both}
 use Rattle.delay_line.specs.declared.DelayLine.{DelayLine}
 use Rattle.delay_line.specs.DelayLine.{Retune, delayLine, retuning}
 use Rattle.room_effects.specs.Units.{delayOf, delayUnit}
-use Rattle.room_effects.proofs.Laws.{on-flag, written, unwritten, stored, kept}
+use Rattle.room_effects.proofs.Laws.{of-state, on-flag, written, unwritten, stored, kept}
 use Rattle.room_effects.proofs.delay_calls.room_raw_delay_retune.Statement.{statement}
 use Rattle.room_effects.proofs.delay_calls.room_raw_delay_retune.Tie as tie
 
@@ -19,12 +19,18 @@ unit s =
 abbrev handed : tie.Start → Retune
 handed s = retuning (s .args .sample-rate) (s .args .coef)
 
+abbrev start : tie.After-set-sample-rate → tie.Start
+start c = c .before .before .before .before .before .before
+
 -- a retune keeps the maximum and the mode
 keeps-maximum : (r : Retune) (h : Device DelayLine) → h .state .«max_delay_secs» ≡ step delayLine (retune r) h .state .«max_delay_secs»
 keeps-maximum r h = ifNone-both (λ (u : Device DelayLine). h .state .«max_delay_secs» ≡ u .state .«max_delay_secs») (numberAt delayLine (retune r) h) refl refl
 
 keeps-mode : (r : Retune) (h : Device DelayLine) → h .state .«linear_time» ≡ step delayLine (retune r) h .state .«linear_time»
 keeps-mode r h = ifNone-both (λ (u : Device DelayLine). h .state .«linear_time» ≡ u .state .«linear_time») (numberAt delayLine (retune r) h) refl refl
+
+delay-of-requires : tie.Need-delay-of-requires
+delay-of-requires c κs = search needs
 
 set-sample-rate-requires : tie.Need-set-sample-rate-requires
 set-sample-rate-requires c κs = search needs
@@ -38,8 +44,9 @@ same-length c = search needs
 returns : tie.Need-returns
 returns c =
     let inner = c .before .before .before .before in
-    let s = inner .before .before .before .before .before in (
-      kept delayLine (retune (handed s)) (unit s) (inner .set-sample-rate .ensures) (c .before .number .ensures) (c .if1 .taken),
+    let s = start inner in
+    let does = of-state delayLine (retune (handed s)) (inner .before .before .delay-of .ensures) (inner .set-sample-rate .ensures) in (
+      kept delayLine (retune (handed s)) (unit s) does (c .before .number .ensures) (c .if1 .taken),
       unwritten (s .args .primed .now) (c .if1 .taken),
     )
 
@@ -53,8 +60,8 @@ returns-2 : tie.Need-returns-2
 returns-2 c =
     let left = c .before in
     let inner = left .before .before .before .before in
-    let s = inner .before .before .before .before .before in
-    let does = inner .set-sample-rate .ensures in
+    let s = start inner in
+    let does = of-state delayLine (retune (handed s)) (inner .before .before .delay-of .ensures) (inner .set-sample-rate .ensures) in
     let n = inner .set-sample-rate .result .state in
     let primed = on-flag (n .«delay_primed») (c .flag .ensures) in
     let maximum = keeps-maximum (handed s) (unit s) ∙ ap (λ (u : DelayLine). u .«max_delay_secs») (sym (does .state)) in
@@ -66,4 +73,4 @@ returns-2 c =
 
 pub room-raw-delay-retune-spec : {M : Type 1} → statement M
 room-raw-delay-retune-spec =
-    tie.close (tie.spec set-sample-rate-requires number-requires same-length returns flag-requires same-length-2 returns-2)
+    tie.close (tie.spec delay-of-requires set-sample-rate-requires number-requires same-length returns flag-requires same-length-2 returns-2)

@@ -1,12 +1,15 @@
 -- `room_raw_delay_silent` is `DelayLine::silent`, in plain numbers. Assumes nothing.
-use mathlib.Core.Path.{refl}
+use mathlib.Core.Path.{sym}
 use borrow.Author.Needs.{needs}
 use Rattle.effect.specs.Run.{ask}
 use Rattle.delay_line.specs.DelayLine.{delayLine}
 use Rattle.room_effects.specs.Units.{delayUnit}
-use Rattle.room_effects.proofs.Laws.{stored, asked}
+use Rattle.room_effects.proofs.Laws.{of-state, stored, asked}
 use Rattle.room_effects.proofs.delay_calls.room_raw_delay_silent.Statement.{statement}
 use Rattle.room_effects.proofs.delay_calls.room_raw_delay_silent.Tie as tie
+
+delay-of-requires : tie.Need-delay-of-requires
+delay-of-requires c κs = search needs
 
 silent-requires : tie.Need-silent-requires
 silent-requires c κs = search needs
@@ -19,11 +22,12 @@ number-requires c κs = search needs
 
 returns : tie.Need-returns
 returns c =
-    let a = c .before .before .before .before .args in
-    let does = c .before .before .silent .ensures in
+    let a = c .before .before .before .before .before .args in
+    let state = c .before .before .before .delay-of .ensures in
+    let does = of-state delayLine ask state (c .before .before .silent .ensures) in
     asked delayLine does
-    (stored delayLine ask (delayUnit (a .pos) (a .distance) (a .primed) (a .rate) (a .coefficient) (a .maximum) (a .linear) (a .memory .now)) does (c .number .ensures) refl)
+    (stored delayLine ask (delayUnit (a .pos) (a .distance) (a .primed) (a .rate) (a .coefficient) (a .maximum) (a .linear) (a .memory .now)) does (c .number .ensures) (sym state))
     (c .before .flag .ensures)
 
 pub room-raw-delay-silent-spec : {M : Type 1} → statement M
-room-raw-delay-silent-spec = tie.close (tie.spec silent-requires flag-requires number-requires returns)
+room-raw-delay-silent-spec = tie.close (tie.spec delay-of-requires silent-requires flag-requires number-requires returns)

@@ -10,7 +10,7 @@ use Rattle.delay_line.specs.DelayLine.{Tick, delayLine, ticked}
 use Rattle.delay_line.proofs.Demand1.{laws}
 use Rattle.room_effects.specs.Ports.{portAt}
 use Rattle.room_effects.specs.Units.{delayOf, delayUnit}
-use Rattle.room_effects.proofs.Laws.{of-tick, on-flag, written, unwritten, stored, kept, tick-settings, played}
+use Rattle.room_effects.proofs.Laws.{of-state, of-tick, on-flag, written, unwritten, stored, kept, tick-settings, played}
 use Rattle.room_effects.proofs.delay_calls.room_raw_delay_tick.Statement.{statement}
 use Rattle.room_effects.proofs.delay_calls.room_raw_delay_tick.Tie as tie
 
@@ -28,13 +28,16 @@ unit s =
 -- the inner tick, with the ports as the mask has them
 module _ (c : tie.After-tick) where
   abbrev start : tie.Start
-  start = c .before .before .before .before .before .before .before .before .before
+  start = c .before .before .before .before .before .before .before .before .before .before
 
   does : Does delayLine (tick (handed start)) (unit start .state) (unit start .memory) (c .tick .result .state) (c .tick .last .1 .0) (answerReply (c .tick .result .answer))
   does =
       of-tick delayLine (unit start .state) {t₀ = handed start}
       (λ i. ticked (c .before .before .before .before .port-at .ensures i) (c .before .before .before .port-at2 .ensures i) (c .before .before .port-at3 .ensures i) (c .before .port-at4 .ensures i) (start .args .milliseconds))
-      (c .tick .ensures)
+      (of-state delayLine (tick _) (c .before .before .before .before .before .before .delay-of .ensures) (c .tick .ensures))
+
+delay-of-requires : tie.Need-delay-of-requires
+delay-of-requires c κs = search needs
 
 port-at-requires : tie.Need-port-at-requires
 port-at-requires c κs = search needs
@@ -95,6 +98,7 @@ pub room-raw-delay-tick-spec : {M : Type 1} → statement M
 room-raw-delay-tick-spec =
     tie.close
     (tie.spec
+    delay-of-requires
     port-at-requires
     port-at-requires-2
     port-at-requires-3
