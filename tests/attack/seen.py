@@ -290,6 +290,7 @@ fn NAME_calls() -> u64 {
             k += 1;
         }
         h = places(asked(h, s.silent(READ)), mem);
+AGAIN
         let mut i: u64 = 0;
         while i < FIELDS {
             let mut v: u64 = 0;
@@ -304,6 +305,11 @@ fn NAME_calls() -> u64 {
     h
 }
 """
+
+# an accepted retune of a state that has moved on
+AGAIN = """        let moved = s.CALL;
+        let outcome = moved.outcome;
+        h = places(NAME_left(mix(h, outcome.number() as u64), moved.state), mem);"""
 
 RETUNE = """    dirty(mem);
     let r = s.CALL;
@@ -364,6 +370,7 @@ def effect(name, kind, fields, start, retune, n, tick):
     memory = "mem" in tick
     run = start.replace("R", "8000.0", 1).replace("X", "0.05")
     parts = {
+        "AGAIN": AGAIN.replace("CALL", retune.replace("R", "8000.0", 1).replace("X", "0.5")) if retune else "",
         "RETUNE": RETUNE.replace("CALL", retune.replace("R", "special(k)", 1).replace("X", "fraction(k)")) if retune else "",
         "LEFT": "\n".join(a for a, _ in lines), "WITH": "\n".join(b for _, b in lines), "FIELDS": str(len(lines)),
         "STARTSPECIAL": start.replace("R", "special(k)", 1).replace("X", "special(k + 19)"), "STARTRUN": run,
