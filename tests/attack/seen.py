@@ -1,8 +1,8 @@
 """Writes a program that makes many calls of the leaves and of the effects, unusual numbers and refused calls among them, and prints a sum over all
 that they answer and leave: one number. A wrong program that prints another is seen to do something else, and so what it is to be proved of is false."""
 
-# crates whose calls the program makes; the reverb's are replayed from the Rust's stored answers in crates/replay instead
-CRATES = "float64 port common effect tremolo vibrato chorus flanger delay_line".split()
+# crates whose calls the program makes
+CRATES = "float64 port common effect tremolo vibrato chorus flanger delay_line reverb".split()
 
 COMMON = """// Made by tests/attack/seen.py.
 use chorus::Chorus;
@@ -14,6 +14,7 @@ use port::Outcome;
 use port::Port;
 use port::Refusal;
 use port::Silence;
+use reverb::Reverb;
 use tremolo::Tremolo;
 use vibrato::Vibrato;
 
@@ -358,6 +359,158 @@ fn settings_calls() -> u64 {
 """
 
 
+REVERB = """
+fn words(h: u64, a: &[u64]) -> u64 {
+    let mut sum = h;
+    let mut i: usize = 0;
+    while i < a.len() {
+        sum = mix(sum, a[i]);
+        i += 1;
+    }
+    sum
+}
+
+fn tank(h: u64, mem: &[f64]) -> u64 {
+    let mut sum = h;
+    let mut i: usize = 0;
+    while i < mem.len() {
+        sum = float(sum, mem[i]);
+        i += 61;
+    }
+    sum
+}
+
+fn reverb_left(h: u64, s: Reverb) -> u64 {
+    let a = s.comb_pos_l;
+    let b = s.comb_pos_r;
+    let c = s.allpass_pos_l;
+    let d = s.allpass_pos_r;
+    let e = s.comb_filter_state_l;
+    let f = s.comb_filter_state_r;
+    let positions = words(words(words(words(h, &a), &b), &c), &d);
+    float(mix(places(places(positions, &e), &f), s.predelay_pos), s.sample_rate)
+}
+
+// a state with one of its positions, its stores or its rate put to another value
+fn reverb_with(s: Reverb, i: u64, p: u64, x: f64) -> Reverb {
+    let mut t = s;
+    let j = (i % 8) as usize;
+    let q = (i % 4) as usize;
+    if i < 8 {
+        let mut a = s.comb_pos_l;
+        a[j] = p;
+        t.comb_pos_l = a;
+    } else if i < 16 {
+        let mut a = s.comb_pos_r;
+        a[j] = p;
+        t.comb_pos_r = a;
+    } else if i < 24 {
+        let mut a = s.comb_filter_state_l;
+        a[j] = x;
+        t.comb_filter_state_l = a;
+    } else if i < 32 {
+        let mut a = s.comb_filter_state_r;
+        a[j] = x;
+        t.comb_filter_state_r = a;
+    } else if i < 36 {
+        let mut a = s.allpass_pos_l;
+        a[q] = p;
+        t.allpass_pos_l = a;
+    } else if i < 40 {
+        let mut a = s.allpass_pos_r;
+        a[q] = p;
+        t.allpass_pos_r = a;
+    } else if i == 40 {
+        t.predelay_pos = p;
+    } else {
+        t.sample_rate = x;
+    }
+    t
+}
+
+fn reverb_each(h: u64, s: Reverb, mem: &mut [f64], k: u64) -> u64 {
+    let mut sum = asked(h, s.silent(mem));
+    let t = s.tick(mem, audio(k), port(k + 1), port(k + 2), port(k + 3), port(k + 4));
+    let a = t.answer;
+    sum = tank(reverb_left(answered(sum, a), t.state), mem);
+    let c = s.reset(mem);
+    let o = c.outcome;
+    sum = tank(reverb_left(mix(sum, o.number() as u64), c.state), mem);
+    dirty(mem);
+    let r = s.set_sample_rate(special(k), mem);
+    let q = r.outcome;
+    tank(reverb_left(mix(sum, q.number() as u64), r.state), mem)
+}
+
+// starts at unusual rates, in memory that is one place short, just enough and one place more
+fn reverb_starts(lent: &mut [f64]) -> u64 {
+    let mut h: u64 = 0;
+    let mut k: u64 = 0;
+    while k < 40 {
+        let mut short: usize = 0;
+        while short < 3 {
+            dirty(lent);
+            let mem = &mut lent[..87135 + short];
+            let c = Reverb::new(special(k), mem);
+            let o = c.outcome;
+            h = tank(reverb_left(mix(h, o.number() as u64), c.state), mem);
+            h = reverb_each(h, c.state, mem, k);
+            short += 1;
+        }
+        h = mix(h, Reverb::places_needed(special(k)));
+        k += 1;
+    }
+    h
+}
+
+// one place that sounds, all over the tank, and a question
+fn reverb_questions(h: u64, s: Reverb, mem: &mut [f64]) -> u64 {
+    let mut sum = h;
+    let mut i: usize = 0;
+    common::clear(mem);
+    while i < mem.len() {
+        mem[i] = 1.0;
+        sum = asked(sum, s.silent(mem));
+        mem[i] = -0.0;
+        i += 101;
+    }
+    sum
+}
+
+fn reverb_calls() -> u64 {
+    let mut lent = [0.0f64; 87140];
+    let mut h = reverb_starts(&mut lent);
+    let mem = &mut lent[..87136];
+    let c = Reverb::new(8000.0, mem);
+    let mut s = c.state;
+    let mut k: u64 = 1;
+    while k < 700 {
+        let t = s.tick(mem, audio(k), port(k + 1), port(k + 2), port(k + 3), port(k + 4));
+        let a = t.answer;
+        s = t.state;
+        h = reverb_left(answered(h, a), s);
+        k += 1;
+    }
+    h = tank(h, mem);
+    let at: [u64; 6] = [0, 50, 202, 300, 5000, 1099511627776];
+    let mut i: u64 = 0;
+    while i < 42 {
+        let mut v: usize = 0;
+        while v < 6 {
+            h = reverb_each(h, reverb_with(s, i, at[v], special(v as u64 * 7 + i)), mem, v as u64 * 9 + i + 1);
+            v += 1;
+        }
+        i += 1;
+    }
+    let r = s.set_sample_rate(44100.0, mem);
+    h = tank(reverb_left(h, r.state), mem);
+    h = reverb_questions(h, s, mem);
+    // a state that passes, in memory that is one place short
+    reverb_each(h, s, &mut lent[..87135], 27)
+}
+"""
+
+
 def field(name, i):
     """Two lines of code for a field: what it adds to the sum, and how it is put to another value."""
     kind = "mix" if name == "write_pos" else "flag" if name in ("linear_time", "delay_primed") else "float"
@@ -385,8 +538,8 @@ def effect(name, kind, fields, start, retune, n, tick):
 
 
 def program():
-    text = COMMON + MILLISECONDS + "".join(effect(*e) for e in EFFECTS) + SETTINGS
-    names = ["float64", "port", "common", "line"] + [e[0] for e in EFFECTS] + ["settings"]
+    text = COMMON + MILLISECONDS + "".join(effect(*e) for e in EFFECTS) + SETTINGS + REVERB
+    names = ["float64", "port", "common", "line"] + [e[0] for e in EFFECTS] + ["settings", "reverb"]
     # the interpreter cannot open a file and stops here: it would take longer than the compiled program
     body = ["let none = os::open_read(b\"none\");", "let mut sum = if none < 0 { 0 } else { 1 };"]
     body += [f"sum = mix(sum, {n}_calls());" for n in names] + ["io::print_decimal(STDOUT_FILENO, sum);", "io::write_all(STDOUT_FILENO, b\"\\n\");"]
