@@ -1,5 +1,5 @@
--- The chorus's definitions by their cases: the length of a line, the state test, the table's row of a tick, its distances, and an accepted tick from its
--- steps, also where ports are unset. Assumes nothing.
+-- The chorus's definitions by their cases: the length of a line, the factors of its voices, the state test, the table's row of a tick, its distances, and
+-- an accepted tick from its steps, also where ports are unset. Assumes nothing.
 use Prim.Native.Nat.{ℕ, _+_, _-_, _*_, _≤_, _<_}
 use native.Mathlib.Omega.{arith}
 use mathlib.Core.Path.{_≡_, refl, sym, ap, _∙_}

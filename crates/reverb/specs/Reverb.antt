@@ -242,7 +242,7 @@ pub data InUse (rate : Float) : ℕ → Type 0 where
   of-allpass : (side : Side) (i w : ℕ) → i < 4 → w < getD (allpassLengths side rate) i 0 → InUse rate (allpassStart side i + w)
   of-predelay : (w : ℕ) → w < 9600 → InUse rate (predelayStart + w)
 
--- ---- silence: all of them are zeros
+-- ---- silence: each line is zeros up to its length, and so is the whole predelay
 
 -- of lines that lie `apart` places from each other, the first from place o on: each is zeros up to its length
 unfoldable pub linesZero : ℕ → ℕ → List ℕ → List Float → Bool
