@@ -4,7 +4,7 @@ use mathlib.Core.Path.{_≡_, refl}
 use mathlib.Core.Bool.{true, false}
 use lib.Ieee.{Float, binary64, le, lt, ofInt, round}
 use lib.Ieee as Ieee
-use Rattle.float64.specs.Number.{plusZero, whole, fraction, rateFits, phaseFits, inRange, inUnit}
+use Rattle.float64.specs.Number.{plusZero, ofNat, fraction, rateFits, phaseFits, inRange, inUnit}
 use Rattle.float64.proofs.Interval.{In, point, widen}
 use Rattle.common.proofs.Phases.{detuned-stays}
 use Rattle.common.proofs.Ring.{next-lt}
@@ -13,13 +13,13 @@ use Rattle.effect.proofs.Laws.{Laws, Below}
 use Rattle.effect.specs.Demand1.{Demand1}
 use Rattle.effect.proofs.Demand1.{demand-1}
 use Rattle.chorus.specs.declared.Chorus.{Chorus}
-use Rattle.chorus.specs.Chorus.{Tick, Phases, chorus, fits, lineLength, places, phasesOf, startPhases, cleared, blank, tickNumber, factor, nextPhases, next, writes}
+use Rattle.chorus.specs.Chorus.{Tick, Phases, chorus, stateFits, lineLength, places, phasesOf, startPhases, cleared, blank, tickNumber, factor, nextPhases, next, writes}
 use Rattle.chorus.proofs.Laws.{factor-0, factor-1, factor-2, fits-parts, fit, length-fits, tick-fits}
 
 -- ---- the laws
 
-blank-refused : fits blank ≡ false
-unfolding fits inRange le ofInt Ieee.fits
+blank-refused : stateFits blank ≡ false
+unfolding stateFits inRange le ofInt Ieee.fits
 blank-refused = refl
 
 -- three phases that pass the test, and the state that a clearing leaves with them
@@ -32,7 +32,7 @@ start-phases : PhasesFit startPhases
 unfolding inUnit le lt ofInt round Ieee.fits
 start-phases = record { phase0 = refl; phase1 = refl; phase2 = refl }
 
-cleared-fits : (p : Phases) (rate : Float) → rateFits rate ≡ true → PhasesFit p → fits (cleared p rate) ≡ true
+cleared-fits : (p : Phases) (rate : Float) → rateFits rate ≡ true → PhasesFit p → stateFits (cleared p rate) ≡ true
 cleared-fits p rate h f =
     fit (cleared p rate) (record { rate = h; inside = omega (arith, length-fits rate h .0); phase0 = f .phase0; phase1 = f .phase1; phase2 = f .phase2 })
 
@@ -43,13 +43,13 @@ low = rw factor-0 (widen plusZero (fraction 11 10) tt (point (fraction 9 10) tt)
 
 middle : In binary64 plusZero (fraction 11 10) (factor 1)
 unfolding le ofInt round Ieee.fits
-middle = rw factor-1 (widen plusZero (fraction 11 10) tt (point (whole 1) tt))
+middle = rw factor-1 (widen plusZero (fraction 11 10) tt (point (ofNat 1) tt))
 
 high : In binary64 plusZero (fraction 11 10) (factor 2)
 unfolding le round Ieee.fits
 high = rw factor-2 (widen plusZero (fraction 11 10) tt (point (fraction 11 10) tt))
 
-next-fits : (t : Tick) (s : Chorus) → fits s ≡ true → tickNumber t ≡ 0 → fits (next t s) ≡ true
+next-fits : (t : Tick) (s : Chorus) → stateFits s ≡ true → tickNumber t ≡ 0 → stateFits (next t s) ≡ true
 unfolding next nextPhases
 next-fits t s e n =
     let f = fits-parts s e in
@@ -64,7 +64,7 @@ next-fits t s e n =
       phase2 = detuned-stays (s .«lfo_phase2») (t .frequency) rate (f .phase2) h (f .rate) high;
     })
 
-inside : (t : Tick) (s : Chorus) → fits s ≡ true → Below (places (s .«sample_rate»)) (writes t s)
+inside : (t : Tick) (s : Chorus) → stateFits s ≡ true → Below (places (s .«sample_rate»)) (writes t s)
 unfolding writes
 inside t s e = let f = fits-parts s e .inside in (omega arith, (omega arith, (omega arith, tt)))
 

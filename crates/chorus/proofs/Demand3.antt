@@ -16,7 +16,7 @@ use Rattle.effect.proofs.LineLaws.{LineLaws}
 use Rattle.effect.proofs.Lines.{read-of}
 use Rattle.effect.proofs.Demand3.{demand-3}
 use Rattle.chorus.specs.declared.Chorus.{Chorus}
-use Rattle.chorus.specs.Chorus.{Tick, chorus, lines, fits, lineLength, tickNumber, depth, input, mix, distance, voice, mixed, samples, nextPhases, next, writes}
+use Rattle.chorus.specs.Chorus.{Tick, chorus, lines, stateFits, lineLength, tickNumber, depth, input, mix, distance, voice, mixed, samples, nextPhases, next, writes}
 use Rattle.chorus.proofs.Laws.{fits-parts, length-fits, tick-fits, distance-in}
 use Rattle.chorus.proofs.Demand1.{laws}
 
@@ -26,7 +26,7 @@ use Rattle.chorus.proofs.Demand1.{laws}
 heard : Tick → Float → Float → List Float → Float
 heard t rate sine l = readLine l (distance rate (depth t) sine)
 
-voice-heard : (t : Tick) (s : Chorus) (m l : List Float) → fits s ≡ true → tickNumber t ≡ 0 → (i : ℕ) (sine : Float) → sineFits sine ≡ true
+voice-heard : (t : Tick) (s : Chorus) (m l : List Float) → stateFits s ≡ true → tickNumber t ≡ 0 → (i : ℕ) (sine : Float) → sineFits sine ≡ true
     → newestFirst (i * lineLength (s .«sample_rate»)) (lineLength (s .«sample_rate»)) (s .«write_pos») m ≡ l
     → voice i sine t s m ≡ heard t (s .«sample_rate») sine l
 unfolding voice heard isNumber Ieee.fits isNan round
@@ -38,7 +38,7 @@ voice-heard t s m l e n i sine k g =
     let d = parts-of (L - 1) (omega arith) (distance-in rate (depth t) sine h (control-in (t .depth) half (tick-fits t n .depth) refl) k) in
     read-of i (i * L) L (s .«write_pos») m l (distance rate (depth t) sine) refl g (d .at-least) (omega (arith, d .at-most))
 
-plays : (t : Tick) (s : Chorus) (m l : List Float) → fits s ≡ true → tickNumber t ≡ 0
+plays : (t : Tick) (s : Chorus) (m l : List Float) → stateFits s ≡ true → tickNumber t ≡ 0
     → ((i : ℕ) → i < 3 → newestFirst (i * lineLength (s .«sample_rate»)) (lineLength (s .«sample_rate»)) (s .«write_pos») m ≡ l)
     → samples t s m
     ≡ mixed (input t) (mix t) (heard t (s .«sample_rate») (t .sine0) l) (heard t (s .«sample_rate») (t .sine1) l) (heard t (s .«sample_rate») (t .sine2) l)

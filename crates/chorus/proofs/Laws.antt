@@ -11,7 +11,7 @@ use lib.ListN.{length, take, drop, set}
 use lib.Ieee.{Float, fin, binary64, add, sub, mul, div, neg, le, lt, ofInt, round}
 use lib.Ieee as Ieee
 use borrow.Author.Tests.{ltb-true, lt-ltb}
-use Rattle.float64.specs.Number.{plusZero, whole, fraction, half, rateFits, phaseFits, frequencyFits, sineFits, clampOf}
+use Rattle.float64.specs.Number.{plusZero, ofNat, fraction, half, rateFits, phaseFits, frequencyFits, sineFits, clampOf}
 use Rattle.float64.proofs.Tests.{both}
 use Rattle.float64.proofs.Interval.{In, point, add-in, mul-in, div-in, scale-in}
 use Rattle.float64.proofs.Ranges.{rate-in, sine-in, in-number}
@@ -29,7 +29,7 @@ use Rattle.effect.specs.Run.{tick, numberIn}
 use Rattle.effect.specs.Contract.{Does}
 use Rattle.effect.proofs.Contract.{accepts}
 use Rattle.chorus.specs.declared.Chorus.{Chorus}
-use Rattle.chorus.specs.Chorus.{Tick, ticked, chorus, lineLength, Phases, phasesOf, factor, stepped, nextPhases, fits, tickNumber, input, depth, mix, distance, voice, mixed, next, writes}
+use Rattle.chorus.specs.Chorus.{Tick, tickOf, chorus, lineLength, Phases, phasesOf, factor, stepped, nextPhases, stateFits, tickNumber, input, depth, mix, distance, voice, mixed, next, writes}
 use Rattle.chorus.specs.Chorus as page
 
 -- ---- the length of a line
@@ -40,10 +40,10 @@ module _ (rate : Float) (h : rateFits rate ≡ true) where
   length-fits = let l = length-32 rate h in (omega arith, omega arith)
 
   -- rate × 32 / 1000 is small enough for the quick whole part
-  pub samples-small : T (le (whole 1) (samples rate (whole 32))) × T (lt (samples rate (whole 32)) (whole 9007199254740992))
+  pub samples-small : T (le (ofNat 1) (samples rate (ofNat 32))) × T (lt (samples rate (ofNat 32)) (ofNat 9007199254740992))
   unfolding Ieee.fits le lt mul div ofInt
   samples-small =
-      small (div-in (whole 1) (whole 16777216) tt tt tt (mul-in (whole 256000) (whole 6144000) tt tt tt (rate-in h) (point (whole 32) tt)) (point (whole 1000) tt))
+      small (div-in (ofNat 1) (ofNat 16777216) tt tt tt (mul-in (ofNat 256000) (ofNat 6144000) tt tt tt (rate-in h) (point (ofNat 32) tt)) (point (ofNat 1000) tt))
 
 -- ---- the factors of the voices, as the code has them. Each side is computed by itself: against each other they are compared step by step
 
@@ -72,7 +72,7 @@ tenths-high = refl
 pub factor-0 : factor 0 ≡ fraction 9 10
 factor-0 = factor-low ∙ sym tenths-low
 
-pub factor-1 : factor 1 ≡ whole 1
+pub factor-1 : factor 1 ≡ ofNat 1
 unfolding factor add sub mul ofInt round
 factor-1 = refl
 
@@ -82,7 +82,7 @@ factor-2 = factor-high ∙ sym tenths-high
 pub phases-by : (frequency rate : Float) (p : Phases)
     → record {
       phase0 = stepped (p .phase0) frequency (fraction 9 10) rate;
-      phase1 = stepped (p .phase1) frequency (whole 1) rate;
+      phase1 = stepped (p .phase1) frequency (ofNat 1) rate;
       phase2 = stepped (p .phase2) frequency (fraction 11 10) rate;
     }
     ≡ nextPhases frequency rate p
@@ -101,8 +101,8 @@ abbrev pub phasesFit : Chorus → Bool
 phasesFit s = phaseFits (s .«lfo_phase0») && (phaseFits (s .«lfo_phase1») && phaseFits (s .«lfo_phase2»))
 
 -- by the length n of a line, as `line_length` answers it
-pub fits-by : (s : Chorus) {n : ℕ} → n ≡ cond (rateFits (s .«sample_rate»)) (lineLength (s .«sample_rate»)) 0 → fits s ≡ ltb (s .«write_pos») n && phasesFit s
-unfolding fits
+pub fits-by : (s : Chorus) {n : ℕ} → n ≡ cond (rateFits (s .«sample_rate»)) (lineLength (s .«sample_rate»)) 0 → stateFits s ≡ ltb (s .«write_pos») n && phasesFit s
+unfolding stateFits
 fits-by s e = size-tests (rateFits (s .«sample_rate»)) (lineLength (s .«sample_rate»)) (s .«write_pos») (λ n. phasesFit s) e
 
 pub record Fits (s : Chorus) : Type 0 where
@@ -113,8 +113,8 @@ pub record Fits (s : Chorus) : Type 0 where
   pub phase2 : phaseFits (s .«lfo_phase2») ≡ true
 
 module _ (s : Chorus) where
-  pub fits-parts : fits s ≡ true → Fits s
-  unfolding fits
+  pub fits-parts : stateFits s ≡ true → Fits s
+  unfolding stateFits
   fits-parts e =
       let w = ltb (s .«write_pos») (lineLength (s .«sample_rate»)) in
       let others = phaseFits (s .«lfo_phase1») && phaseFits (s .«lfo_phase2») in
@@ -124,8 +124,8 @@ module _ (s : Chorus) where
       let d = both (phaseFits (s .«lfo_phase1»)) (phaseFits (s .«lfo_phase2»)) (c .1) in
       record { rate = a .0; inside = ltb-true (s .«write_pos») (lineLength (s .«sample_rate»)) (b .0); phase0 = c .0; phase1 = d .0; phase2 = d .1 }
 
-  pub fit : Fits s → fits s ≡ true
-  unfolding fits
+  pub fit : Fits s → stateFits s ≡ true
+  unfolding stateFits
   fit f = rw (f .rate, lt-ltb (s .«write_pos») (lineLength (s .«sample_rate»)) (f .inside), f .phase0, f .phase1, f .phase2)
 
 -- ---- causes 5 and 6
@@ -154,21 +154,21 @@ tick-fits t e =
 abbrev pub swept : Float → Float → Float → Float
 swept rate depth sine =
     add binary64
-    (div binary64 (mul binary64 (whole 7) rate) (whole 1000))
-    (mul binary64 (add binary64 (mul binary64 sine half) half) (div binary64 (mul binary64 (mul binary64 depth (whole 25)) rate) (whole 1000)))
+    (div binary64 (mul binary64 (ofNat 7) rate) (ofNat 1000))
+    (mul binary64 (add binary64 (mul binary64 sine half) half) (div binary64 (mul binary64 (mul binary64 depth (ofNat 25)) rate) (ofNat 1000)))
 
-module _ (rate depth sine : Float) (h : rateFits rate ≡ true) (d : In binary64 plusZero (whole 1) depth) (k : sineFits sine ≡ true) where
-  pub swept-in : In binary64 plusZero (whole 6144) (swept rate depth sine)
+module _ (rate depth sine : Float) (h : rateFits rate ≡ true) (d : In binary64 plusZero (ofNat 1) depth) (k : sineFits sine ≡ true) where
+  pub swept-in : In binary64 plusZero (ofNat 6144) (swept rate depth sine)
   unfolding Ieee.fits le lt add mul div neg ofInt round
   swept-in =
-      let base = div-in plusZero (whole 1344) tt tt tt (mul-in (whole 56000) (whole 1344000) tt tt tt (point (whole 7) tt) (rate-in h)) (point (whole 1000) tt) in
-      let delay = mul-in plusZero (whole 4800000) tt tt tt (mul-in plusZero (whole 25) tt tt tt d (point (whole 25) tt)) (rate-in h) in
-      let swing = div-in plusZero (whole 4800) tt tt tt delay (point (whole 1000) tt) in
-      let turn = add-in plusZero (whole 1) tt (scale-in (neg half) half tt tt tt (sine-in k) (point half tt)) (point half tt) in
-      add-in plusZero (whole 6144) tt base (mul-in plusZero (whole 4800) tt tt tt turn swing)
+      let base = div-in plusZero (ofNat 1344) tt tt tt (mul-in (ofNat 56000) (ofNat 1344000) tt tt tt (point (ofNat 7) tt) (rate-in h)) (point (ofNat 1000) tt) in
+      let delay = mul-in plusZero (ofNat 4800000) tt tt tt (mul-in plusZero (ofNat 25) tt tt tt d (point (ofNat 25) tt)) (rate-in h) in
+      let swing = div-in plusZero (ofNat 4800) tt tt tt delay (point (ofNat 1000) tt) in
+      let turn = add-in plusZero (ofNat 1) tt (scale-in (neg half) half tt tt tt (sine-in k) (point half tt)) (point half tt) in
+      add-in plusZero (ofNat 6144) tt base (mul-in plusZero (ofNat 4800) tt tt tt turn swing)
 
   -- after the clamp both places that are read lie in the line
-  pub distance-in : In binary64 (whole 1) (whole (lineLength rate - 1)) (distance rate depth sine)
+  pub distance-in : In binary64 (ofNat 1) (ofNat (lineLength rate - 1)) (distance rate depth sine)
   unfolding distance
   distance-in =
       let l = length-fits rate h in
@@ -180,14 +180,14 @@ module _ (t : Tick) (s : Chorus) (m : List Float) {n : ℕ} (e : n ≡ lineLengt
   -- a read in the part of k places from place o on, which is line i, is what voice i reads
   pub voice-is : (i k o : ℕ) {d y : Float} (sine : Float) → k ≡ n → o ≡ i * n → o + n ≤ length m → s .«write_pos» < n → d ≡ depth t
       → y
-      ≡ readAt (lineAt 0 (length (take k (drop o m))) (s .«write_pos») (take k (drop o m))) (clampOf (swept (s .«sample_rate») d sine) (whole 1) (whole (length (take k (drop o m)) - 1)))
+      ≡ readAt (lineAt 0 (length (take k (drop o m))) (s .«write_pos») (take k (drop o m))) (clampOf (swept (s .«sample_rate») d sine) (ofNat 1) (ofNat (length (take k (drop o m)) - 1)))
       → y ≡ voice i sine t s m
   unfolding voice distance
   voice-is i k o {d} sine a b l h g r =
       let rate = s .«sample_rate» in
       r
       ∙ part-read k o n (s .«write_pos») m _ a l h
-      ∙ (λ j. readAt (lineAt ((b ∙ ap (λ (z : ℕ). i * z) e) j) (e j) (s .«write_pos») m) (clampOf (swept rate (g j) sine) (whole 1) (whole ((part-length k o n m a l ∙ e) j - 1))))
+      ∙ (λ j. readAt (lineAt ((b ∙ ap (λ (z : ℕ). i * z) e) j) (e j) (s .«write_pos») m) (clampOf (swept rate (g j) sine) (ofNat 1) (ofNat ((part-length k o n m a l ∙ e) j - 1))))
 
   pub next-is : {r : Chorus} → r .«write_pos» ≡ nextPlace n (s .«write_pos») → phasesOf r ≡ nextPhases (t .frequency) (s .«sample_rate») (phasesOf s)
       → r .«sample_rate» ≡ s .«sample_rate»
@@ -223,7 +223,7 @@ module _ (t : Tick) (s : Chorus) (m : List Float) {n : ℕ} (e : n ≡ lineLengt
 
 module _ (t : Tick) {x d b : Float} (audio : x ≡ valueOr (t .audio) plusZero) (amount : d ≡ valueOr (t .depth) half) (wet : b ≡ valueOr (t .mix) half) where
   abbrev pub allSet : Tick
-  allSet = ticked (Set x) (Set d) (Set b) (t .frequency) (t .sine0) (t .sine1) (t .sine2)
+  allSet = tickOf (Set x) (Set d) (Set b) (t .frequency) (t .sine0) (t .sine1) (t .sine2)
 
   pub set-does : {s : Chorus} {m : List Float} {s' : Chorus} {m' : List Float} {a : Reply} → numberIn chorus (tick t) (length m) s ≡ 0
       → numberIn chorus (tick allSet) (length m) s ≡ 0
@@ -241,7 +241,7 @@ module _ (t : Tick) {x d b : Float} (audio : x ≡ valueOr (t .audio) plusZero) 
       ∙ (λ i. played
       (mixed
       (sanitized (audio i))
-      (clampOf (wet i) plusZero (whole 1))
-      (readAt (lineAt (0 * L) L w m) (distance rate (clampOf (amount i) plusZero (whole 1)) (t .sine0)))
-      (readAt (lineAt (1 * L) L w m) (distance rate (clampOf (amount i) plusZero (whole 1)) (t .sine1)))
-      (readAt (lineAt (2 * L) L w m) (distance rate (clampOf (amount i) plusZero (whole 1)) (t .sine2))))))
+      (clampOf (wet i) plusZero (ofNat 1))
+      (readAt (lineAt (0 * L) L w m) (distance rate (clampOf (amount i) plusZero (ofNat 1)) (t .sine0)))
+      (readAt (lineAt (1 * L) L w m) (distance rate (clampOf (amount i) plusZero (ofNat 1)) (t .sine1)))
+      (readAt (lineAt (2 * L) L w m) (distance rate (clampOf (amount i) plusZero (ofNat 1)) (t .sine2))))))

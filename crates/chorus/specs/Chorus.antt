@@ -5,7 +5,7 @@ use mathlib.Core.List.{List, [], _∷_}
 use lib.Dec.{ltb}
 use lib.ListN.{take}
 use lib.Ieee.{Float, binary64, add, sub, mul, div}
-use Rattle.float64.specs.Number.{plusZero, whole, fraction, half, rateFits, phaseFits, frequencyFits, sineFits, clampOf, wholePart}
+use Rattle.float64.specs.Number.{plusZero, ofNat, fraction, half, rateFits, phaseFits, frequencyFits, sineFits, clampOf, wholePart}
 use Rattle.port.specs.declared.Port.{Port}
 use Rattle.port.specs.Port.{valueOr, isNanSet}
 use Rattle.common.specs.Signal.{sanitized, blended, advanced, causeNumber}
@@ -24,13 +24,13 @@ pub record Tick : Type 0 where
   pub sine1 : Float
   pub sine2 : Float
 
-abbrev pub ticked : Port → Port → Port → Float → Float → Float → Float → Tick
-ticked audio depth mix frequency sine0 sine1 sine2 =
+abbrev pub tickOf : Port → Port → Port → Float → Float → Float → Float → Tick
+tickOf audio depth mix frequency sine0 sine1 sine2 =
     record { audio = audio; depth = depth; mix = mix; frequency = frequency; sine0 = sine0; sine1 = sine1; sine2 = sine2 }
 
 -- L: the whole part of rate × 32 / 1000, plus 10; 32 is 25 (MAX_MOD_DELAY_MS) and 7 (BASE_DELAY_MS)
 unfoldable pub lineLength : Float → ℕ
-lineLength rate = wholePart (div binary64 (mul binary64 rate (whole 32)) (whole 1000)) + 10
+lineLength rate = wholePart (div binary64 (mul binary64 rate (ofNat 32)) (ofNat 1000)) + 10
 
 -- three lines follow each other from place 0
 abbrev pub places : Float → ℕ
@@ -54,7 +54,7 @@ zeroPhases = record { phase0 = plusZero; phase1 = plusZero; phase2 = plusZero }
 
 -- the factor of voice i, from 0 on: 1 + (i − 1) × 0.1
 unfoldable pub factor : ℕ → Float
-factor i = add binary64 (whole 1) (mul binary64 (sub binary64 (whole i) (whole 1)) (fraction 1 10))
+factor i = add binary64 (ofNat 1) (mul binary64 (sub binary64 (ofNat i) (ofNat 1)) (fraction 1 10))
 
 -- a voice moves on by (frequency × its factor) / rate
 abbrev pub stepped : Float → Float → Float → Float → Float
@@ -87,8 +87,8 @@ abbrev pub blank : Chorus
 blank = cleared zeroPhases plusZero
 
 -- the state test, cause 4
-unfoldable pub fits : Chorus → Bool
-fits s =
+unfoldable pub stateFits : Chorus → Bool
+stateFits s =
     rateFits (s .«sample_rate»)
     && (ltb (s .«write_pos») (lineLength (s .«sample_rate»)) && (phaseFits (s .«lfo_phase0») && (phaseFits (s .«lfo_phase1») && phaseFits (s .«lfo_phase2»))))
 
@@ -105,20 +105,20 @@ abbrev pub input : Tick → Float
 input t = sanitized (valueOr (t .audio) plusZero)
 
 abbrev pub depth : Tick → Float
-depth t = clampOf (valueOr (t .depth) half) plusZero (whole 1)
+depth t = clampOf (valueOr (t .depth) half) plusZero (ofNat 1)
 
 abbrev pub mix : Tick → Float
-mix t = clampOf (valueOr (t .mix) half) plusZero (whole 1)
+mix t = clampOf (valueOr (t .mix) half) plusZero (ofNat 1)
 
 -- 7 × rate / 1000 + (sine × 0.5 + 0.5) × (depth × 25 × rate / 1000), clamped to 1 to L − 1
 unfoldable pub distance : Float → Float → Float → Float
 distance rate depth sine =
     clampOf
     (add binary64
-    (div binary64 (mul binary64 (whole 7) rate) (whole 1000))
-    (mul binary64 (add binary64 (mul binary64 sine half) half) (div binary64 (mul binary64 (mul binary64 depth (whole 25)) rate) (whole 1000))))
-    (whole 1)
-    (whole (lineLength rate - 1))
+    (div binary64 (mul binary64 (ofNat 7) rate) (ofNat 1000))
+    (mul binary64 (add binary64 (mul binary64 sine half) half) (div binary64 (mul binary64 (mul binary64 depth (ofNat 25)) rate) (ofNat 1000))))
+    (ofNat 1)
+    (ofNat (lineLength rate - 1))
 
 -- what voice i, counted from 0, reads in its own line, before the store
 unfoldable pub voice : ℕ → Float → Tick → Chorus → List Float → Float
@@ -132,7 +132,7 @@ mixed input mix d0 d1 d2 =
     let mono = add binary64 (add binary64 (add binary64 plusZero d0) d1) d2 in
     let left = add binary64 (add binary64 plusZero (mul binary64 d0 half)) d1 in
     let right = add binary64 (add binary64 plusZero (mul binary64 d0 half)) d2 in
-    blended input (div binary64 mono (whole 3)) mix ∷ blended input (div binary64 left (whole 2)) mix ∷ blended input (div binary64 right (whole 2)) mix ∷ []
+    blended input (div binary64 mono (ofNat 3)) mix ∷ blended input (div binary64 left (ofNat 2)) mix ∷ blended input (div binary64 right (ofNat 2)) mix ∷ []
 
 -- mono, left, right
 unfoldable pub samples : Tick → Chorus → List Float → List Float
@@ -163,7 +163,7 @@ chorus =
       Start = Float;
       Retune = Float;
       Tick = Tick;
-      fits = fits;
+      stateFits = stateFits;
       settings = λ s. s .«sample_rate»;
       startSettings = λ rate. rate;
       retuneSettings = λ rate old. rate;

@@ -4,14 +4,14 @@ ghost use mathlib.Core.Bool.{true, cond};
 ghost use Prim.Native.Nat.{_-_, _≤_, _<_};
 ghost use lib.ListN.{length};
 ghost use lib.Ieee.{binary64, add, mul};
-ghost use Rattle.float64.specs.Number.{whole, half, isNumber, rateFits, clampOf};
+ghost use Rattle.float64.specs.Number.{ofNat, half, isNumber, rateFits, clampOf};
 ghost use Rattle.port.specs.declared.Port.the-variants.{Set};
 ghost use Rattle.port.specs.Answer.{numberOf, outcomeReply, answerReply, silenceReply, played};
 ghost use Rattle.common.specs.Line.{lineAt, readAt, nextPlace};
 ghost use Rattle.effect.specs.Run.{tick, retune, reset, ask, startNumber, numberIn};
 ghost use Rattle.effect.specs.Contract.{Does, Starts};
 ghost use Rattle.effect.specs.Needed.{placesNeeded};
-ghost use Rattle.chorus.specs.Chorus.{chorus, ticked, lineLength, phasesOf, nextPhases, cleared, fresh, fits, mixed};
+ghost use Rattle.chorus.specs.Chorus.{chorus, tickOf, lineLength, phasesOf, nextPhases, cleared, fresh, stateFits, mixed};
 use port::Answer;
 use port::Outcome;
 use port::Port;
@@ -117,7 +117,7 @@ impl Chorus {
     // The state test, where n is the length of a line.
     fn state_fits(self, n: u64) -> bool
         requires { ⌜ n ≡ cond (rateFits (self .«sample_rate»)) (lineLength (self .«sample_rate»)) 0 ⌝ }
-        ensures { λ r. ⌜ r ≡ fits self ⌝ }
+        ensures { λ r. ⌜ r ≡ stateFits self ⌝ }
     {
         self.write_pos < n
             && (float64::phase_fits(self.lfo_phase0)
@@ -205,7 +205,7 @@ impl Chorus {
     fn distance(n: usize, base: f64, swing: f64, sine: f64) -> f64
         requires { ⌜ 2 ≤ n ⌝ }
         requires { ⌜ n ≤ 16777217 ⌝ }
-        ensures { λ r. ⌜ r ≡ clampOf (add binary64 base (mul binary64 (add binary64 (mul binary64 sine half) half) swing)) (whole 1) (whole (n - 1)) ⌝ }
+        ensures { λ r. ⌜ r ≡ clampOf (add binary64 base (mul binary64 (add binary64 (mul binary64 sine half) half) swing)) (ofNat 1) (ofNat (n - 1)) ⌝ }
     {
         let last = n - 1;
         float64::at_most(
@@ -220,7 +220,7 @@ impl Chorus {
         requires { ⌜ 2 ≤ length (now line) ⌝ }
         requires { ⌜ length (now line) ≤ 16777217 ⌝ }
         requires { ⌜ isNumber (add binary64 base (mul binary64 (add binary64 (mul binary64 sine half) half) swing)) ≡ true ⌝ }
-        ensures { λ r. ⌜ r ≡ readAt (lineAt 0 (length (now (line .entry))) w (now (line .entry))) (clampOf (add binary64 base (mul binary64 (add binary64 (mul binary64 sine half) half) swing)) (whole 1) (whole (length (now (line .entry)) - 1))) ⌝ }
+        ensures { λ r. ⌜ r ≡ readAt (lineAt 0 (length (now (line .entry))) w (now (line .entry))) (clampOf (add binary64 base (mul binary64 (add binary64 (mul binary64 sine half) half) swing)) (ofNat 1) (ofNat (length (now (line .entry)) - 1))) ⌝ }
     {
         common::read_interpolated(line, w, Chorus::distance(line.len(), base, swing, sine))
     }
@@ -270,8 +270,8 @@ impl Chorus {
         sine2: f64,
     ) -> Ticked
         requires { ⌜ n ≡ lineLength (self .«sample_rate») ⌝ }
-        requires { ⌜ numberIn chorus (tick (ticked (Set audio) (Set depth) (Set mix) frequency sine0 sine1 sine2)) (length (now mem)) self ≡ 0 ⌝ }
-        ensures { λ r. ⌜ Does chorus (tick (ticked (Set audio) (Set depth) (Set mix) frequency sine0 sine1 sine2)) self (now (mem .entry)) (r .state) (now (mem .exit)) (answerReply (r .answer)) ⌝ }
+        requires { ⌜ numberIn chorus (tick (tickOf (Set audio) (Set depth) (Set mix) frequency sine0 sine1 sine2)) (length (now mem)) self ≡ 0 ⌝ }
+        ensures { λ r. ⌜ Does chorus (tick (tickOf (Set audio) (Set depth) (Set mix) frequency sine0 sine1 sine2)) self (now (mem .entry)) (r .state) (now (mem .exit)) (answerReply (r .answer)) ⌝ }
     {
         let state = self.next(n, frequency);
         let rate = self.sample_rate;
@@ -304,7 +304,7 @@ impl Chorus {
         sine1: f64,
         sine2: f64,
     ) -> Ticked
-        ensures { λ r. ⌜ Does chorus (tick (ticked audio depth mix frequency sine0 sine1 sine2)) self (now (mem .entry)) (r .state) (now (mem .exit)) (answerReply (r .answer)) ⌝ }
+        ensures { λ r. ⌜ Does chorus (tick (tickOf audio depth mix frequency sine0 sine1 sine2)) self (now (mem .entry)) (r .state) (now (mem .exit)) (answerReply (r .answer)) ⌝ }
     {
         let n = Chorus::line_length(self.sample_rate);
         let refusal = self.refusal(n, mem.len());

@@ -11,7 +11,7 @@ use lib.ListN.{length, take, drop, length-drop}
 use lib.Seq.{length-take-le}
 use lib.Ieee.{Float, binary64, fits, isNan, le, lt, ofInt}
 use borrow.Author.Tests.{not-false, le-ltb}
-use Rattle.float64.specs.Number.{plusZero, whole, isNumber, clampOf, atLeast, atMost}
+use Rattle.float64.specs.Number.{plusZero, ofNat, isNumber, clampOf, atLeast, atMost}
 use Rattle.float64.proofs.Order.{le-lt-lt, le-transitive, le→not-lt}
 use Rattle.float64.proofs.Interval.{In, hi-fits}
 use Rattle.float64.proofs.Clamped.{clamp-in, clamp-halves}
@@ -44,21 +44,21 @@ size-tests false L w p e = rw (e, le-ltb w 0 zero-le)
 -- ---- distances
 
 -- a number of samples from 1 on is small enough for the quick whole part
-pub small : {x : Float} → In binary64 (whole 1) (whole 16777216) x → T (le (whole 1) x) × T (lt x (whole 9007199254740992))
+pub small : {x : Float} → In binary64 (ofNat 1) (ofNat 16777216) x → T (le (ofNat 1) x) × T (lt x (ofNat 9007199254740992))
 unfolding fits le lt ofInt
-small {x} i = (i .lower, le-lt-lt binary64 x (whole 16777216) (whole 9007199254740992) (i .fit) tt tt (i .upper) tt)
+small {x} i = (i .lower, le-lt-lt binary64 x (ofNat 16777216) (ofNat 9007199254740992) (i .fit) tt tt (i .upper) tt)
 
 -- the last place of a line is not below 1
-pub last-above : (M : ℕ) → M ≤ 2 ^ 24 → 1 ≤ M → lt (whole M) (whole 1) ≡ false
+pub last-above : (M : ℕ) → M ≤ 2 ^ 24 → 1 ≤ M → lt (ofNat M) (ofNat 1) ≡ false
 unfolding fits isNumber isNan ofInt
 last-above M h k =
-    let i = clamp-whole-in M h (whole 1) k refl in
-    let u = hi-fits binary64 (whole 1) (whole M) (i .ends-ok) in
-    le→not-lt binary64 (whole 1) (whole M) tt u (le-transitive binary64 (whole 1) _ (whole M) tt (i .fit) u (i .lower) (i .upper))
+    let i = clamp-whole-in M h (ofNat 1) k refl in
+    let u = hi-fits binary64 (ofNat 1) (ofNat M) (i .ends-ok) in
+    le→not-lt binary64 (ofNat 1) (ofNat M) tt u (le-transitive binary64 (ofNat 1) _ (ofNat M) tt (i .fit) u (i .lower) (i .upper))
 
 -- the clamp to 1 to M in two halves
-pub clamped-halves : (x : Float) (M : ℕ) → M ≤ 2 ^ 24 → 1 ≤ M → atMost (atLeast x (whole 1)) (whole M) ≡ clampOf x (whole 1) (whole M)
-clamped-halves x M h k = clamp-halves x (whole 1) (whole M) (last-above M h k)
+pub clamped-halves : (x : Float) (M : ℕ) → M ≤ 2 ^ 24 → 1 ≤ M → atMost (atLeast x (ofNat 1)) (ofNat M) ≡ clampOf x (ofNat 1) (ofNat M)
+clamped-halves x M h k = clamp-halves x (ofNat 1) (ofNat M) (last-above M h k)
 
 -- ---- controls
 
@@ -78,7 +78,7 @@ value-number (Set x) d h k = not-false (isNumber x) h
 value-number Unset d h k = k
 
 -- clamped, it lies from 0 to 1
-pub control-in : (p : Port) (d : Float) → isNanSet p ≡ false → isNumber d ≡ true → In binary64 plusZero (whole 1) (clampOf (valueOr p d) plusZero (whole 1))
+pub control-in : (p : Port) (d : Float) → isNanSet p ≡ false → isNumber d ≡ true → In binary64 plusZero (ofNat 1) (clampOf (valueOr p d) plusZero (ofNat 1))
 unfolding fits le ofInt
 control-in p d h k = clamp-in (valueOr p d) tt tt (value-number p d h k)
 

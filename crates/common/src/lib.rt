@@ -3,7 +3,7 @@ ghost use mathlib.Core.Path.{_≡_};
 ghost use mathlib.Core.Bool.{true};
 ghost use Prim.Native.Nat.{_-_, _≤_, _<_};
 ghost use lib.ListN.{length};
-ghost use Rattle.float64.specs.Number.{whole, inRange};
+ghost use Rattle.float64.specs.Number.{ofNat, inRange};
 ghost use Rattle.port.specs.Answer.{numberOf};
 ghost use Rattle.common.specs.Signal.{sanitized, blended, advanced, causeNumber};
 ghost use Rattle.common.specs.Line.{zeros, place, nextPlace, lineAt, readAt, allZero};
@@ -95,7 +95,7 @@ pub fn next_place(n: u64, w: u64) -> u64
 pub fn read_interpolated(line: &[f64], w: usize, distance: f64) -> f64
     requires { ⌜ w < length (now line) ⌝ }
     requires { ⌜ length (now line) ≤ 16777217 ⌝ }
-    requires { ⌜ inRange distance (whole 1) (whole (length (now line) - 1)) ≡ true ⌝ }
+    requires { ⌜ inRange distance (ofNat 1) (ofNat (length (now line) - 1)) ≡ true ⌝ }
     ensures { λ r. ⌜ r ≡ readAt (lineAt 0 (length (now (line .entry))) w (now (line .entry))) distance ⌝ }
 {
     let n = line.len();

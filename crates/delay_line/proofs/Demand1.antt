@@ -13,17 +13,17 @@ use Rattle.effect.proofs.Laws.{Laws, Below}
 use Rattle.effect.specs.Demand1.{Demand1}
 use Rattle.effect.proofs.Demand1.{demand-1}
 use Rattle.delay_line.specs.declared.DelayLine.{DelayLine}
-use Rattle.delay_line.specs.DelayLine.{Settings, Tick, delayLine, fits, settings, settingsNumber, maximumFits, cleared, blank, glideFits, tickNumber, next, writes, places}
+use Rattle.delay_line.specs.DelayLine.{Settings, Tick, delayLine, stateFits, settings, settingsNumber, maximumFits, cleared, blank, glideFits, tickNumber, next, writes, places}
 use Rattle.delay_line.proofs.Laws.{fits-parts, fit, held-fits, length-fits, size, tick-fits, distance-in}
 
 -- ---- the laws
 
-blank-refused : fits blank ≡ false
-unfolding fits inRange le ofInt Ieee.fits
+blank-refused : stateFits blank ≡ false
+unfolding stateFits inRange le ofInt Ieee.fits
 blank-refused = refl
 
 -- a clearing leaves a state that passes, where its settings fit
-cleared-fits : (k : Settings) → rateFits (k .rate) ≡ true → coefficientFits (k .coefficient) ≡ true → maximumFits (k .maximum) ≡ true → fits (cleared k) ≡ true
+cleared-fits : (k : Settings) → rateFits (k .rate) ≡ true → coefficientFits (k .coefficient) ≡ true → maximumFits (k .maximum) ≡ true → stateFits (cleared k) ≡ true
 unfolding glideFits isPlusZero Ieee.fits toBits
 cleared-fits k r c m =
     fit (cleared k) (record { rate = r; maximum = m; inside = omega (arith, length-fits (k .rate) (k .maximum) r m .0); coefficient = c; glide = refl })
@@ -33,7 +33,7 @@ row : (rate coefficient : Float) → settingsNumber rate coefficient ≡ 0 → (
 unfolding settingsNumber
 row rate coefficient e = none-1-2 (rateFits rate) (coefficientFits coefficient) e
 
-next-fits : (t : Tick) (s : DelayLine) → fits s ≡ true → tickNumber t (s .«linear_time») ≡ 0 → fits (next t s) ≡ true
+next-fits : (t : Tick) (s : DelayLine) → stateFits s ≡ true → tickNumber t (s .«linear_time») ≡ 0 → stateFits (next t s) ≡ true
 unfolding next glideFits
 next-fits t s e n =
     let f = fits-parts s e in
@@ -46,7 +46,7 @@ next-fits t s e n =
       glide = in-range (distance-in t s f (tick-fits t (s .«linear_time») n));
     })
 
-inside : (t : Tick) (s : DelayLine) (m : List Float) → fits s ≡ true → Below (places (settings s)) (writes t s m)
+inside : (t : Tick) (s : DelayLine) (m : List Float) → stateFits s ≡ true → Below (places (settings s)) (writes t s m)
 unfolding writes
 inside t s m e = (fits-parts s e .inside, tt)
 

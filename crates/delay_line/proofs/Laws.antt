@@ -12,7 +12,7 @@ use lib.Ieee as Ieee
 use lib.Ieee.Bits.{is-true}
 use lib.Ieee.Positive.{positive, between}
 use borrow.Author.Tests.{ltb-true, lt-ltb}
-use Rattle.float64.specs.Number.{plusZero, whole, fraction, half, isNumber, isFinite, inRange, rateFits, coefficientFits, clampOf}
+use Rattle.float64.specs.Number.{plusZero, ofNat, fraction, half, isNumber, isFinite, inRange, rateFits, coefficientFits, clampOf}
 use Rattle.float64.proofs.Tests.{clash, both}
 use Rattle.float64.proofs.Interval.{In, mul-in}
 use Rattle.float64.proofs.Ranges.{rate-in, range-in, in-range, in-number, finite-number}
@@ -31,12 +31,12 @@ use Rattle.common.proofs.Sweep.{size-is, size-some, size-tests, small, no-cause
 use Rattle.effect.specs.Effect.{laid}
 use Rattle.effect.specs.Run.{tick, first, memoryNumber, numberIn}
 use Rattle.delay_line.specs.declared.DelayLine.{DelayLine}
-use Rattle.delay_line.specs.DelayLine.{Tick, delayLine, ticked, heldMaximum, maximumFits, lineLength, glideFits, fits, tickNumber, delayMs, samplesOf, glided, readsAt, distance, delayedBy, delayed, moved, next, writes}
+use Rattle.delay_line.specs.DelayLine.{Tick, delayLine, tickOf, heldMaximum, maximumFits, lineLength, glideFits, stateFits, tickNumber, delayMs, samplesOf, glided, readsAt, distance, delayedBy, delayed, moved, next, writes}
 use Rattle.delay_line.specs.DelayLine as page
 
 -- ---- the maximum, and the length of the line
 
-maximum-in : {maximum : Float} → maximumFits maximum ≡ true → In binary64 (fraction 1 1000) (whole 60) maximum
+maximum-in : {maximum : Float} → maximumFits maximum ≡ true → In binary64 (fraction 1 1000) (ofNat 60) maximum
 unfolding Ieee.fits ofInt round
 maximum-in k = range-in tt k
 
@@ -45,7 +45,7 @@ pub held-fits : (x : Float) → maximumFits (heldMaximum x) ≡ true
 unfolding heldMaximum inRange Ieee.fits le ofInt round
 held-fits x = go (isFinite x) refl
   where
-    go : (b : Bool) → isFinite x ≡ b → maximumFits (cond b (clampOf x (fraction 1 1000) (whole 60)) (whole 2)) ≡ true
+    go : (b : Bool) → isFinite x ≡ b → maximumFits (cond b (clampOf x (fraction 1 1000) (ofNat 60)) (ofNat 2)) ≡ true
     go true f = in-range (clamp-in x tt tt (finite-number x f))
     go false f = refl
 
@@ -55,9 +55,9 @@ module _ (rate maximum : Float) (h : rateFits rate ≡ true) (k : maximumFits ma
   length-fits = let l = line-length rate h (maximum-in k) in (omega (arith, l .0), l .1)
 
   -- rate × maximum is small enough for the quick whole part
-  pub samples-small : T (le (whole 1) (mul binary64 rate maximum)) × T (lt (mul binary64 rate maximum) (whole 9007199254740992))
+  pub samples-small : T (le (ofNat 1) (mul binary64 rate maximum)) × T (lt (mul binary64 rate maximum) (ofNat 9007199254740992))
   unfolding Ieee.fits le lt mul ofInt round
-  samples-small = small (mul-in (whole 1) (whole 16777216) tt tt tt (rate-in h) (maximum-in k))
+  samples-small = small (mul-in (ofNat 1) (ofNat 16777216) tt tt tt (rate-in h) (maximum-in k))
 
 -- where the maximum fits, whether there is a length is by the rate alone
 pub rate-size : (rate maximum : Float) {n : ℕ} → maximumFits maximum ≡ true → n ≡ cond (rateFits rate && maximumFits maximum) (lineLength rate maximum) 0
@@ -78,8 +78,8 @@ size s = lineLength (s .«sample_rate») (s .«max_delay_secs»)
 
 -- by the length n of the line, as `line_length` answers it
 pub fits-by : (s : DelayLine) {n : ℕ} → n ≡ cond (sizeFits s) (size s) 0
-    → fits s ≡ ltb (s .«write_pos») n && (coefficientFits (s .«delay_smooth_coef») && glideFits (s .«delay_primed») (s .«smoothed_delay») n)
-unfolding fits
+    → stateFits s ≡ ltb (s .«write_pos») n && (coefficientFits (s .«delay_smooth_coef») && glideFits (s .«delay_primed») (s .«smoothed_delay») n)
+unfolding stateFits
 fits-by s e = size-tests (sizeFits s) (size s) (s .«write_pos») (λ n. coefficientFits (s .«delay_smooth_coef») && glideFits (s .«delay_primed») (s .«smoothed_delay») n) e
 
 -- where a position lies below it, it is a length
@@ -98,8 +98,8 @@ pub record Fits (s : DelayLine) : Type 0 where
   pub glide : glideFits (s .«delay_primed») (s .«smoothed_delay») (size s) ≡ true
 
 module _ (s : DelayLine) where
-  pub fits-parts : fits s ≡ true → Fits s
-  unfolding fits
+  pub fits-parts : stateFits s ≡ true → Fits s
+  unfolding stateFits
   fits-parts e =
       let w = ltb (s .«write_pos») (size s) in
       let c = coefficientFits (s .«delay_smooth_coef») in
@@ -110,12 +110,12 @@ module _ (s : DelayLine) where
       let d = both c g (b .1) in
       record { rate = k .0; maximum = k .1; inside = ltb-true (s .«write_pos») (size s) (b .0); coefficient = d .0; glide = d .1 }
 
-  pub fit : Fits s → fits s ≡ true
-  unfolding fits
+  pub fit : Fits s → stateFits s ≡ true
+  unfolding stateFits
   fit f = rw (f .rate, f .maximum, lt-ltb (s .«write_pos») (size s) (f .inside), f .coefficient, f .glide)
 
   -- past the test n is the length of the line
-  pub size-fits : {n : ℕ} → n ≡ cond (sizeFits s) (size s) 0 → fits s ≡ true → n ≡ size s
+  pub size-fits : {n : ℕ} → n ≡ cond (sizeFits s) (size s) 0 → stateFits s ≡ true → n ≡ size s
   size-fits e h = let f = fits-parts h in size-is (sizeFits s) (size s) e (rw (f .rate, f .maximum))
 
 -- ---- causes 5 and 6
@@ -135,7 +135,7 @@ tick-fits t linear e =
 -- a tick whose ports are set to the numbers that it takes from them has the same row
 module _ (t : Tick) (linear : Bool) {c f b : Float} (time : c ≡ valueOr (t .time) half) (back : f ≡ valueOr (t .feedback) plusZero) (wet : b ≡ valueOr (t .mix) half) where
   abbrev pub setTick : Tick
-  setTick = ticked Unset (Set c) (Set f) (Set b) (t .milliseconds)
+  setTick = tickOf Unset (Set c) (Set f) (Set b) (t .milliseconds)
 
   pub set-row : tickNumber setTick linear ≡ tickNumber t linear
   unfolding tickNumber isNumber Ieee.fits isNan round
@@ -146,8 +146,8 @@ module _ (t : Tick) (linear : Bool) {c f b : Float} (time : c ≡ valueOr (t .ti
       λ i. causeNumber (linear && x i || (y i || z i)) (linear || isNumber (t .milliseconds))
 
   pub set-number : (n : ℕ) (s : DelayLine) → s .«linear_time» ≡ linear → numberIn delayLine (tick setTick) n s ≡ numberIn delayLine (tick t) n s
-  unfolding fits
-  set-number n s e = rw e (ap (λ (k : ℕ). cond (fits s) (first (memoryNumber (size s) n) k) 4) set-row)
+  unfolding stateFits
+  set-number n s e = rw e (ap (λ (k : ℕ). cond (stateFits s) (first (memoryNumber (size s) n) k) 4) set-row)
 
   -- none of its numbers is NaN
   pub no-nan : cond linear (isNumber c) (isNumber (t .milliseconds)) ≡ true → isNumber f ≡ true → isNumber b ≡ true → tickNumber setTick linear ≡ 0
@@ -172,7 +172,7 @@ nan-none : (rate : Float) → isNumber (samplesOf rate nan) ≡ false
 unfolding samplesOf isNumber isNan mul div Ieee.fits
 nan-none rate = refl
 
-nan-clamped : (maximum : Float) → mul binary64 (clampOf nan plusZero maximum) (whole 1000) ≡ nan
+nan-clamped : (maximum : Float) → mul binary64 (clampOf nan plusZero maximum) (ofNat 1000) ≡ nan
 unfolding clampOf lt mul
 nan-clamped maximum = rw (below-nan maximum)
 
@@ -182,7 +182,7 @@ plain-read rate nan h e = clash e (nan-none rate)
 plain-read rate (inf s) h e = rw (is-true (Ieee.fits binary64 (inf s)) h)
 plain-read rate (fin s m d) h e = rw (is-true (Ieee.fits binary64 (fin s m d)) h)
 
-pub linear-read : (rate time maximum : Float) → T (Ieee.fits binary64 time) → isNumber (samplesOf rate (mul binary64 (clampOf time plusZero maximum) (whole 1000))) ≡ true → isNumber time ≡ true
+pub linear-read : (rate time maximum : Float) → T (Ieee.fits binary64 time) → isNumber (samplesOf rate (mul binary64 (clampOf time plusZero maximum) (ofNat 1000))) ≡ true → isNumber time ≡ true
 unfolding isNumber isNan
 linear-read rate nan maximum h e = clash e (ap (λ (y : Float). isNumber (samplesOf rate y)) (nan-clamped maximum) ∙ nan-none rate)
 linear-read rate (inf s) maximum h e = rw (is-true (Ieee.fits binary64 (inf s)) h)
@@ -197,55 +197,55 @@ module _ (t : Tick) (s : DelayLine) (f : Fits s) (k : TickFits t (s .«linear_ti
   ms-number = go (s .«linear_time») refl
     where
       go : (b : Bool) → s .«linear_time» ≡ b
-          → isNumber (cond b (mul binary64 (clampOf (valueOr (t .time) half) plusZero (s .«max_delay_secs»)) (whole 1000)) (t .milliseconds)) ≡ true
-      go true e = mul-number _ (whole 1000) (clamp-number _ plusZero _ (value-number (t .time) half (k .time e) refl) refl (in-number (maximum-in (f .maximum)))) tt
+          → isNumber (cond b (mul binary64 (clampOf (valueOr (t .time) half) plusZero (s .«max_delay_secs»)) (ofNat 1000)) (t .milliseconds)) ≡ true
+      go true e = mul-number _ (ofNat 1000) (clamp-number _ plusZero _ (value-number (t .time) half (k .time e) refl) refl (in-number (maximum-in (f .maximum)))) tt
       go false e = k .milliseconds e
 
   pub samples-number : isNumber (samplesOf (s .«sample_rate») (delayMs t s)) ≡ true
   unfolding samplesOf ofInt
   samples-number =
       let r = rate-in (f .rate) in
-      let p : T (positive (s .«sample_rate»)) = between (whole 8000) (s .«sample_rate») (whole 192000) tt tt (r .lower) (r .upper) in
-      div-number _ (whole 1000) (mul-number (delayMs t s) (s .«sample_rate») ms-number p) tt
+      let p : T (positive (s .«sample_rate»)) = between (ofNat 8000) (s .«sample_rate») (ofNat 192000) tt tt (r .lower) (r .upper) in
+      div-number _ (ofNat 1000) (mul-number (delayMs t s) (s .«sample_rate») ms-number p) tt
 
 module _ (s : DelayLine) (f : Fits s) (x : Float) (k : isNumber x ≡ true) where
-  target-in : In binary64 (whole 1) (whole (size s - 1)) (clampOf x (whole 1) (whole (size s - 1)))
+  target-in : In binary64 (ofNat 1) (ofNat (size s - 1)) (clampOf x (ofNat 1) (ofNat (size s - 1)))
   target-in =
       let l = length-fits (s .«sample_rate») (s .«max_delay_secs») (f .rate) (f .maximum) in
       clamp-whole-in (size s - 1) (omega (arith, l .1)) x (omega (arith, l .0)) k
 
   -- the distance stays from 1 to L − 1 by itself, rounding included: so both places that are read lie in the line
-  pub reads-in : In binary64 (whole 1) (whole (size s - 1)) (readsAt s x)
+  pub reads-in : In binary64 (ofNat 1) (ofNat (size s - 1)) (readsAt s x)
   unfolding readsAt glided glideFits
   reads-in = go (s .«delay_primed») (f .glide)
     where
       target : Float
-      target = clampOf x (whole 1) (whole (size s - 1))
+      target = clampOf x (ofNat 1) (ofNat (size s - 1))
 
       go : (b : Bool) → glideFits b (s .«smoothed_delay») (size s) ≡ true
-          → In binary64 (whole 1) (whole (size s - 1)) (glided b (s .«smoothed_delay») (s .«delay_smooth_coef») target)
+          → In binary64 (ofNat 1) (ofNat (size s - 1)) (glided b (s .«smoothed_delay») (s .«delay_smooth_coef») target)
       go true g =
           let l = length-fits (s .«sample_rate») (s .«max_delay_secs») (f .rate) (f .maximum) in
           glide-in (size s - 1) (s .«delay_smooth_coef») (omega (arith, l .1)) target-in (range-in (whole-ends (size s - 1) (omega (arith, l .1))) g) (f .coefficient)
       go false g = target-in
 
   -- by the length n of the line and the distance d that the code works out
-  pub in-line : {n : ℕ} {d : Float} → n ≡ size s → d ≡ readsAt s x → inRange d (whole 1) (whole (n - 1)) ≡ true
-  in-line e g = (λ i. inRange (g i) (whole 1) (whole (e i - 1))) ∙ in-range reads-in
+  pub in-line : {n : ℕ} {d : Float} → n ≡ size s → d ≡ readsAt s x → inRange d (ofNat 1) (ofNat (n - 1)) ≡ true
+  in-line e g = (λ i. inRange (g i) (ofNat 1) (ofNat (e i - 1))) ∙ in-range reads-in
 
-pub distance-in : (t : Tick) (s : DelayLine) → Fits s → TickFits t (s .«linear_time») → In binary64 (whole 1) (whole (size s - 1)) (distance t s)
+pub distance-in : (t : Tick) (s : DelayLine) → Fits s → TickFits t (s .«linear_time») → In binary64 (ofNat 1) (ofNat (size s - 1)) (distance t s)
 unfolding distance
 distance-in t s f k = reads-in s f (samplesOf (s .«sample_rate») (delayMs t s)) (samples-number t s f k)
 
 -- ---- an accepted tick from its steps
 
 module _ (s : DelayLine) (x : Float) {n : ℕ} (e : n ≡ size s) where
-  pub reads-is : {target d : Float} → target ≡ clampOf x (whole 1) (whole (n - 1))
+  pub reads-is : {target d : Float} → target ≡ clampOf x (ofNat 1) (ofNat (n - 1))
       → d ≡ glided (s .«delay_primed») (s .«smoothed_delay») (s .«delay_smooth_coef») target
       → d ≡ readsAt s x
   unfolding readsAt
   reads-is b c =
-      c ∙ (λ i. glided (s .«delay_primed») (s .«smoothed_delay») (s .«delay_smooth_coef») ((b ∙ (λ j. clampOf x (whole 1) (whole (e j - 1)))) i))
+      c ∙ (λ i. glided (s .«delay_primed») (s .«smoothed_delay») (s .«delay_smooth_coef») ((b ∙ (λ j. clampOf x (ofNat 1) (ofNat (e j - 1)))) i))
 
   -- a read in the line's part of the memory is what the tick reads
   pub delayed-is : (m : List Float) {d y : Float} → n ≤ length m → s .«write_pos» < n → d ≡ readsAt s x
@@ -256,10 +256,10 @@ module _ (s : DelayLine) (x : Float) {n : ℕ} (e : n ≡ size s) where
       r ∙ part-read n 0 n (s .«write_pos») m d refl (omega (arith, l)) h ∙ (λ i. readAt (lineAt 0 (e i) (s .«write_pos») m) (a i))
 
 -- the tick as its page has it, from the numbers that it takes from its ports and its delay in samples
-module _ (t : Tick) (s : DelayLine) (m : List Float) {a c f b x : Float} (audio : a ≡ valueOr (t .audio) plusZero) (time : c ≡ valueOr (t .time) half) (back : f ≡ valueOr (t .feedback) plusZero) (wet : b ≡ valueOr (t .mix) half) (read : x ≡ samplesOf (s .«sample_rate») (cond (s .«linear_time») (mul binary64 (clampOf c plusZero (s .«max_delay_secs»)) (whole 1000)) (t .milliseconds))) where
+module _ (t : Tick) (s : DelayLine) (m : List Float) {a c f b x : Float} (audio : a ≡ valueOr (t .audio) plusZero) (time : c ≡ valueOr (t .time) half) (back : f ≡ valueOr (t .feedback) plusZero) (wet : b ≡ valueOr (t .mix) half) (read : x ≡ samplesOf (s .«sample_rate») (cond (s .«linear_time») (mul binary64 (clampOf c plusZero (s .«max_delay_secs»)) (ofNat 1000)) (t .milliseconds))) where
   samples-are : x ≡ samplesOf (s .«sample_rate») (delayMs t s)
   unfolding delayMs
-  samples-are = read ∙ (λ i. samplesOf (s .«sample_rate») (cond (s .«linear_time») (mul binary64 (clampOf (time i) plusZero (s .«max_delay_secs»)) (whole 1000)) (t .milliseconds)))
+  samples-are = read ∙ (λ i. samplesOf (s .«sample_rate») (cond (s .«linear_time») (mul binary64 (clampOf (time i) plusZero (s .«max_delay_secs»)) (ofNat 1000)) (t .milliseconds)))
 
   pub next-is : {n : ℕ} {r : DelayLine} → n ≡ size s → r ≡ moved n (readsAt s x) s → r ≡ next t s
   unfolding next distance
@@ -269,6 +269,6 @@ module _ (t : Tick) (s : DelayLine) (m : List Float) {a c f b x : Float} (audio 
   unfolding writes delayed
   stored-is g = g ∙ (λ i. set m (s .«write_pos») (add binary64 (sanitized (audio i)) (mul binary64 (delayedBy s (samples-are i) m) (clampOf (back i) plusZero (fraction 99 100)))))
 
-  pub played-is : {q : Reply} → q ≡ played (blended (sanitized a) (delayedBy s x m) (clampOf b plusZero (whole 1)) ∷ []) → q ≡ played (page.samples t s m)
+  pub played-is : {q : Reply} → q ≡ played (blended (sanitized a) (delayedBy s x m) (clampOf b plusZero (ofNat 1)) ∷ []) → q ≡ played (page.samples t s m)
   unfolding page.samples delayed
-  played-is g = g ∙ (λ i. played (blended (sanitized (audio i)) (delayedBy s (samples-are i) m) (clampOf (wet i) plusZero (whole 1)) ∷ []))
+  played-is g = g ∙ (λ i. played (blended (sanitized (audio i)) (delayedBy s (samples-are i) m) (clampOf (wet i) plusZero (ofNat 1)) ∷ []))

@@ -5,14 +5,14 @@ ghost use Prim.Native.Nat.{_-_, _≤_, _<_};
 ghost use mathlib.Core.List.{[], _∷_};
 ghost use lib.ListN.{length, set};
 ghost use lib.Ieee.{binary64, add, mul};
-ghost use Rattle.float64.specs.Number.{plusZero, whole, fraction, isNumber, rateFits, clampOf};
+ghost use Rattle.float64.specs.Number.{plusZero, ofNat, fraction, isNumber, rateFits, clampOf};
 ghost use Rattle.port.specs.declared.Port.the-variants.{Set, Unset};
 ghost use Rattle.port.specs.Answer.{played, numberOf, outcomeReply, answerReply, silenceReply};
 ghost use Rattle.common.specs.Signal.{sanitized, blended};
 ghost use Rattle.effect.specs.Run.{tick, retune, reset, ask, first, memoryNumber, numberIn};
 ghost use Rattle.effect.specs.Contract.{Does, Starts};
 ghost use Rattle.effect.specs.Needed.{placesNeeded};
-ghost use Rattle.delay_line.specs.DelayLine.{delayLine, handing, startSettings, retuning, ticked, heldMaximum, settingsNumber, maximumFits, lineLength, cleared, glideFits, fits, samplesOf, glided, readsAt, delayedBy, moved};
+ghost use Rattle.delay_line.specs.DelayLine.{delayLine, handing, startSettings, retuning, tickOf, heldMaximum, settingsNumber, maximumFits, lineLength, cleared, glideFits, stateFits, samplesOf, glided, readsAt, delayedBy, moved};
 use port::Answer;
 use port::Outcome;
 use port::Port;
@@ -149,7 +149,7 @@ impl DelayLine {
     fn last(n: u64) -> f64
         requires { ⌜ 1 ≤ n ⌝ }
         requires { ⌜ n ≤ 11520001 ⌝ }
-        ensures { λ r. ⌜ r ≡ whole (n - 1) ⌝ }
+        ensures { λ r. ⌜ r ≡ ofNat (n - 1) ⌝ }
     {
         std::num::nearest_u64_to_f64((n - 1) as u32 as u64)
     }
@@ -169,7 +169,7 @@ impl DelayLine {
     // The state test, where n is the length of the line.
     fn state_fits(self, n: u64) -> bool
         requires { ⌜ n ≡ cond (rateFits (self .«sample_rate») && maximumFits (self .«max_delay_secs»)) (lineLength (self .«sample_rate») (self .«max_delay_secs»)) 0 ⌝ }
-        ensures { λ r. ⌜ r ≡ fits self ⌝ }
+        ensures { λ r. ⌜ r ≡ stateFits self ⌝ }
     {
         if self.write_pos >= n {
             return false;
@@ -259,7 +259,7 @@ impl DelayLine {
     fn target_delay(n: u64, samples: f64) -> f64
         requires { ⌜ 2 ≤ n ⌝ }
         requires { ⌜ n ≤ 11520001 ⌝ }
-        ensures { λ r. ⌜ r ≡ clampOf samples (whole 1) (whole (n - 1)) ⌝ }
+        ensures { λ r. ⌜ r ≡ clampOf samples (ofNat 1) (ofNat (n - 1)) ⌝ }
     {
         float64::at_most(float64::at_least(samples, 1.0), DelayLine::last(n))
     }
@@ -278,7 +278,7 @@ impl DelayLine {
     // The delay in samples, not yet held to the line: milliseconds x rate / 1000, in linear mode of the time port's seconds, else of those handed. It is
     // NaN where what it is read from is.
     fn delay_samples(self, time: f64, milliseconds: f64) -> f64
-        ensures { λ r. ⌜ r ≡ samplesOf (self .«sample_rate») (cond (self .«linear_time») (mul binary64 (clampOf time plusZero (self .«max_delay_secs»)) (whole 1000)) milliseconds) ⌝ }
+        ensures { λ r. ⌜ r ≡ samplesOf (self .«sample_rate») (cond (self .«linear_time») (mul binary64 (clampOf time plusZero (self .«max_delay_secs»)) (ofNat 1000)) milliseconds) ⌝ }
         ensures { λ r. ⌜ (isNumber r ≡ true → cond (self .«linear_time») (isNumber time) (isNumber milliseconds) ≡ true) ⌝ }
     {
         if self.linear_time {
@@ -299,7 +299,7 @@ impl DelayLine {
         milliseconds: f64,
     ) -> Outcome
         requires { ⌜ n ≡ cond (rateFits (self .«sample_rate») && maximumFits (self .«max_delay_secs»)) (lineLength (self .«sample_rate») (self .«max_delay_secs»)) 0 ⌝ }
-        ensures { λ r. ⌜ numberOf r ≡ numberIn delayLine (tick (ticked Unset (Set time) (Set feedback) (Set mix) milliseconds)) places self ⌝ }
+        ensures { λ r. ⌜ numberOf r ≡ numberIn delayLine (tick (tickOf Unset (Set time) (Set feedback) (Set mix) milliseconds)) places self ⌝ }
     {
         let refusal = self.refusal(n, places);
         if let Outcome::Refused(cause) = refusal {
@@ -339,11 +339,11 @@ impl DelayLine {
         mix: f64,
     ) -> Ticked
         requires { ⌜ n ≡ lineLength (self .«sample_rate») (self .«max_delay_secs») ⌝ }
-        requires { ⌜ fits self ≡ true ⌝ }
+        requires { ⌜ stateFits self ≡ true ⌝ }
         requires { ⌜ n ≤ length (now mem) ⌝ }
         requires { ⌜ isNumber samples ≡ true ⌝ }
         ensures { λ r. ⌜ r .state ≡ moved n (readsAt self samples) self ⌝ }
-        ensures { λ r. ⌜ answerReply (r .answer) ≡ played (blended (sanitized audio) (delayedBy self samples (now (mem .entry))) (clampOf mix plusZero (whole 1)) ∷ []) ⌝ }
+        ensures { λ r. ⌜ answerReply (r .answer) ≡ played (blended (sanitized audio) (delayedBy self samples (now (mem .entry))) (clampOf mix plusZero (ofNat 1)) ∷ []) ⌝ }
         ensures { λ _. ⌜ now (mem .exit) ≡ set (now (mem .entry)) (self .«write_pos») (add binary64 (sanitized audio) (mul binary64 (delayedBy self samples (now (mem .entry))) (clampOf feedback plusZero (fraction 99 100)))) ⌝ }
     {
         let target = DelayLine::target_delay(n, samples);
@@ -373,7 +373,7 @@ impl DelayLine {
         mix: Port,
         milliseconds: f64,
     ) -> Ticked
-        ensures { λ r. ⌜ Does delayLine (tick (ticked audio time feedback mix milliseconds)) self (now (mem .entry)) (r .state) (now (mem .exit)) (answerReply (r .answer)) ⌝ }
+        ensures { λ r. ⌜ Does delayLine (tick (tickOf audio time feedback mix milliseconds)) self (now (mem .entry)) (r .state) (now (mem .exit)) (answerReply (r .answer)) ⌝ }
     {
         let audio = if let Port::Set(x) = audio { x } else { 0.0 };
         let time = if let Port::Set(x) = time { x } else { 0.5 };

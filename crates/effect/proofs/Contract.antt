@@ -10,7 +10,7 @@ use lib.Ieee.{Float}
 use Rattle.port.specs.Answer.{Reply, done, refused}
 use Rattle.common.specs.Line.{zeros}
 use Rattle.effect.specs.Effect.{Effect}
-use Rattle.effect.specs.Run.{tick, reset, ask, CallOf, Device, memoryNumber, startNumber, numberFor, numberIn, moved, says}
+use Rattle.effect.specs.Run.{tick, reset, ask, CallOf, Device, memoryNumber, startNumber, numberFor, numberIn, changed, says}
 use Rattle.effect.specs.Contract.{Does, Starts}
 use Rattle.effect.proofs.Table.{ifNone-some, first-some}
 
@@ -20,7 +20,7 @@ module _ (E : Effect) (c : CallOf E) (s : E .State) (m : List Float) where
   pub refuses : (k : ℕ) → k ≡ numberIn E c (length m) s → k ≢ 0 → Does E c s m s m (refused k)
   refuses k e some =
       let h : Device (E .State) = record { state = s; memory = m } in
-      let stays = ifNone-some k (moved E c h) h some in
+      let stays = ifNone-some k (changed E c h) h some in
       record {
         state = rw (← e) (sym (ap (λ (u : Device (E .State)). u .state) stays));
         memory = rw (← e) (sym (ap (λ (u : Device (E .State)). u .memory) stays));
@@ -28,8 +28,8 @@ module _ (E : Effect) (c : CallOf E) (s : E .State) (m : List Float) where
       }
 
   pub accepts : {s' : E .State} {m' : List Float} {a : Reply} → numberIn E c (length m) s ≡ 0
-      → s' ≡ moved E c (record { state = s; memory = m }) .state
-      → m' ≡ moved E c (record { state = s; memory = m }) .memory
+      → s' ≡ changed E c (record { state = s; memory = m }) .state
+      → m' ≡ changed E c (record { state = s; memory = m }) .memory
       → a ≡ says E c (record { state = s; memory = m })
       → Does E c s m s' m' a
   accepts e p q r = record { state = rw e p; memory = rw e q; answer = rw e r }
@@ -64,24 +64,24 @@ module _ (E : Effect) (n : ℕ) (x : E .Start) where
 
 module _ (E : Effect) (n : ℕ) (s : E .State) where
   -- 4, of any call after the start
-  pub state-refused : (c : CallOf E) → E .fits s ≡ false → _≡_ {A = ℕ} 4 (numberIn E c n s)
+  pub state-refused : (c : CallOf E) → E .stateFits s ≡ false → _≡_ {A = ℕ} 4 (numberIn E c n s)
   state-refused c e = rw e
 
   -- without it the rest of the call's row decides
-  pub state-passed : (c : CallOf E) {k : ℕ} → E .fits s ≡ true → k ≡ numberFor E c n (E .settings s) → k ≡ numberIn E c n s
+  pub state-passed : (c : CallOf E) {k : ℕ} → E .stateFits s ≡ true → k ≡ numberFor E c n (E .settings s) → k ≡ numberIn E c n s
   state-passed c f e = rw f e
 
   -- reset and silent 3
-  pub reset-memory : {k : ℕ} → E .fits s ≡ true → k ≡ memoryNumber (E .places (E .settings s)) n → k ≡ numberIn E reset n s
+  pub reset-memory : {k : ℕ} → E .stateFits s ≡ true → k ≡ memoryNumber (E .places (E .settings s)) n → k ≡ numberIn E reset n s
   reset-memory f e = rw f e
 
-  pub ask-memory : {k : ℕ} → E .fits s ≡ true → k ≡ memoryNumber (E .places (E .settings s)) n → k ≡ numberIn E ask n s
+  pub ask-memory : {k : ℕ} → E .stateFits s ≡ true → k ≡ memoryNumber (E .places (E .settings s)) n → k ≡ numberIn E ask n s
   ask-memory f e = rw f e
 
   -- tick 3; 5 and 6
-  pub tick-memory : (t : E .Tick) {k : ℕ} → E .fits s ≡ true → k ≡ memoryNumber (E .places (E .settings s)) n → k ≢ 0 → k ≡ numberIn E (tick t) n s
+  pub tick-memory : (t : E .Tick) {k : ℕ} → E .stateFits s ≡ true → k ≡ memoryNumber (E .places (E .settings s)) n → k ≢ 0 → k ≡ numberIn E (tick t) n s
   tick-memory t {k} f e some = rw (f, ← e) (sym (first-some k (E .tickNumber t (E .settings s)) some))
 
-  pub tick-number : (t : E .Tick) {k : ℕ} → E .fits s ≡ true → 0 ≡ memoryNumber (E .places (E .settings s)) n → k ≡ E .tickNumber t (E .settings s)
+  pub tick-number : (t : E .Tick) {k : ℕ} → E .stateFits s ≡ true → 0 ≡ memoryNumber (E .places (E .settings s)) n → k ≡ E .tickNumber t (E .settings s)
       → k ≡ numberIn E (tick t) n s
   tick-number t f z e = rw (f, ← z) e

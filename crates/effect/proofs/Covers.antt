@@ -5,7 +5,7 @@ use mathlib.Core.Bool.{Bool, true, false, not, cond}
 use mathlib.Core.List.{List, [], _∷_}
 use borrow.Author.Tests.{not-false}
 use Rattle.effect.specs.Effect.{Effect}
-use Rattle.effect.specs.Run.{tick, retune, reset, ask, CallOf, Device, ifNone, numberFor, step, after, left}
+use Rattle.effect.specs.Run.{tick, retune, reset, ask, CallOf, Device, ifNone, numberFor, step, after, final}
 use Rattle.effect.specs.Later.{isRefusal, idles, Among, end, later, idle}
 use Rattle.effect.specs.Covers.{isClearing, beforeClearing, taken, laterTicks, Covers}
 use Rattle.effect.proofs.Laws.{Laws}
@@ -97,5 +97,5 @@ module _ (E : Effect) (laws : Laws E) where
       record {
         all = all E;
         only = λ n k ts cs a. (before-all E n k a, (choices E n k a, choices-take E n k a));
-        numbers = λ x ts cs a c. number-is E c (after-in E laws cs (run-in E laws x)) (same-settings a (left E x) (run-in E laws x) refl);
+        numbers = λ x ts cs a c. number-is E c (after-in E laws cs (run-in E laws x)) (same-settings a (final E x) (run-in E laws x) refl);
       }

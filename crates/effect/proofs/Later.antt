@@ -6,15 +6,15 @@ use mathlib.Core.Bool.{true}
 use mathlib.Core.List.{List, [], _∷_}
 use Rattle.port.specs.Answer.{Reply, played, refused}
 use Rattle.effect.specs.Effect.{Effect}
-use Rattle.effect.specs.Run.{tick, retune, reset, ask, CallOf, Device, ifNone, numberFor, moved, says, step, reply, replies}
+use Rattle.effect.specs.Run.{tick, retune, reset, ask, CallOf, Device, ifNone, numberFor, changed, says, step, reply, replies}
 use Rattle.effect.specs.Lines.{Lines}
 use Rattle.effect.specs.Past.{Past, put}
 use Rattle.effect.specs.Later.{isRefusal, idles, Among, end, later, idle, picked}
 use Rattle.effect.proofs.Laws.{Laws}
 use Rattle.effect.proofs.LineLaws.{LineLaws}
 use Rattle.effect.proofs.Table.{ifNone-both, memory-enough}
-use Rattle.effect.proofs.Runs.{InRun, number-is, moved-in}
-use Rattle.effect.proofs.Past.{Shows, moved-shows}
+use Rattle.effect.proofs.Runs.{InRun, number-is, changed-in}
+use Rattle.effect.proofs.Past.{Shows, changed-shows}
 
 -- the replies to ticks, by the recent past and the phases
 pub heard : (E : Effect) (I : Lines E) → LineLaws E I → Past (E .Settings) → I .Phase → List (E .Tick) → List Reply
@@ -33,10 +33,10 @@ pub idle-still : (E : Effect) {n : ℕ} {h : Device (E .State)} {k : E .Settings
     → idles c (numberFor E c n k) ≡ true → step E c h ≡ h
 idle-still E {n} {h} {k} c r e i = rw (number-is E c r e) (go c (numberFor E c n k) i)
   where
-    go : (c : CallOf E) (a : ℕ) → idles c a ≡ true → ifNone a (moved E c h) h ≡ h
-    go (tick t) a f = refusal-skips a (moved E (tick t) h) h f
-    go (retune b) a f = refusal-skips a (moved E (retune b) h) h f
-    go reset a f = refusal-skips a (moved E reset h) h f
+    go : (c : CallOf E) (a : ℕ) → idles c a ≡ true → ifNone a (changed E c h) h ≡ h
+    go (tick t) a f = refusal-skips a (changed E (tick t) h) h f
+    go (retune b) a f = refusal-skips a (changed E (retune b) h) h f
+    go reset a f = refusal-skips a (changed E reset h) h f
     go ask a f = ifNone-both (λ u. u ≡ h) a refl refl
 
 module _ (E : Effect) (I : Lines E) (laws : Laws E) (lined : LineLaws E I) where
@@ -59,15 +59,15 @@ module _ (E : Effect) (I : Lines E) (laws : Laws E) (lined : LineLaws E I) where
       s = h .state
 
       go : (a : ℕ) → E .tickNumber t (p .settings) ≡ a
-          → ifNone a (says E (tick t) h) (refused a) ∷ rest (ifNone a (moved E (tick t) h) h)
+          → ifNone a (says E (tick t) h) (refused a) ∷ rest (ifNone a (changed E (tick t) h) h)
           ≡ ifNone a
           (played (lined .played t (p .settings) (I .phase s) (p .samples)) ∷ heard E I lined (put E I (tick t) p) (lined .advanced t (p .settings) (I .phase s)) ts)
           (refused a ∷ heard E I lined p (I .phase s) ts)
       go zero e =
           let e' = ap (λ (k : E .Settings). E .tickNumber t k) (v .settings) ∙ e in
-          let r' = moved-in E laws (tick t) r (ap (λ (k : E .Settings). numberFor E (tick t) n k) (v .settings) ∙ tick-number-by t r v ∙ e) in
-          let plays = lined .plays t s (h .memory) (p .samples) (r .fits) (omega (arith, r .enough, r .size)) e' (v .lines) in
-          let heard-on = on (moved E (tick t) h) (put E I (tick t) p) r' (moved-shows E I laws lined (tick t) r r' v) (laws .next-settings t s (h .memory)) in
+          let r' = changed-in E laws (tick t) r (ap (λ (k : E .Settings). numberFor E (tick t) n k) (v .settings) ∙ tick-number-by t r v ∙ e) in
+          let plays = lined .plays t s (h .memory) (p .samples) (r .stateFits) (omega (arith, r .enough, r .size)) e' (v .lines) in
+          let heard-on = on (changed E (tick t) h) (put E I (tick t) p) r' (changed-shows E I laws lined (tick t) r r' v) (laws .next-settings t s (h .memory)) in
           λ i. (ap played plays ∙ (λ j. played (lined .played t (v .settings j) (I .phase s) (p .samples)))) i
           ∷ (heard-on ∙ (λ j. heard E I lined (put E I (tick t) p) ((lined .next-phase t s (h .memory) ∙ (λ l. lined .advanced t (v .settings l) (I .phase s))) j) ts)) i
       go (suc a) e = ap (λ (l : List Reply). refused (suc a) ∷ l) (on h p r v refl)

@@ -9,7 +9,7 @@ use Rattle.effect.proofs.Table.{first-some}
 
 -- what refuses a reset refuses a tick
 pub unit-refused : (E : Effect) (n : ℕ) (s : E .State) (t : E .Tick) {k : ℕ} → k ≡ numberIn E reset n s → k ≢ 0 → k ≡ numberIn E (tick t) n s
-unit-refused E n s t {k} e some = go (E .fits s) e
+unit-refused E n s t {k} e some = go (E .stateFits s) e
   where
     go : (b : Bool) → k ≡ cond b (memoryNumber (E .places (E .settings s)) n) 4
         → k ≡ cond b (first (memoryNumber (E .places (E .settings s)) n) (E .tickNumber t (E .settings s))) 4

@@ -81,12 +81,12 @@ module _ (E : Effect) (n : ℕ) where
 
   -- the state of any
   pub record Accepted (c : CallOf E) (s : E .State) : Type 0 where
-    pub fits : E .fits s ≡ true
+    pub stateFits : E .stateFits s ≡ true
     pub number : numberFor E c n (E .settings s) ≡ 0
 
   pub accepted : (c : CallOf E) (s : E .State) → numberIn E c n s ≡ 0 → Accepted c s
-  accepted c s e = go (E .fits s) refl e
+  accepted c s e = go (E .stateFits s) refl e
     where
-      go : (b : Bool) → E .fits s ≡ b → _≡_ {A = ℕ} (cond b (numberFor E c n (E .settings s)) 4) 0 → Accepted c s
-      go true f g = record { fits = f; number = g }
+      go : (b : Bool) → E .stateFits s ≡ b → _≡_ {A = ℕ} (cond b (numberFor E c n (E .settings s)) 4) 0 → Accepted c s
+      go true f g = record { stateFits = f; number = g }
       go false f g = absurd (omega arith)

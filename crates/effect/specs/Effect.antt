@@ -35,7 +35,7 @@ pub record Effect : Type 1 where
   pub Retune : Type 0
   pub Tick : Type 0
   -- the state test, cause 4: true where the state passes
-  pub fits : State → Bool
+  pub stateFits : State → Bool
   pub settings : State → Settings
   -- what a start and a retune put in force if they are accepted
   pub startSettings : Start → Settings

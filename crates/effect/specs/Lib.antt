@@ -2,7 +2,7 @@ pub mod Effect
 pub mod Run
 pub mod Contract
 pub mod Needed
-pub mod Told
+pub mod Trace
 pub mod Demand1
 pub mod Lines
 pub mod Past

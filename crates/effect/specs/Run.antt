@@ -58,7 +58,7 @@ module _ (E : Effect) where
 
   -- the whole table: cause 4 stands first
   abbrev pub numberIn : CallOf → ℕ → E .State → ℕ
-  numberIn c n s = cond (E .fits s) (numberFor c n (E .settings s)) 4
+  numberIn c n s = cond (E .stateFits s) (numberFor c n (E .settings s)) 4
 
   abbrev pub numberAt : CallOf → DeviceOf → ℕ
   numberAt c h = numberIn c (length (h .memory)) (h .state)
@@ -68,12 +68,12 @@ module _ (E : Effect) where
   abbrev pub started : E .Start → List Float → DeviceOf
   started a m = record { state = E .fresh (E .startSettings a); memory = zeros (length m) }
 
-  abbrev pub moved : CallOf → DeviceOf → DeviceOf
-  moved (tick t) h = record { state = E .next t (h .state) (h .memory); memory = laid (E .writes t (h .state) (h .memory)) (h .memory) }
-  moved (retune r) h =
+  abbrev pub changed : CallOf → DeviceOf → DeviceOf
+  changed (tick t) h = record { state = E .next t (h .state) (h .memory); memory = laid (E .writes t (h .state) (h .memory)) (h .memory) }
+  changed (retune r) h =
       record { state = E .retuned (E .retuneSettings r (E .settings (h .state))) (h .state); memory = zeros (length (h .memory)) }
-  moved reset h = record { state = E .fresh (E .settings (h .state)); memory = zeros (length (h .memory)) }
-  moved ask h = h
+  changed reset h = record { state = E .fresh (E .settings (h .state)); memory = zeros (length (h .memory)) }
+  changed ask h = h
 
   abbrev pub says : CallOf → DeviceOf → Reply
   says (tick t) h = played (E .samples t (h .state) (h .memory))
@@ -90,7 +90,7 @@ module _ (E : Effect) where
   startReply a m = ifNone (startNumber a (length m)) done (refused (startNumber a (length m)))
 
   abbrev pub step : CallOf → DeviceOf → DeviceOf
-  step c h = ifNone (numberAt c h) (moved c h) h
+  step c h = ifNone (numberAt c h) (changed c h) h
 
   abbrev pub reply : CallOf → DeviceOf → Reply
   reply c h = ifNone (numberAt c h) (says c h) (refused (numberAt c h))
@@ -113,5 +113,5 @@ pub record Run (E : Effect) : Type 0 where
   pub calls : List (CallOf E)
 
 -- the unit that a run leaves
-abbrev pub left : (E : Effect) → Run E → Device (E .State)
-left E x = after E (x .calls) (start E (x .handed) (x .memory))
+abbrev pub final : (E : Effect) → Run E → Device (E .State)
+final E x = after E (x .calls) (start E (x .handed) (x .memory))

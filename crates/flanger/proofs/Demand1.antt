@@ -13,13 +13,13 @@ use Rattle.effect.proofs.Laws.{Laws, Below}
 use Rattle.effect.specs.Demand1.{Demand1}
 use Rattle.effect.proofs.Demand1.{demand-1}
 use Rattle.flanger.specs.declared.Flanger.{Flanger}
-use Rattle.flanger.specs.Flanger.{Tick, flanger, fits, lineLength, places, cleared, blank, tickNumber, next, writes}
+use Rattle.flanger.specs.Flanger.{Tick, flanger, stateFits, lineLength, places, cleared, blank, tickNumber, next, writes}
 use Rattle.flanger.proofs.Laws.{fits-parts, fit, length-fits, tick-fits}
 
 -- ---- the laws
 
-blank-refused : fits blank ≡ false
-unfolding fits inRange le ofInt Ieee.fits
+blank-refused : stateFits blank ≡ false
+unfolding stateFits inRange le ofInt Ieee.fits
 blank-refused = refl
 
 zero-phase : phaseFits plusZero ≡ true
@@ -27,10 +27,10 @@ unfolding inUnit le lt ofInt Ieee.fits
 zero-phase = refl
 
 -- a clearing leaves a state that passes, with every phase that does
-cleared-fits : (phase rate : Float) → rateFits rate ≡ true → phaseFits phase ≡ true → fits (cleared phase rate) ≡ true
+cleared-fits : (phase rate : Float) → rateFits rate ≡ true → phaseFits phase ≡ true → stateFits (cleared phase rate) ≡ true
 cleared-fits phase rate h p = fit (cleared phase rate) (record { rate = h; inside = omega (arith, length-fits rate h .0); phase = p })
 
-next-fits : (t : Tick) (s : Flanger) → fits s ≡ true → tickNumber t ≡ 0 → fits (next t s) ≡ true
+next-fits : (t : Tick) (s : Flanger) → stateFits s ≡ true → tickNumber t ≡ 0 → stateFits (next t s) ≡ true
 unfolding next
 next-fits t s e n =
     let f = fits-parts s e in
@@ -42,7 +42,7 @@ next-fits t s e n =
       phase = phase-stays (s .«lfo_phase») (t .frequency) rate (f .phase) (tick-fits t n .frequency) (f .rate);
     })
 
-inside : (t : Tick) (s : Flanger) (m : List Float) → fits s ≡ true → Below (places (s .«sample_rate»)) (writes t s m)
+inside : (t : Tick) (s : Flanger) (m : List Float) → stateFits s ≡ true → Below (places (s .«sample_rate»)) (writes t s m)
 unfolding writes
 inside t s m e = let f = fits-parts s e .inside in (omega arith, (omega arith, tt))
 

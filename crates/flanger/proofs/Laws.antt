@@ -10,7 +10,7 @@ use lib.ListN.{length, take, drop, set}
 use lib.Ieee.{Float, binary64, add, mul, div, neg, le, lt, ofInt, round}
 use lib.Ieee as Ieee
 use borrow.Author.Tests.{ltb-true, lt-ltb}
-use Rattle.float64.specs.Number.{plusZero, whole, fraction, half, inRange, rateFits, phaseFits, frequencyFits, sineFits, clampOf}
+use Rattle.float64.specs.Number.{plusZero, ofNat, fraction, half, inRange, rateFits, phaseFits, frequencyFits, sineFits, clampOf}
 use Rattle.float64.proofs.Tests.{both}
 use Rattle.float64.proofs.Interval.{In, point, add-in, mul-in, div-in}
 use Rattle.float64.proofs.Ranges.{rate-in, sine-in, range-in, in-number}
@@ -27,7 +27,7 @@ use Rattle.effect.specs.Run.{tick, numberIn}
 use Rattle.effect.specs.Contract.{Does}
 use Rattle.effect.proofs.Contract.{accepts}
 use Rattle.flanger.specs.declared.Flanger.{Flanger}
-use Rattle.flanger.specs.Flanger.{Tick, ticked, flanger, lineLength, fits, tickNumber, input, depth, feedback, mix, distance, tap, fed, next, writes}
+use Rattle.flanger.specs.Flanger.{Tick, tickOf, flanger, lineLength, stateFits, tickNumber, input, depth, feedback, mix, distance, tap, fed, next, writes}
 use Rattle.flanger.specs.Flanger as page
 
 -- ---- the length of a line
@@ -38,16 +38,16 @@ module _ (rate : Float) (h : rateFits rate ≡ true) where
   length-fits = let l = length-10 rate h in (omega arith, omega arith)
 
   -- rate × 10 / 1000 is small enough for the quick whole part
-  pub samples-small : T (le (whole 1) (samples rate (whole 10))) × T (lt (samples rate (whole 10)) (whole 9007199254740992))
+  pub samples-small : T (le (ofNat 1) (samples rate (ofNat 10))) × T (lt (samples rate (ofNat 10)) (ofNat 9007199254740992))
   unfolding Ieee.fits le lt mul div ofInt
   samples-small =
-      small (div-in (whole 1) (whole 16777216) tt tt tt (mul-in (whole 80000) (whole 1920000) tt tt tt (rate-in h) (point (whole 10) tt)) (point (whole 1000) tt))
+      small (div-in (ofNat 1) (ofNat 16777216) tt tt tt (mul-in (ofNat 80000) (ofNat 1920000) tt tt tt (rate-in h) (point (ofNat 10) tt)) (point (ofNat 1000) tt))
 
 -- ---- the state test
 
 -- by the length n of a line, as `line_length` answers it
-pub fits-by : (s : Flanger) {n : ℕ} → n ≡ cond (rateFits (s .«sample_rate»)) (lineLength (s .«sample_rate»)) 0 → fits s ≡ ltb (s .«write_pos») n && phaseFits (s .«lfo_phase»)
-unfolding fits
+pub fits-by : (s : Flanger) {n : ℕ} → n ≡ cond (rateFits (s .«sample_rate»)) (lineLength (s .«sample_rate»)) 0 → stateFits s ≡ ltb (s .«write_pos») n && phaseFits (s .«lfo_phase»)
+unfolding stateFits
 fits-by s e = size-tests (rateFits (s .«sample_rate»)) (lineLength (s .«sample_rate»)) (s .«write_pos») (λ n. phaseFits (s .«lfo_phase»)) e
 
 pub record Fits (s : Flanger) : Type 0 where
@@ -56,8 +56,8 @@ pub record Fits (s : Flanger) : Type 0 where
   pub phase : phaseFits (s .«lfo_phase») ≡ true
 
 module _ (s : Flanger) where
-  pub fits-parts : fits s ≡ true → Fits s
-  unfolding fits
+  pub fits-parts : stateFits s ≡ true → Fits s
+  unfolding stateFits
   fits-parts e =
       let w = ltb (s .«write_pos») (lineLength (s .«sample_rate»)) in
       let p = phaseFits (s .«lfo_phase») in
@@ -65,8 +65,8 @@ module _ (s : Flanger) where
       let b = both w p (a .1) in
       record { rate = a .0; inside = ltb-true (s .«write_pos») (lineLength (s .«sample_rate»)) (b .0); phase = b .1 }
 
-  pub fit : Fits s → fits s ≡ true
-  unfolding fits
+  pub fit : Fits s → stateFits s ≡ true
+  unfolding stateFits
   fit f = rw (f .rate, lt-ltb (s .«write_pos») (lineLength (s .«sample_rate»)) (f .inside), f .phase)
 
 -- ---- causes 5 and 6
@@ -92,19 +92,19 @@ tick-fits t e =
 -- (1 + (sine + 1) × 0.5 × (depth × 9)) × rate / 1000
 abbrev pub swept : Float → Float → Float → Float
 swept rate depth sine =
-    div binary64 (mul binary64 (add binary64 (whole 1) (mul binary64 (mul binary64 (add binary64 sine (whole 1)) half) (mul binary64 depth (whole 9)))) rate) (whole 1000)
+    div binary64 (mul binary64 (add binary64 (ofNat 1) (mul binary64 (mul binary64 (add binary64 sine (ofNat 1)) half) (mul binary64 depth (ofNat 9)))) rate) (ofNat 1000)
 
-module _ (rate depth sine : Float) (h : rateFits rate ≡ true) (d : inRange depth plusZero (whole 1) ≡ true) (k : sineFits sine ≡ true) where
-  swept-in : In binary64 plusZero (whole 1920) (swept rate depth sine)
+module _ (rate depth sine : Float) (h : rateFits rate ≡ true) (d : inRange depth plusZero (ofNat 1) ≡ true) (k : sineFits sine ≡ true) where
+  swept-in : In binary64 plusZero (ofNat 1920) (swept rate depth sine)
   unfolding Ieee.fits le lt add mul div neg ofInt round
   swept-in =
-      let turn = mul-in plusZero (whole 1) tt tt tt (add-in plusZero (whole 2) tt (sine-in k) (point (whole 1) tt)) (point half tt) in
-      let swing = mul-in plusZero (whole 9) tt tt tt (range-in tt d) (point (whole 9) tt) in
-      let delay = add-in (whole 1) (whole 10) tt (point (whole 1) tt) (mul-in plusZero (whole 9) tt tt tt turn swing) in
-      div-in plusZero (whole 1920) tt tt tt (mul-in plusZero (whole 1920000) tt tt tt delay (rate-in h)) (point (whole 1000) tt)
+      let turn = mul-in plusZero (ofNat 1) tt tt tt (add-in plusZero (ofNat 2) tt (sine-in k) (point (ofNat 1) tt)) (point half tt) in
+      let swing = mul-in plusZero (ofNat 9) tt tt tt (range-in tt d) (point (ofNat 9) tt) in
+      let delay = add-in (ofNat 1) (ofNat 10) tt (point (ofNat 1) tt) (mul-in plusZero (ofNat 9) tt tt tt turn swing) in
+      div-in plusZero (ofNat 1920) tt tt tt (mul-in plusZero (ofNat 1920000) tt tt tt delay (rate-in h)) (point (ofNat 1000) tt)
 
   -- after the clamp both places that are read lie in the line
-  pub distance-in : In binary64 (whole 1) (whole (lineLength rate - 1)) (distance rate depth sine)
+  pub distance-in : In binary64 (ofNat 1) (ofNat (lineLength rate - 1)) (distance rate depth sine)
   unfolding distance
   distance-in =
       let l = length-fits rate h in
@@ -153,7 +153,7 @@ module _ (t : Tick) (s : Flanger) (m : List Float) where
   abbrev tapBy : ℕ → Float → Float → Float
   tapBy i sine d =
       let L = lineLength (s .«sample_rate») in
-      readAt (lineAt (i * L) L (s .«write_pos») m) (distance (s .«sample_rate») (clampOf d plusZero (whole 1)) sine)
+      readAt (lineAt (i * L) L (s .«write_pos») m) (distance (s .«sample_rate») (clampOf d plusZero (ofNat 1)) sine)
 
   abbrev fedBy : Float → Float → Float → Float
   fedBy x y f = add binary64 (sanitized x) (mul binary64 y (clampOf f (neg (fraction 95 100)) (fraction 95 100)))
@@ -166,7 +166,7 @@ module _ (t : Tick) (s : Flanger) (m : List Float) where
       (fedBy x (tapBy 1 (t .sine1) d) f)
 
   abbrev mixedBy : Float → Float → Float → Float
-  mixedBy x y b = blended (sanitized x) y (clampOf b plusZero (whole 1))
+  mixedBy x y b = blended (sanitized x) y (clampOf b plusZero (ofNat 1))
 
   abbrev playedBy : Float → Float → Float → Reply
   playedBy x d b =
@@ -174,7 +174,7 @@ module _ (t : Tick) (s : Flanger) (m : List Float) where
 
 module _ (t : Tick) {x d f b : Float} (audio : x ≡ valueOr (t .audio) plusZero) (amount : d ≡ valueOr (t .depth) half) (back : f ≡ valueOr (t .feedback) plusZero) (wet : b ≡ valueOr (t .mix) half) where
   abbrev pub allSet : Tick
-  allSet = ticked (Set x) (Set d) (Set f) (Set b) (t .frequency) (t .sine0) (t .sine1)
+  allSet = tickOf (Set x) (Set d) (Set f) (Set b) (t .frequency) (t .sine0) (t .sine1)
 
   pub set-does : {s : Flanger} {m : List Float} {s' : Flanger} {m' : List Float} {a : Reply} → numberIn flanger (tick t) (length m) s ≡ 0
       → numberIn flanger (tick allSet) (length m) s ≡ 0

@@ -5,7 +5,7 @@ use mathlib.Core.List.{List, [], _∷_}
 use lib.Dec.{ltb}
 use lib.ListN.{take}
 use lib.Ieee.{Float, binary64, add, mul, div, neg}
-use Rattle.float64.specs.Number.{plusZero, whole, fraction, half, rateFits, phaseFits, frequencyFits, sineFits, clampOf, wholePart}
+use Rattle.float64.specs.Number.{plusZero, ofNat, fraction, half, rateFits, phaseFits, frequencyFits, sineFits, clampOf, wholePart}
 use Rattle.port.specs.declared.Port.{Port}
 use Rattle.port.specs.Port.{valueOr, isNanSet}
 use Rattle.common.specs.Signal.{sanitized, blended, advanced, causeNumber}
@@ -23,13 +23,13 @@ pub record Tick : Type 0 where
   pub sine0 : Float
   pub sine1 : Float
 
-abbrev pub ticked : Port → Port → Port → Port → Float → Float → Float → Tick
-ticked audio depth feedback mix frequency sine0 sine1 =
+abbrev pub tickOf : Port → Port → Port → Port → Float → Float → Float → Tick
+tickOf audio depth feedback mix frequency sine0 sine1 =
     record { audio = audio; depth = depth; feedback = feedback; mix = mix; frequency = frequency; sine0 = sine0; sine1 = sine1 }
 
 -- L: the whole part of rate × 10 / 1000, plus 10
 unfoldable pub lineLength : Float → ℕ
-lineLength rate = wholePart (div binary64 (mul binary64 rate (whole 10)) (whole 1000)) + 10
+lineLength rate = wholePart (div binary64 (mul binary64 rate (ofNat 10)) (ofNat 1000)) + 10
 
 -- two lines follow each other from place 0
 abbrev pub places : Float → ℕ
@@ -53,8 +53,8 @@ abbrev pub blank : Flanger
 blank = cleared plusZero plusZero
 
 -- the state test, cause 4
-unfoldable pub fits : Flanger → Bool
-fits s = rateFits (s .«sample_rate») && (ltb (s .«write_pos») (lineLength (s .«sample_rate»)) && phaseFits (s .«lfo_phase»))
+unfoldable pub stateFits : Flanger → Bool
+stateFits s = rateFits (s .«sample_rate») && (ltb (s .«write_pos») (lineLength (s .«sample_rate»)) && phaseFits (s .«lfo_phase»))
 
 -- causes 5 and 6
 unfoldable pub tickNumber : Tick → ℕ
@@ -69,22 +69,22 @@ abbrev pub input : Tick → Float
 input t = sanitized (valueOr (t .audio) plusZero)
 
 abbrev pub depth : Tick → Float
-depth t = clampOf (valueOr (t .depth) half) plusZero (whole 1)
+depth t = clampOf (valueOr (t .depth) half) plusZero (ofNat 1)
 
 -- −0.95 to 0.95
 abbrev pub feedback : Tick → Float
 feedback t = clampOf (valueOr (t .feedback) plusZero) (neg (fraction 95 100)) (fraction 95 100)
 
 abbrev pub mix : Tick → Float
-mix t = clampOf (valueOr (t .mix) half) plusZero (whole 1)
+mix t = clampOf (valueOr (t .mix) half) plusZero (ofNat 1)
 
 -- (1 + (sine + 1) × 0.5 × (depth × 9)) × rate / 1000, clamped to 1 to L − 1
 unfoldable pub distance : Float → Float → Float → Float
 distance rate depth sine =
     clampOf
-    (div binary64 (mul binary64 (add binary64 (whole 1) (mul binary64 (mul binary64 (add binary64 sine (whole 1)) half) (mul binary64 depth (whole 9)))) rate) (whole 1000))
-    (whole 1)
-    (whole (lineLength rate - 1))
+    (div binary64 (mul binary64 (add binary64 (ofNat 1) (mul binary64 (mul binary64 (add binary64 sine (ofNat 1)) half) (mul binary64 depth (ofNat 9)))) rate) (ofNat 1000))
+    (ofNat 1)
+    (ofNat (lineLength rate - 1))
 
 -- what line i, 0 left and 1 right, holds at its own distance, before the store
 unfoldable pub tap : ℕ → Float → Tick → Flanger → List Float → Float
@@ -127,7 +127,7 @@ flanger =
       Start = Float;
       Retune = Float;
       Tick = Tick;
-      fits = fits;
+      stateFits = stateFits;
       settings = λ s. s .«sample_rate»;
       startSettings = λ rate. rate;
       retuneSettings = λ rate old. rate;

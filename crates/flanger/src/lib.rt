@@ -4,7 +4,7 @@ ghost use mathlib.Core.Bool.{true, cond};
 ghost use Prim.Native.Nat.{_<_};
 ghost use lib.ListN.{length};
 ghost use lib.Ieee.{binary64, div};
-ghost use Rattle.float64.specs.Number.{plusZero, whole, inRange, rateFits, sineFits};
+ghost use Rattle.float64.specs.Number.{plusZero, ofNat, inRange, rateFits, sineFits};
 ghost use Rattle.port.specs.declared.Port.the-variants.{Set};
 ghost use Rattle.port.specs.Answer.{numberOf, outcomeReply, answerReply, silenceReply};
 ghost use Rattle.common.specs.Signal.{advanced};
@@ -12,7 +12,7 @@ ghost use Rattle.common.specs.Line.{lineAt, readAt, nextPlace};
 ghost use Rattle.effect.specs.Run.{tick, retune, reset, ask, startNumber, numberIn};
 ghost use Rattle.effect.specs.Contract.{Does, Starts};
 ghost use Rattle.effect.specs.Needed.{placesNeeded};
-ghost use Rattle.flanger.specs.Flanger.{flanger, ticked, lineLength, cleared, fits, distance};
+ghost use Rattle.flanger.specs.Flanger.{flanger, tickOf, lineLength, cleared, stateFits, distance};
 use port::Answer;
 use port::Outcome;
 use port::Port;
@@ -104,7 +104,7 @@ impl Flanger {
     // The state test, where n is the length of a line.
     fn state_fits(self, n: u64) -> bool
         requires { ⌜ n ≡ cond (rateFits (self .«sample_rate»)) (lineLength (self .«sample_rate»)) 0 ⌝ }
-        ensures { λ r. ⌜ r ≡ fits self ⌝ }
+        ensures { λ r. ⌜ r ≡ stateFits self ⌝ }
     {
         self.write_pos < n && float64::phase_fits(self.lfo_phase)
     }
@@ -201,7 +201,7 @@ impl Flanger {
         requires { ⌜ rateFits rate ≡ true ⌝ }
         requires { ⌜ length (now line) ≡ lineLength rate ⌝ }
         requires { ⌜ w < length (now line) ⌝ }
-        requires { ⌜ inRange depth plusZero (whole 1) ≡ true ⌝ }
+        requires { ⌜ inRange depth plusZero (ofNat 1) ≡ true ⌝ }
         requires { ⌜ sineFits sine ≡ true ⌝ }
         ensures { λ r. ⌜ r ≡ readAt (lineAt 0 (length (now (line .entry))) w (now (line .entry))) (distance rate depth sine) ⌝ }
     {
@@ -238,8 +238,8 @@ impl Flanger {
         sine1: f64,
     ) -> Ticked
         requires { ⌜ n ≡ lineLength (self .«sample_rate») ⌝ }
-        requires { ⌜ numberIn flanger (tick (ticked (Set audio) (Set depth) (Set feedback) (Set mix) frequency sine0 sine1)) (length (now mem)) self ≡ 0 ⌝ }
-        ensures { λ r. ⌜ Does flanger (tick (ticked (Set audio) (Set depth) (Set feedback) (Set mix) frequency sine0 sine1)) self (now (mem .entry)) (r .state) (now (mem .exit)) (answerReply (r .answer)) ⌝ }
+        requires { ⌜ numberIn flanger (tick (tickOf (Set audio) (Set depth) (Set feedback) (Set mix) frequency sine0 sine1)) (length (now mem)) self ≡ 0 ⌝ }
+        ensures { λ r. ⌜ Does flanger (tick (tickOf (Set audio) (Set depth) (Set feedback) (Set mix) frequency sine0 sine1)) self (now (mem .entry)) (r .state) (now (mem .exit)) (answerReply (r .answer)) ⌝ }
     {
         let state = self.next(n, frequency);
         let rate = self.sample_rate;
@@ -274,7 +274,7 @@ impl Flanger {
         sine0: f64,
         sine1: f64,
     ) -> Ticked
-        ensures { λ r. ⌜ Does flanger (tick (ticked audio depth feedback mix frequency sine0 sine1)) self (now (mem .entry)) (r .state) (now (mem .exit)) (answerReply (r .answer)) ⌝ }
+        ensures { λ r. ⌜ Does flanger (tick (tickOf audio depth feedback mix frequency sine0 sine1)) self (now (mem .entry)) (r .state) (now (mem .exit)) (answerReply (r .answer)) ⌝ }
     {
         let n = Flanger::line_length(self.sample_rate);
         let refusal = self.refusal(n, mem.len());

@@ -3,7 +3,7 @@ ghost use mathlib.Core.Path.{_≡_};
 ghost use mathlib.Core.Bool.{not};
 ghost use lib.Dec.{T};
 ghost use lib.Ieee as Ieee;
-ghost use Rattle.float64.specs.Number.{whole, isNumber, isFinite, inRange, inUnit, isPlusZero, rateFits, coefficientFits, phaseFits, frequencyFits, sineFits, clampOf, atLeast, atMost, absolute, wholePart, roundHalfAway};
+ghost use Rattle.float64.specs.Number.{ofNat, isNumber, isFinite, inRange, inUnit, isPlusZero, rateFits, coefficientFits, phaseFits, frequencyFits, sineFits, clampOf, atLeast, atMost, absolute, wholePart, roundHalfAway};
 
 // Whether x is a NaN.
 pub fn is_nan(x: f64) -> bool
@@ -115,7 +115,7 @@ pub fn abs(x: f64) -> f64
 
 // The whole part of a number from 1 to below 2^53: the digits, shifted. The effects' reads use it, where a total one costs more.
 pub fn whole_part_small(x: f64) -> u64
-    requires { ⌜ T (Ieee.le (whole 1) x) ⌝ ∗ ⌜ T (Ieee.lt x (whole 9007199254740992)) ⌝ }
+    requires { ⌜ T (Ieee.le (ofNat 1) x) ⌝ ∗ ⌜ T (Ieee.lt x (ofNat 9007199254740992)) ⌝ }
     ensures { λ r. ⌜ r ≡ wholePart x ⌝ }
 {
     let bits: u64 = f64::to_bits(x);

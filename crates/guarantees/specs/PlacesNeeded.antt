@@ -17,8 +17,8 @@ use Rattle.reverb.specs.Reverb.{reverb}
 use Rattle.room_effects.specs.Needed.{neededBy}
 
 -- `told` is what the controller is told for a start that is handed x
-pub record Asks (E : Effect) (told : E .Start → ℕ) : Type 0 where
-  pub accepted : (x : E .Start) (n : ℕ) → E .settingsNumber (E .startSettings x) ≡ 0 → startNumber E x n ≡ memoryNumber (told x) n
+pub record Asks (E : Effect) (needed : E .Start → ℕ) : Type 0 where
+  pub accepted : (x : E .Start) (n : ℕ) → E .settingsNumber (E .startSettings x) ≡ 0 → startNumber E x n ≡ memoryNumber (needed x) n
 
 -- the numbers of document 01; only the delay's count reads the maximum
 pub record PlacesNeeded : Type 0 where

@@ -17,7 +17,7 @@ use Rattle.effect.proofs.Laws.{Laws, Within}
 use Rattle.effect.proofs.Demand1.{demand-1}
 use Rattle.reverb.specs.declared.Reverb.{Reverb}
 use Rattle.reverb.specs.Tunings.{Side, left, right, combTunings, allpassTunings, combLengths, allpassLengths, tuned}
-use Rattle.reverb.specs.Reverb.{Tick, InUse, of-comb, of-allpass, of-predelay, reverb, combPositions, allpassPositions, cleared, blank, fits, damping, feedback, predelayed, summed, combStored, combWrite, combMoved, allpassWrite, allpassMoved, bySides, next, writes}
+use Rattle.reverb.specs.Reverb.{Tick, InUse, of-comb, of-allpass, of-predelay, reverb, combPositions, allpassPositions, cleared, blank, stateFits, damping, feedback, predelayed, summed, combStored, combWrite, combMoved, allpassWrite, allpassMoved, bySides, next, writes}
 use Rattle.reverb.proofs.Scaling.{lines-some, lines-most}
 use Rattle.reverb.proofs.Lists.{moved-below}
 use Rattle.reverb.proofs.Laws.{Fits, SideFits, fits-parts, fit}
@@ -25,12 +25,12 @@ use Rattle.reverb.proofs.Tank.{comb-below, allpass-below}
 
 -- ---- states
 
-blank-refused : fits blank ≡ false
-unfolding fits inRange le ofInt Ieee.fits
+blank-refused : stateFits blank ≡ false
+unfolding stateFits inRange le ofInt Ieee.fits
 blank-refused = refl
 
 -- a clearing leaves a state that passes
-cleared-fits : (rate : Float) → rateFits rate ≡ true → fits (cleared rate) ≡ true
+cleared-fits : (rate : Float) → rateFits rate ≡ true → stateFits (cleared rate) ≡ true
 unfolding tuned
 cleared-fits rate h = fit (cleared rate) (record { rate = h; predelay = omega arith; sides = side })
   where
@@ -38,7 +38,7 @@ cleared-fits rate h = fit (cleared rate) (record { rate = h; predelay = omega ar
     side left = record { combs = lines-some 4095 combTunings left rate (omega arith) refl h; allpasses = lines-some 1499 allpassTunings left rate (omega arith) refl h; stores = refl }
     side right = record { combs = lines-some 4095 combTunings right rate (omega arith) refl h; allpasses = lines-some 1499 allpassTunings right rate (omega arith) refl h; stores = refl }
 
-next-fits : (t : Tick) (s : Reverb) (m : List Float) → fits s ≡ true → fits (next t s m) ≡ true
+next-fits : (t : Tick) (s : Reverb) (m : List Float) → stateFits s ≡ true → stateFits (next t s m) ≡ true
 unfolding next combMoved allpassMoved
 next-fits t s m e =
     let f = fits-parts s e in
@@ -74,7 +74,7 @@ module _ (P : ℕ → Type 0) where
   within-sides f (suc k) h =
       within-append (bySides f k) (f k left ∷ f k right ∷ []) (within-sides f k (λ i l. h i (omega arith))) (h k (omega arith) left, (h k (omega arith) right, tt))
 
-inside : (t : Tick) (s : Reverb) (m : List Float) → fits s ≡ true → Within (InUse (s .«sample_rate»)) (writes t s m)
+inside : (t : Tick) (s : Reverb) (m : List Float) → stateFits s ≡ true → Within (InUse (s .«sample_rate»)) (writes t s m)
 unfolding writes combWrite allpassWrite
 inside t s m e =
     let f = fits-parts s e in

@@ -15,7 +15,7 @@ use Rattle.common.proofs.Sweep.{no-cause, neither}
 use Rattle.reverb.specs.declared.Lengths.{Lengths}
 use Rattle.reverb.specs.declared.Reverb.{Reverb}
 use Rattle.reverb.specs.Tunings.{Side, left, right, combLengths, allpassLengths, lengthsAt, noLengths}
-use Rattle.reverb.specs.Reverb.{Tick, combPositions, combStores, allpassPositions, allBelow, partsFit, fits, tickNumber, linesZero, silence}
+use Rattle.reverb.specs.Reverb.{Tick, combPositions, combStores, allpassPositions, allBelow, partsFit, stateFits, tickNumber, linesZero, silence}
 use Rattle.reverb.proofs.Lists.{and-false, below-zero}
 
 -- ---- the state test
@@ -50,8 +50,8 @@ side-fit : (side : Side) (s : Reverb) → SideFits side s → sideFits side s �
 side-fit side s f = rw (f .combs, f .allpasses, eq-eqb (length (combStores side s)) 8 (f .stores))
 
 module _ (s : Reverb) where
-  pub fits-parts : fits s ≡ true → Fits s
-  unfolding fits
+  pub fits-parts : stateFits s ≡ true → Fits s
+  unfolding stateFits
   fits-parts e =
       let p = ltb (s .«predelay_pos») 9600 in
       let a = both (rateFits (s .«sample_rate»)) (p && (sideFits left s && sideFits right s)) e in
@@ -63,15 +63,15 @@ module _ (s : Reverb) where
       each l r left = side-parts left s l
       each l r right = side-parts right s r
 
-  pub fit : Fits s → fits s ≡ true
-  unfolding fits
+  pub fit : Fits s → stateFits s ≡ true
+  unfolding stateFits
   fit f = rw (f .rate, lt-ltb (s .«predelay_pos») 9600 (f .predelay), side-fit left s (f .sides left), side-fit right s (f .sides right))
 
   -- by its parts and every line's length, as `lengths` answers it
   pub fits-by : {n : Lengths} → n ≡ cond (rateFits (s .«sample_rate»)) (lengthsAt (s .«sample_rate»)) noLengths
       → partsFit (s .«comb_pos_l») (s .«comb_pos_r») (s .«comb_filter_state_l») (s .«comb_filter_state_r») (s .«allpass_pos_l») (s .«allpass_pos_r») (s .«predelay_pos») n
-      ≡ fits s
-  unfolding fits
+      ≡ stateFits s
+  unfolding stateFits
   fits-by {n} e = go (rateFits (s .«sample_rate»)) e
     where
       parts : Lengths → Bool

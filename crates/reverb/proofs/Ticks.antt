@@ -7,7 +7,7 @@ use mathlib.Core.List.{List, [], _∷_, _++_}
 use lib.ListN.{length, getD, set}
 use lib.Seq.{getD-set-other}
 use lib.Ieee.{Float, nan, binary64, add, mul}
-use Rattle.float64.specs.Number.{plusZero, whole, fraction, half, clampOf}
+use Rattle.float64.specs.Number.{plusZero, ofNat, fraction, half, clampOf}
 use Rattle.port.specs.declared.Port.the-variants.{Set}
 use Rattle.port.specs.Port.{valueOr}
 use Rattle.port.specs.Answer.{Reply, played}
@@ -22,7 +22,7 @@ use Rattle.effect.proofs.Contract.{accepts}
 use Rattle.reverb.specs.declared.Reverb.{Reverb}
 use Rattle.reverb.specs.Freeverb.{combStore, combFed, passOutput, passFed}
 use Rattle.reverb.specs.Tunings.{Side, left, right}
-use Rattle.reverb.specs.Reverb.{Tick, ticked, reverb, stateOf, combState, allpassState, predelayStart, combStores, input, feedback, damping, mix, delaySamples, delayed, predelayed, combPlace, combHeld, sumOf, combStored, combWrite, combMoved, allpassPlace, allpassHeld, passedOn, sided, allpassWrite, allpassMoved, summed, wet, bySides, writes}
+use Rattle.reverb.specs.Reverb.{Tick, tickOf, reverb, stateOf, combState, allpassState, predelayStart, combStores, input, feedback, damping, mix, delaySamples, delayed, predelayed, combPlace, combHeld, sumOf, combStored, combWrite, combMoved, allpassPlace, allpassHeld, passedOn, sided, allpassWrite, allpassMoved, summed, wet, bySides, writes}
 use Rattle.reverb.specs.Reverb as page
 use Rattle.reverb.proofs.Laws.{Fits}
 use Rattle.reverb.proofs.Tank.{comb-place, allpass-place, by-sides-elsewhere}
@@ -204,24 +204,24 @@ module _ (t : Tick) (s : Reverb) (m : List Float) (f : Fits s) where
 
 module _ (t : Tick) {x z d b p : Float} (audio : x ≡ valueOr (t .audio) plusZero) (size : z ≡ valueOr (t .size) half) (damp : d ≡ valueOr (t .damping) half) (blend : b ≡ valueOr (t .mix) half) (back : p ≡ valueOr (t .predelay) plusZero) where
   abbrev pub allSet : Tick
-  allSet = ticked (Set x) (Set z) (Set d) (Set b) (Set p)
+  allSet = tickOf (Set x) (Set z) (Set d) (Set b) (Set p)
 
   heard : input allSet ≡ input t
   heard = ap sanitized audio
 
   fed : feedback allSet ≡ feedback t
-  fed = ap (λ (v : Float). add binary64 (fraction 28 100) (mul binary64 (clampOf v plusZero (whole 1)) (fraction 7 10))) size
+  fed = ap (λ (v : Float). add binary64 (fraction 28 100) (mul binary64 (clampOf v plusZero (ofNat 1)) (fraction 7 10))) size
 
   damped : damping allSet ≡ damping t
-  damped = ap (λ (v : Float). mul binary64 (clampOf v plusZero (whole 1)) (fraction 4 10)) damp
+  damped = ap (λ (v : Float). mul binary64 (clampOf v plusZero (ofNat 1)) (fraction 4 10)) damp
 
   mixed : mix allSet ≡ mix t
-  mixed = ap (λ (v : Float). clampOf v plusZero (whole 1)) blend
+  mixed = ap (λ (v : Float). clampOf v plusZero (ofNat 1)) blend
 
   module _ (s : Reverb) (m : List Float) where
     into : predelayed allSet s m ≡ predelayed t s m
     into =
-        λ i. delayed predelayStart (s .«predelay_pos») (delaySamples (clampOf (back i) plusZero (whole 1)) (s .«sample_rate»)) (heard i) m
+        λ i. delayed predelayStart (s .«predelay_pos») (delaySamples (clampOf (back i) plusZero (ofNat 1)) (s .«sample_rate»)) (heard i) m
 
     same-next : page.next allSet s m ≡ page.next t s m
     unfolding page.next

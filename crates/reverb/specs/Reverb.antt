@@ -5,7 +5,7 @@ use mathlib.Core.List.{List, [], _∷_, _++_}
 use lib.Dec.{ltb, eqb}
 use lib.ListN.{length, getD, take, drop, replicate}
 use lib.Ieee.{Float, nan, binary64, add, mul}
-use Rattle.float64.specs.Number.{plusZero, whole, fraction, half, rateFits, clampOf, atMost, wholePart}
+use Rattle.float64.specs.Number.{plusZero, ofNat, fraction, half, rateFits, clampOf, atMost, wholePart}
 use Rattle.port.specs.declared.Port.{Port}
 use Rattle.port.specs.Port.{valueOr, isNanSet}
 use Rattle.common.specs.Signal.{sanitized, blended}
@@ -24,8 +24,8 @@ pub record Tick : Type 0 where
   pub mix : Port
   pub predelay : Port
 
-abbrev pub ticked : Port → Port → Port → Port → Port → Tick
-ticked audio size damping mix predelay = record { audio = audio; size = size; damping = damping; mix = mix; predelay = predelay }
+abbrev pub tickOf : Port → Port → Port → Port → Port → Tick
+tickOf audio size damping mix predelay = record { audio = audio; size = size; damping = damping; mix = mix; predelay = predelay }
 
 -- ---- the tank: eight left combs of 4,096 places, eight right, four left all-passes of 1,500, four right, predelay 9,600
 
@@ -105,8 +105,8 @@ partsFit combl combr storesl storesr passl passr predelay n =
     && (allBelow combr (n .«comb_r») && (allBelow passr (n .«allpass_r») && eqb (length storesr) 8)))
 
 -- the state test, cause 4: at an accepted rate, by the lengths at that rate
-unfoldable pub fits : Reverb → Bool
-fits s =
+unfoldable pub stateFits : Reverb → Bool
+stateFits s =
     rateFits (s .«sample_rate»)
     && partsFit (s .«comb_pos_l») (s .«comb_pos_r») (s .«comb_filter_state_l») (s .«comb_filter_state_r») (s .«allpass_pos_l») (s .«allpass_pos_r») (s .«predelay_pos») (lengthsAt (s .«sample_rate»))
 
@@ -122,21 +122,21 @@ input t = sanitized (valueOr (t .audio) plusZero)
 
 -- 0.28 + size × 0.7
 abbrev pub feedback : Tick → Float
-feedback t = add binary64 (fraction 28 100) (mul binary64 (clampOf (valueOr (t .size) half) plusZero (whole 1)) (fraction 7 10))
+feedback t = add binary64 (fraction 28 100) (mul binary64 (clampOf (valueOr (t .size) half) plusZero (ofNat 1)) (fraction 7 10))
 
 -- damping × 0.4
 abbrev pub damping : Tick → Float
-damping t = mul binary64 (clampOf (valueOr (t .damping) half) plusZero (whole 1)) (fraction 4 10)
+damping t = mul binary64 (clampOf (valueOr (t .damping) half) plusZero (ofNat 1)) (fraction 4 10)
 
 abbrev pub mix : Tick → Float
-mix t = clampOf (valueOr (t .mix) half) plusZero (whole 1)
+mix t = clampOf (valueOr (t .mix) half) plusZero (ofNat 1)
 
 -- the predelay's delay, in samples: the whole part of control × 0.1 × rate, at most 9,599
 unfoldable pub delaySamples : Float → Float → ℕ
-delaySamples control rate = wholePart (atMost (mul binary64 (mul binary64 control (fraction 1 10)) rate) (whole 9599))
+delaySamples control rate = wholePart (atMost (mul binary64 (mul binary64 control (fraction 1 10)) rate) (ofNat 9599))
 
 abbrev pub delay : Tick → Float → ℕ
-delay t rate = delaySamples (clampOf (valueOr (t .predelay) plusZero) plusZero (whole 1)) rate
+delay t rate = delaySamples (clampOf (valueOr (t .predelay) plusZero) plusZero (ofNat 1)) rate
 
 -- ---- the predelay
 
@@ -266,7 +266,7 @@ reverb =
       Start = Float;
       Retune = Float;
       Tick = Tick;
-      fits = fits;
+      stateFits = stateFits;
       settings = λ s. s .«sample_rate»;
       startSettings = λ rate. rate;
       retuneSettings = λ rate old. rate;

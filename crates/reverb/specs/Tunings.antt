@@ -5,7 +5,7 @@ use mathlib.Core.List.{List, [], _∷_, map}
 use lib.Dec.{leb}
 use lib.ListN.{replicate}
 use lib.Ieee.{Float, binary64, mul, div}
-use Rattle.float64.specs.Number.{whole, wholePart, roundHalfAway}
+use Rattle.float64.specs.Number.{ofNat, wholePart, roundHalfAway}
 use Rattle.reverb.specs.declared.Lengths.{Lengths}
 
 pub data Side : Type 0 where
@@ -21,19 +21,19 @@ allpassTunings = 556 ∷ 441 ∷ 341 ∷ 225 ∷ []
 
 -- rate / 44100, rounded before anything is multiplied by it
 unfoldable pub ratio : Float → Float
-ratio rate = div binary64 rate (whole 44100)
+ratio rate = div binary64 rate (ofNat 44100)
 
 -- base × ratio cut to its whole part, at most `most`
 unfoldable pub scaled : ℕ → Float → ℕ → ℕ
-scaled most r base = min (wholePart (mul binary64 (whole base) r)) most
+scaled most r base = min (wholePart (mul binary64 (ofNat base) r)) most
 
 -- 23 × ratio, rounded half away from zero, at least 1
 unfoldable pub spread : Float → ℕ
-spread r = max (roundHalfAway (mul binary64 (whole 23) r)) 1
+spread r = max (roundHalfAway (mul binary64 (ofNat 23) r)) 1
 
 -- a left length plus the spread, under the same cap
 unfoldable pub beside : ℕ → ℕ → ℕ → ℕ
-beside most wide length = min (length + wide) most
+beside most wide size = min (size + wide) most
 
 -- the lengths of the lines that have these tunings, at most `most`
 abbrev pub lineLengths : ℕ → List ℕ → Side → Float → List ℕ

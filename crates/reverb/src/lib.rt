@@ -5,7 +5,7 @@ ghost use mathlib.Core.List.{map};
 ghost use Prim.Native.Nat.{ℕ, _+_, _*_, _≤_, _<_, min};
 ghost use lib.ListN as ListN;
 ghost use lib.Ieee.{nan};
-ghost use Rattle.float64.specs.Number.{whole, fraction, inRange, rateFits};
+ghost use Rattle.float64.specs.Number.{ofNat, fraction, inRange, rateFits};
 ghost use Rattle.port.specs.declared.Port.the-variants.{Set};
 ghost use Rattle.port.specs.Answer.{numberOf, outcomeReply, answerReply, silenceReply};
 ghost use Rattle.common.specs.Line.{table};
@@ -15,7 +15,7 @@ ghost use Rattle.effect.specs.Contract.{Does, Starts};
 ghost use Rattle.effect.specs.Needed.{placesNeeded};
 ghost use Rattle.reverb.specs.Freeverb.{combed, combLine, passed, passLine};
 ghost use Rattle.reverb.specs.Tunings.{left, right, scaled, spread, beside, combLengths, allpassLengths, lengthsAt, noLengths, tuned};
-ghost use Rattle.reverb.specs.Reverb.{reverb, ticked, stateOf, combState, allpassState, cleared, allBelow, partsFit, fits, delaySamples, delayed, combHeld, sumOf, combStored, combWrite, combMoved, passedOn, sided, allpassWrite, allpassMoved, bySides, linesZero, silence};
+ghost use Rattle.reverb.specs.Reverb.{reverb, tickOf, stateOf, combState, allpassState, cleared, allBelow, partsFit, stateFits, delaySamples, delayed, combHeld, sumOf, combStored, combWrite, combMoved, passedOn, sided, allpassWrite, allpassMoved, bySides, linesZero, silence};
 use port::Answer;
 use port::Outcome;
 use port::Port;
@@ -111,7 +111,7 @@ impl Reverb {
     fn scaled(base: u32, ratio: f64, most: u32) -> u32
         requires { ⌜ 225 ≤ base ⌝ }
         requires { ⌜ base ≤ 1617 ⌝ }
-        requires { ⌜ inRange ratio (fraction 1 8) (whole 5) ≡ true ⌝ }
+        requires { ⌜ inRange ratio (fraction 1 8) (ofNat 5) ≡ true ⌝ }
         ensures { λ r. ⌜ r ≡ scaled most ratio base ⌝ }
     {
         let n = float64::whole_part_small((base as f64) * ratio) as u32;
@@ -142,7 +142,7 @@ impl Reverb {
     // The left and right lengths of the lines with these tunings.
     fn scale(tunings: &[u32], ratio: f64, wide: u32, most: u16, left: &mut [u16], right: &mut [u16])
         requires { ⌜ tuned (now tunings) ≡ true ⌝ }
-        requires { ⌜ inRange ratio (fraction 1 8) (whole 5) ≡ true ⌝ }
+        requires { ⌜ inRange ratio (fraction 1 8) (ofNat 5) ≡ true ⌝ }
         requires { ⌜ wide ≤ 4095 ⌝ }
         requires { ⌜ ListN.length (now left) ≡ ListN.length (now tunings) ⌝ }
         requires { ⌜ ListN.length (now right) ≡ ListN.length (now tunings) ⌝ }
@@ -204,7 +204,7 @@ impl Reverb {
 
     // Every line's length at 44,100.
     fn lengths_44100() -> Lengths
-        ensures { λ r. ⌜ r ≡ lengthsAt (whole 44100) ⌝ }
+        ensures { λ r. ⌜ r ≡ lengthsAt (ofNat 44100) ⌝ }
     {
         let comb_l: [u16; 8] = [1116, 1188, 1277, 1356, 1422, 1491, 1557, 1617];
         let comb_r: [u16; 8] = [1139, 1211, 1300, 1379, 1445, 1514, 1580, 1640];
@@ -220,7 +220,7 @@ impl Reverb {
 
     // Every line's length at 48,000.
     fn lengths_48000() -> Lengths
-        ensures { λ r. ⌜ r ≡ lengthsAt (whole 48000) ⌝ }
+        ensures { λ r. ⌜ r ≡ lengthsAt (ofNat 48000) ⌝ }
     {
         let comb_l: [u16; 8] = [1214, 1293, 1389, 1475, 1547, 1622, 1694, 1760];
         let comb_r: [u16; 8] = [1239, 1318, 1414, 1500, 1572, 1647, 1719, 1785];
@@ -236,7 +236,7 @@ impl Reverb {
 
     // Every line's length at 88,200.
     fn lengths_88200() -> Lengths
-        ensures { λ r. ⌜ r ≡ lengthsAt (whole 88200) ⌝ }
+        ensures { λ r. ⌜ r ≡ lengthsAt (ofNat 88200) ⌝ }
     {
         let comb_l: [u16; 8] = [2232, 2376, 2554, 2712, 2844, 2982, 3114, 3234];
         let comb_r: [u16; 8] = [2278, 2422, 2600, 2758, 2890, 3028, 3160, 3280];
@@ -252,7 +252,7 @@ impl Reverb {
 
     // Every line's length at 96,000.
     fn lengths_96000() -> Lengths
-        ensures { λ r. ⌜ r ≡ lengthsAt (whole 96000) ⌝ }
+        ensures { λ r. ⌜ r ≡ lengthsAt (ofNat 96000) ⌝ }
     {
         let comb_l: [u16; 8] = [2429, 2586, 2779, 2951, 3095, 3245, 3389, 3520];
         let comb_r: [u16; 8] = [2479, 2636, 2829, 3001, 3145, 3295, 3439, 3570];
@@ -268,7 +268,7 @@ impl Reverb {
 
     // Every line's length at 176,400.
     fn lengths_176400() -> Lengths
-        ensures { λ r. ⌜ r ≡ lengthsAt (whole 176400) ⌝ }
+        ensures { λ r. ⌜ r ≡ lengthsAt (ofNat 176400) ⌝ }
     {
         let comb_l: [u16; 8] = [4095, 4095, 4095, 4095, 4095, 4095, 4095, 4095];
         let comb_r: [u16; 8] = [4095, 4095, 4095, 4095, 4095, 4095, 4095, 4095];
@@ -284,7 +284,7 @@ impl Reverb {
 
     // Every line's length at 192,000.
     fn lengths_192000() -> Lengths
-        ensures { λ r. ⌜ r ≡ lengthsAt (whole 192000) ⌝ }
+        ensures { λ r. ⌜ r ≡ lengthsAt (ofNat 192000) ⌝ }
     {
         let comb_l: [u16; 8] = [4095, 4095, 4095, 4095, 4095, 4095, 4095, 4095];
         let comb_r: [u16; 8] = [4095, 4095, 4095, 4095, 4095, 4095, 4095, 4095];
@@ -426,7 +426,7 @@ impl Reverb {
     // The state test, by every line's length.
     fn state_fits(self, n: Lengths) -> bool
         requires { ⌜ n ≡ cond (rateFits (self .«sample_rate»)) (lengthsAt (self .«sample_rate»)) noLengths ⌝ }
-        ensures { λ r. ⌜ r ≡ fits self ⌝ }
+        ensures { λ r. ⌜ r ≡ stateFits self ⌝ }
     {
         let w0 = self.comb_pos_l;
         let w1 = self.comb_pos_r;
@@ -796,8 +796,8 @@ impl Reverb {
         predelay: f64,
     ) -> Answer
         requires { ⌜ n ≡ lengthsAt rate ⌝ }
-        requires { ⌜ numberIn reverb (tick (ticked (Set audio) (Set size) (Set damping) (Set mix) (Set predelay))) (ListN.length (now mem)) (stateOf (now «comb_pos_l») (now «comb_pos_r») (now «comb_filter_state_l») (now «comb_filter_state_r») (now «allpass_pos_l») (now «allpass_pos_r») (now «predelay_pos») rate) ≡ 0 ⌝ }
-        ensures { λ r. ⌜ Does reverb (tick (ticked (Set audio) (Set size) (Set damping) (Set mix) (Set predelay))) (stateOf (now («comb_pos_l» .entry)) (now («comb_pos_r» .entry)) (now («comb_filter_state_l» .entry)) (now («comb_filter_state_r» .entry)) (now («allpass_pos_l» .entry)) (now («allpass_pos_r» .entry)) (now («predelay_pos» .entry)) rate) (now (mem .entry)) (stateOf (now («comb_pos_l» .exit)) (now («comb_pos_r» .exit)) (now («comb_filter_state_l» .exit)) (now («comb_filter_state_r» .exit)) (now («allpass_pos_l» .exit)) (now («allpass_pos_r» .exit)) (now («predelay_pos» .exit)) rate) (now (mem .exit)) (answerReply r) ⌝ }
+        requires { ⌜ numberIn reverb (tick (tickOf (Set audio) (Set size) (Set damping) (Set mix) (Set predelay))) (ListN.length (now mem)) (stateOf (now «comb_pos_l») (now «comb_pos_r») (now «comb_filter_state_l») (now «comb_filter_state_r») (now «allpass_pos_l») (now «allpass_pos_r») (now «predelay_pos») rate) ≡ 0 ⌝ }
+        ensures { λ r. ⌜ Does reverb (tick (tickOf (Set audio) (Set size) (Set damping) (Set mix) (Set predelay))) (stateOf (now («comb_pos_l» .entry)) (now («comb_pos_r» .entry)) (now («comb_filter_state_l» .entry)) (now («comb_filter_state_r» .entry)) (now («allpass_pos_l» .entry)) (now («allpass_pos_r» .entry)) (now («predelay_pos» .entry)) rate) (now (mem .entry)) (stateOf (now («comb_pos_l» .exit)) (now («comb_pos_r» .exit)) (now («comb_filter_state_l» .exit)) (now («comb_filter_state_r» .exit)) (now («allpass_pos_l» .exit)) (now («allpass_pos_r» .exit)) (now («predelay_pos» .exit)) rate) (now (mem .exit)) (answerReply r) ⌝ }
     {
         let input = common::sanitize_audio(audio);
         let feedback = 0.28 + float64::clamp(size, 0.0, 1.0) * 0.7;
@@ -846,7 +846,7 @@ impl Reverb {
         mix: Port,
         predelay: Port,
     ) -> Answer
-        ensures { λ r. ⌜ Does reverb (tick (ticked audio size damping mix predelay)) (stateOf (now («comb_pos_l» .entry)) (now («comb_pos_r» .entry)) (now («comb_filter_state_l» .entry)) (now («comb_filter_state_r» .entry)) (now («allpass_pos_l» .entry)) (now («allpass_pos_r» .entry)) (now («predelay_pos» .entry)) rate) (now (mem .entry)) (stateOf (now («comb_pos_l» .exit)) (now («comb_pos_r» .exit)) (now («comb_filter_state_l» .exit)) (now («comb_filter_state_r» .exit)) (now («allpass_pos_l» .exit)) (now («allpass_pos_r» .exit)) (now («predelay_pos» .exit)) rate) (now (mem .exit)) (answerReply r) ⌝ }
+        ensures { λ r. ⌜ Does reverb (tick (tickOf audio size damping mix predelay)) (stateOf (now («comb_pos_l» .entry)) (now («comb_pos_r» .entry)) (now («comb_filter_state_l» .entry)) (now («comb_filter_state_r» .entry)) (now («allpass_pos_l» .entry)) (now («allpass_pos_r» .entry)) (now («predelay_pos» .entry)) rate) (now (mem .entry)) (stateOf (now («comb_pos_l» .exit)) (now («comb_pos_r» .exit)) (now («comb_filter_state_l» .exit)) (now («comb_filter_state_r» .exit)) (now («allpass_pos_l» .exit)) (now («allpass_pos_r» .exit)) (now («predelay_pos» .exit)) rate) (now (mem .exit)) (answerReply r) ⌝ }
     {
         let n = Reverb::lengths(rate);
         if !Reverb::parts_fit(
@@ -907,7 +907,7 @@ impl Reverb {
         mix: Port,
         predelay: Port,
     ) -> Ticked
-        ensures { λ r. ⌜ Does reverb (tick (ticked audio size damping mix predelay)) self (now (mem .entry)) (r .state) (now (mem .exit)) (answerReply (r .answer)) ⌝ }
+        ensures { λ r. ⌜ Does reverb (tick (tickOf audio size damping mix predelay)) self (now (mem .entry)) (r .state) (now (mem .exit)) (answerReply (r .answer)) ⌝ }
     {
         let mut comb_pos_l = self.comb_pos_l;
         let mut comb_pos_r = self.comb_pos_r;

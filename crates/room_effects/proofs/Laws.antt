@@ -8,12 +8,12 @@ use mathlib.Core.List.{List}
 use lib.Ieee.{Float}
 use Rattle.port.specs.Answer.{Reply, refused, replyNumber, replySilent}
 use Rattle.effect.specs.Effect.{Effect}
-use Rattle.effect.specs.Run.{tick, retune, reset, ask, CallOf, Device, ifNone, numberAt, moved, says, step, reply}
+use Rattle.effect.specs.Run.{tick, retune, reset, ask, CallOf, Device, ifNone, numberAt, changed, says, step, reply}
 use Rattle.effect.specs.Contract.{Does, Starts}
 use Rattle.effect.proofs.Laws.{Laws}
 use Rattle.effect.proofs.Table.{ifNone-both}
 use Rattle.room_effects.specs.Units.{isOn, FlagWritten, FlagLeft}
-use Rattle.room_effects.specs.Lent.{samplesFrom, Began, Called, Ticked, Asked}
+use Rattle.room_effects.specs.Lent.{samplesFrom, StartReturns, CallReturns, TickReturns, AskReturns}
 
 -- a call whose answer has a number leaves the unit as it was
 pub refused-keeps : (E : Effect) (c : CallOf E) (h : Device (E .State)) → replyNumber (reply E c h) ≢ 0 → step E c h ≡ h
@@ -25,7 +25,7 @@ refused-keeps E c h some = go (numberAt E c h) some
     accepted reset = refl
     accepted ask = refl
 
-    go : (k : ℕ) → replyNumber (ifNone k (says E c h) (refused k)) ≢ 0 → ifNone k (moved E c h) h ≡ h
+    go : (k : ℕ) → replyNumber (ifNone k (says E c h) (refused k)) ≢ 0 → ifNone k (changed E c h) h ≡ h
     go zero f = absurd (f (accepted c))
     go (suc k) f = refl
 
@@ -51,7 +51,7 @@ pub began : (E : Effect) {x : E .Start} {m : List Float} {s s' : E .State} {m' :
     → Starts E x m s' m' a
     → s ≡ s'
     → r ≡ replyNumber a
-    → Began E x m (record { state = s; memory = m' }) r
+    → StartReturns E x m (record { state = s; memory = m' }) r
 began E starts put number =
     record { state = put ∙ starts .state; memory = starts .memory; number = number ∙ ap replyNumber (starts .answer) }
 
@@ -62,11 +62,11 @@ module _ (E : Effect) (c : CallOf E) (u : Device (E .State)) {s' : E .State} {m'
   number-is = number ∙ ap replyNumber (does .answer)
 
   -- the state left, s, is the new one
-  pub stored : {s : E .State} → s ≡ s' → Called E c u (record { state = s; memory = m' }) r
+  pub stored : {s : E .State} → s ≡ s' → CallReturns E c u (record { state = s; memory = m' }) r
   stored put = record { state = put ∙ does .state; memory = does .memory; number = number-is }
 
   -- a refused call leaves the state handed over
-  pub kept : r ≢ 0 → Called E c u (record { state = u .state; memory = m' }) r
+  pub kept : r ≢ 0 → CallReturns E c u (record { state = u .state; memory = m' }) r
   kept some =
       let same = refused-keeps E c u (λ z. some (number-is ∙ z)) in
       record { state = sym (ap (λ (h : Device (E .State)). h .state) same); memory = does .memory; number = number-is }
@@ -104,10 +104,10 @@ module _ (E : Effect) {m : List Float} {s' : E .State} {m' : List Float} {a : Re
 
 module _ (E : Effect) {u : Device (E .State)} {s' : E .State} {m' : List Float} {a : Reply} {r : ℕ} where
   pub played : (k : ℕ) {t : E .Tick} {u' : Device (E .State)} {out' : List Float} → Does E (tick t) (u .state) (u .memory) s' m' a
-      → Called E (tick t) u u' r
+      → CallReturns E (tick t) u u' r
       → out' ≡ samplesFrom 0 k a
-      → Ticked E k t u u' out' r
+      → TickReturns E k t u u' out' r
   played k does called put = record { called = called; samples = put ∙ ap (samplesFrom 0 k) (does .answer) }
 
-  pub asked : {out' : ℕ} → Does E ask (u .state) (u .memory) s' m' a → Called E ask u u r → out' ≡ replySilent a → Asked E u out' r
+  pub asked : {out' : ℕ} → Does E ask (u .state) (u .memory) s' m' a → CallReturns E ask u u r → out' ≡ replySilent a → AskReturns E u out' r
   asked does called put = record { called = called; flag = put ∙ ap replySilent (does .answer) }

@@ -1,7 +1,7 @@
 // The chorus's calls.
 ghost use Rattle.effect.specs.Run.{retune, reset};
-ghost use Rattle.chorus.specs.Chorus.{chorus, ticked};
-ghost use Rattle.room_effects.specs.Lent.{Began, Called, Ticked, Asked};
+ghost use Rattle.chorus.specs.Chorus.{chorus, tickOf};
+ghost use Rattle.room_effects.specs.Lent.{StartReturns, CallReturns, TickReturns, AskReturns};
 ghost use Rattle.room_effects.specs.Units.{chorusOf, chorusUnit};
 ghost use Rattle.room_effects.specs.Ports.{portAt};
 ghost use mathlib.Core.Path.{_≡_};
@@ -38,7 +38,7 @@ pub extern "C" fn room_raw_chorus_start(
     phases: &mut [f64; 3],
     rate: &mut f64,
 ) -> u32
-    ensures { λ r. ⌜ Began chorus «sample_rate» (now (memory .entry)) (chorusUnit (now (pos .exit)) (now (phases .exit)) (now (rate .exit)) (now (memory .exit))) r ⌝ }
+    ensures { λ r. ⌜ StartReturns chorus «sample_rate» (now (memory .entry)) (chorusUnit (now (pos .exit)) (now (phases .exit)) (now (rate .exit)) (now (memory .exit))) r ⌝ }
 {
     let started = Chorus::new(sample_rate, memory);
     let state = started.state;
@@ -56,7 +56,7 @@ pub extern "C" fn room_raw_chorus_retune(
     phases: &mut [f64; 3],
     rate: &mut f64,
 ) -> u32
-    ensures { λ r. ⌜ Called chorus (retune «sample_rate») (chorusUnit (now (pos .entry)) (now (phases .entry)) (now (rate .entry)) (now (memory .entry))) (chorusUnit (now (pos .exit)) (now (phases .exit)) (now (rate .exit)) (now (memory .exit))) r ⌝ }
+    ensures { λ r. ⌜ CallReturns chorus (retune «sample_rate») (chorusUnit (now (pos .entry)) (now (phases .entry)) (now (rate .entry)) (now (memory .entry))) (chorusUnit (now (pos .exit)) (now (phases .exit)) (now (rate .exit)) (now (memory .exit))) r ⌝ }
 {
     let state = chorus_of(*pos, phases, *rate);
     let cleared = state.set_sample_rate(sample_rate, memory);
@@ -78,7 +78,7 @@ pub extern "C" fn room_raw_chorus_reset(
     phases: &mut [f64; 3],
     rate: f64,
 ) -> u32
-    ensures { λ r. ⌜ Called chorus reset (chorusUnit (now (pos .entry)) (now (phases .entry)) rate (now (memory .entry))) (chorusUnit (now (pos .exit)) (now (phases .exit)) rate (now (memory .exit))) r ⌝ }
+    ensures { λ r. ⌜ CallReturns chorus reset (chorusUnit (now (pos .entry)) (now (phases .entry)) rate (now (memory .entry))) (chorusUnit (now (pos .exit)) (now (phases .exit)) rate (now (memory .exit))) r ⌝ }
 {
     let state = chorus_of(*pos, phases, rate);
     let cleared = state.reset(memory);
@@ -108,7 +108,7 @@ pub extern "C" fn room_raw_chorus_tick(
     sine2: f64,
     out: &mut [f64; 3],
 ) -> u32
-    ensures { λ r. ⌜ Ticked chorus 3 (ticked (portAt set 1 audio) (portAt set 2 depth) (portAt set 4 mix) frequency sine0 sine1 sine2) (chorusUnit (now (pos .entry)) (now (phases .entry)) rate (now (memory .entry))) (chorusUnit (now (pos .exit)) (now (phases .exit)) rate (now (memory .exit))) (now (out .exit)) r ⌝ }
+    ensures { λ r. ⌜ TickReturns chorus 3 (tickOf (portAt set 1 audio) (portAt set 2 depth) (portAt set 4 mix) frequency sine0 sine1 sine2) (chorusUnit (now (pos .entry)) (now (phases .entry)) rate (now (memory .entry))) (chorusUnit (now (pos .exit)) (now (phases .exit)) rate (now (memory .exit))) (now (out .exit)) r ⌝ }
 {
     let state = chorus_of(*pos, phases, rate);
     let ticked = state.tick(
@@ -139,7 +139,7 @@ pub extern "C" fn room_raw_chorus_silent(
     memory: &[f64],
     out: &mut u32,
 ) -> u32
-    ensures { λ r. ⌜ Asked chorus (chorusUnit pos (now (phases .entry)) rate (now (memory .entry))) (now (out .exit)) r ⌝ }
+    ensures { λ r. ⌜ AskReturns chorus (chorusUnit pos (now (phases .entry)) rate (now (memory .entry))) (now (out .exit)) r ⌝ }
 {
     let state = chorus_of(pos, phases, rate);
     let silence = state.silent(memory);

@@ -3,8 +3,8 @@ ghost use mathlib.Core.Path.{_≡_};
 ghost use mathlib.Core.Bool.{cond};
 ghost use mathlib.Core.List.{[], _∷_};
 ghost use Rattle.effect.specs.Run.{retune, reset};
-ghost use Rattle.delay_line.specs.DelayLine.{delayLine, handing, retuning, ticked};
-ghost use Rattle.room_effects.specs.Lent.{Began, Called, Ticked, Asked};
+ghost use Rattle.delay_line.specs.DelayLine.{delayLine, handing, retuning, tickOf};
+ghost use Rattle.room_effects.specs.Lent.{StartReturns, CallReturns, TickReturns, AskReturns};
 ghost use Rattle.room_effects.specs.Units.{isOn, FlagWritten, FlagLeft, delayOf, delayUnit};
 ghost use Rattle.room_effects.specs.Ports.{portAt};
 use crate::shared::port_at;
@@ -55,7 +55,7 @@ pub extern "C" fn room_raw_delay_start(
     maximum: &mut f64,
     linear: &mut u32,
 ) -> u32
-    ensures { λ r. ⌜ Began delayLine (handing «sample_rate» coef «max_delay_secs» (isOn «linear_time»)) (now (memory .entry)) (delayUnit (now (pos .exit)) (now (distance .exit)) (now (primed .exit)) (now (rate .exit)) (now (coefficient .exit)) (now (maximum .exit)) (now (linear .exit)) (now (memory .exit))) r × FlagWritten (now (primed .exit)) × FlagWritten (now (linear .exit)) ⌝ }
+    ensures { λ r. ⌜ StartReturns delayLine (handing «sample_rate» coef «max_delay_secs» (isOn «linear_time»)) (now (memory .entry)) (delayUnit (now (pos .exit)) (now (distance .exit)) (now (primed .exit)) (now (rate .exit)) (now (coefficient .exit)) (now (maximum .exit)) (now (linear .exit)) (now (memory .exit))) r × FlagWritten (now (primed .exit)) × FlagWritten (now (linear .exit)) ⌝ }
 {
     let started = DelayLine::with_max_delay(
         sample_rate,
@@ -88,7 +88,7 @@ pub extern "C" fn room_raw_delay_retune(
     maximum: f64,
     linear: u32,
 ) -> u32
-    ensures { λ r. ⌜ Called delayLine (retune (retuning «sample_rate» coef)) (delayUnit (now (pos .entry)) (now (distance .entry)) (now (primed .entry)) (now (rate .entry)) (now (coefficient .entry)) maximum linear (now (memory .entry))) (delayUnit (now (pos .exit)) (now (distance .exit)) (now (primed .exit)) (now (rate .exit)) (now (coefficient .exit)) maximum linear (now (memory .exit))) r × FlagLeft r (now (primed .entry)) (now (primed .exit)) ⌝ }
+    ensures { λ r. ⌜ CallReturns delayLine (retune (retuning «sample_rate» coef)) (delayUnit (now (pos .entry)) (now (distance .entry)) (now (primed .entry)) (now (rate .entry)) (now (coefficient .entry)) maximum linear (now (memory .entry))) (delayUnit (now (pos .exit)) (now (distance .exit)) (now (primed .exit)) (now (rate .exit)) (now (coefficient .exit)) maximum linear (now (memory .exit))) r × FlagLeft r (now (primed .entry)) (now (primed .exit)) ⌝ }
 {
     let state = delay_of(
         *pos,
@@ -124,7 +124,7 @@ pub extern "C" fn room_raw_delay_reset(
     maximum: f64,
     linear: u32,
 ) -> u32
-    ensures { λ r. ⌜ Called delayLine reset (delayUnit (now (pos .entry)) (now (distance .entry)) (now (primed .entry)) rate coefficient maximum linear (now (memory .entry))) (delayUnit (now (pos .exit)) (now (distance .exit)) (now (primed .exit)) rate coefficient maximum linear (now (memory .exit))) r × FlagLeft r (now (primed .entry)) (now (primed .exit)) ⌝ }
+    ensures { λ r. ⌜ CallReturns delayLine reset (delayUnit (now (pos .entry)) (now (distance .entry)) (now (primed .entry)) rate coefficient maximum linear (now (memory .entry))) (delayUnit (now (pos .exit)) (now (distance .exit)) (now (primed .exit)) rate coefficient maximum linear (now (memory .exit))) r × FlagLeft r (now (primed .entry)) (now (primed .exit)) ⌝ }
 {
     let state = delay_of(*pos, *distance, *primed, rate, coefficient, maximum, linear);
     let cleared = state.reset(memory);
@@ -158,7 +158,7 @@ pub extern "C" fn room_raw_delay_tick(
     milliseconds: f64,
     out: &mut f64,
 ) -> u32
-    ensures { λ r. ⌜ Ticked delayLine 1 (ticked (portAt set 1 audio) (portAt set 2 time) (portAt set 4 feedback) (portAt set 8 mix) milliseconds) (delayUnit (now (pos .entry)) (now (distance .entry)) (now (primed .entry)) rate coefficient maximum linear (now (memory .entry))) (delayUnit (now (pos .exit)) (now (distance .exit)) (now (primed .exit)) rate coefficient maximum linear (now (memory .exit))) (now (out .exit) ∷ []) r × FlagLeft r (now (primed .entry)) (now (primed .exit)) ⌝ }
+    ensures { λ r. ⌜ TickReturns delayLine 1 (tickOf (portAt set 1 audio) (portAt set 2 time) (portAt set 4 feedback) (portAt set 8 mix) milliseconds) (delayUnit (now (pos .entry)) (now (distance .entry)) (now (primed .entry)) rate coefficient maximum linear (now (memory .entry))) (delayUnit (now (pos .exit)) (now (distance .exit)) (now (primed .exit)) rate coefficient maximum linear (now (memory .exit))) (now (out .exit) ∷ []) r × FlagLeft r (now (primed .entry)) (now (primed .exit)) ⌝ }
 {
     let state = delay_of(*pos, *distance, *primed, rate, coefficient, maximum, linear);
     let played = state.tick(
@@ -193,7 +193,7 @@ pub extern "C" fn room_raw_delay_silent(
     memory: &[f64],
     out: &mut u32,
 ) -> u32
-    ensures { λ r. ⌜ Asked delayLine (delayUnit pos distance primed rate coefficient maximum linear (now (memory .entry))) (now (out .exit)) r ⌝ }
+    ensures { λ r. ⌜ AskReturns delayLine (delayUnit pos distance primed rate coefficient maximum linear (now (memory .entry))) (now (out .exit)) r ⌝ }
 {
     let state = delay_of(pos, distance, primed, rate, coefficient, maximum, linear);
     let silence = state.silent(memory);

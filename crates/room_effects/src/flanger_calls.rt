@@ -1,7 +1,7 @@
 // The flanger's calls.
 ghost use Rattle.effect.specs.Run.{retune, reset};
-ghost use Rattle.flanger.specs.Flanger.{flanger, ticked};
-ghost use Rattle.room_effects.specs.Lent.{Began, Called, Ticked, Asked};
+ghost use Rattle.flanger.specs.Flanger.{flanger, tickOf};
+ghost use Rattle.room_effects.specs.Lent.{StartReturns, CallReturns, TickReturns, AskReturns};
 ghost use Rattle.room_effects.specs.Units.{flangerUnit};
 ghost use Rattle.room_effects.specs.Ports.{portAt};
 use crate::shared::port_at;
@@ -17,7 +17,7 @@ pub extern "C" fn room_raw_flanger_start(
     phase: &mut f64,
     rate: &mut f64,
 ) -> u32
-    ensures { λ r. ⌜ Began flanger «sample_rate» (now (memory .entry)) (flangerUnit (now (pos .exit)) (now (phase .exit)) (now (rate .exit)) (now (memory .exit))) r ⌝ }
+    ensures { λ r. ⌜ StartReturns flanger «sample_rate» (now (memory .entry)) (flangerUnit (now (pos .exit)) (now (phase .exit)) (now (rate .exit)) (now (memory .exit))) r ⌝ }
 {
     let started = Flanger::new(sample_rate, memory);
     *pos = started.state.write_pos;
@@ -35,7 +35,7 @@ pub extern "C" fn room_raw_flanger_retune(
     phase: &mut f64,
     rate: &mut f64,
 ) -> u32
-    ensures { λ r. ⌜ Called flanger (retune «sample_rate») (flangerUnit (now (pos .entry)) (now (phase .entry)) (now (rate .entry)) (now (memory .entry))) (flangerUnit (now (pos .exit)) (now (phase .exit)) (now (rate .exit)) (now (memory .exit))) r ⌝ }
+    ensures { λ r. ⌜ CallReturns flanger (retune «sample_rate») (flangerUnit (now (pos .entry)) (now (phase .entry)) (now (rate .entry)) (now (memory .entry))) (flangerUnit (now (pos .exit)) (now (phase .exit)) (now (rate .exit)) (now (memory .exit))) r ⌝ }
 {
     let state = Flanger {
         write_pos: *pos,
@@ -61,7 +61,7 @@ pub extern "C" fn room_raw_flanger_reset(
     phase: &mut f64,
     rate: f64,
 ) -> u32
-    ensures { λ r. ⌜ Called flanger reset (flangerUnit (now (pos .entry)) (now (phase .entry)) rate (now (memory .entry))) (flangerUnit (now (pos .exit)) (now (phase .exit)) rate (now (memory .exit))) r ⌝ }
+    ensures { λ r. ⌜ CallReturns flanger reset (flangerUnit (now (pos .entry)) (now (phase .entry)) rate (now (memory .entry))) (flangerUnit (now (pos .exit)) (now (phase .exit)) rate (now (memory .exit))) r ⌝ }
 {
     let state = Flanger {
         write_pos: *pos,
@@ -96,7 +96,7 @@ pub extern "C" fn room_raw_flanger_tick(
     sine1: f64,
     out: &mut [f64; 3],
 ) -> u32
-    ensures { λ r. ⌜ Ticked flanger 3 (ticked (portAt set 1 audio) (portAt set 2 depth) (portAt set 4 feedback) (portAt set 8 mix) frequency sine0 sine1) (flangerUnit (now (pos .entry)) (now (phase .entry)) rate (now (memory .entry))) (flangerUnit (now (pos .exit)) (now (phase .exit)) rate (now (memory .exit))) (now (out .exit)) r ⌝ }
+    ensures { λ r. ⌜ TickReturns flanger 3 (tickOf (portAt set 1 audio) (portAt set 2 depth) (portAt set 4 feedback) (portAt set 8 mix) frequency sine0 sine1) (flangerUnit (now (pos .entry)) (now (phase .entry)) rate (now (memory .entry))) (flangerUnit (now (pos .exit)) (now (phase .exit)) rate (now (memory .exit))) (now (out .exit)) r ⌝ }
 {
     let state = Flanger {
         write_pos: *pos,
@@ -132,7 +132,7 @@ pub extern "C" fn room_raw_flanger_silent(
     memory: &[f64],
     out: &mut u32,
 ) -> u32
-    ensures { λ r. ⌜ Asked flanger (flangerUnit pos phase rate (now (memory .entry))) (now (out .exit)) r ⌝ }
+    ensures { λ r. ⌜ AskReturns flanger (flangerUnit pos phase rate (now (memory .entry))) (now (out .exit)) r ⌝ }
 {
     let state = Flanger {
         write_pos: pos,

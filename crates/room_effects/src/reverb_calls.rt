@@ -1,8 +1,8 @@
 // The reverb's calls. Its state crosses as lent arrays: the combs' and all-passes' positions, the combs' damping stores; and the predelay's position.
 ghost use mathlib.Core.Path.{_≡_};
 ghost use Rattle.effect.specs.Run.{retune, reset};
-ghost use Rattle.reverb.specs.Reverb.{reverb, ticked};
-ghost use Rattle.room_effects.specs.Lent.{Began, Called, Ticked, Asked};
+ghost use Rattle.reverb.specs.Reverb.{reverb, tickOf};
+ghost use Rattle.room_effects.specs.Lent.{StartReturns, CallReturns, TickReturns, AskReturns};
 ghost use Rattle.room_effects.specs.Units.{reverbOf, reverbUnit};
 ghost use Rattle.room_effects.specs.Ports.{portAt};
 use crate::shared::port_at;
@@ -50,7 +50,7 @@ pub extern "C" fn room_raw_reverb_start(
     predelay_pos: &mut u64,
     rate: &mut f64,
 ) -> u32
-    ensures { λ r. ⌜ Began reverb «sample_rate» (now (memory .entry)) (reverbUnit (now («comb_pos_l» .exit)) (now («comb_pos_r» .exit)) (now («stores_l» .exit)) (now («stores_r» .exit)) (now («allpass_pos_l» .exit)) (now («allpass_pos_r» .exit)) (now («predelay_pos» .exit)) (now (rate .exit)) (now (memory .exit))) r ⌝ }
+    ensures { λ r. ⌜ StartReturns reverb «sample_rate» (now (memory .entry)) (reverbUnit (now («comb_pos_l» .exit)) (now («comb_pos_r» .exit)) (now («stores_l» .exit)) (now («stores_r» .exit)) (now («allpass_pos_l» .exit)) (now («allpass_pos_r» .exit)) (now («predelay_pos» .exit)) (now (rate .exit)) (now (memory .exit))) r ⌝ }
 {
     let started = Reverb::new(sample_rate, memory);
     put_reverb(
@@ -81,7 +81,7 @@ pub extern "C" fn room_raw_reverb_retune(
     predelay_pos: &mut u64,
     rate: &mut f64,
 ) -> u32
-    ensures { λ r. ⌜ Called reverb (retune «sample_rate») (reverbUnit (now («comb_pos_l» .entry)) (now («comb_pos_r» .entry)) (now («stores_l» .entry)) (now («stores_r» .entry)) (now («allpass_pos_l» .entry)) (now («allpass_pos_r» .entry)) (now («predelay_pos» .entry)) (now (rate .entry)) (now (memory .entry))) (reverbUnit (now («comb_pos_l» .exit)) (now («comb_pos_r» .exit)) (now («stores_l» .exit)) (now («stores_r» .exit)) (now («allpass_pos_l» .exit)) (now («allpass_pos_r» .exit)) (now («predelay_pos» .exit)) (now (rate .exit)) (now (memory .exit))) r ⌝ }
+    ensures { λ r. ⌜ CallReturns reverb (retune «sample_rate») (reverbUnit (now («comb_pos_l» .entry)) (now («comb_pos_r» .entry)) (now («stores_l» .entry)) (now («stores_r» .entry)) (now («allpass_pos_l» .entry)) (now («allpass_pos_r» .entry)) (now («predelay_pos» .entry)) (now (rate .entry)) (now (memory .entry))) (reverbUnit (now («comb_pos_l» .exit)) (now («comb_pos_r» .exit)) (now («stores_l» .exit)) (now («stores_r» .exit)) (now («allpass_pos_l» .exit)) (now («allpass_pos_r» .exit)) (now («predelay_pos» .exit)) (now (rate .exit)) (now (memory .exit))) r ⌝ }
 {
     let state = Reverb {
         comb_pos_l: *comb_pos_l,
@@ -125,7 +125,7 @@ pub extern "C" fn room_raw_reverb_reset(
     predelay_pos: &mut u64,
     rate: f64,
 ) -> u32
-    ensures { λ r. ⌜ Called reverb reset (reverbUnit (now («comb_pos_l» .entry)) (now («comb_pos_r» .entry)) (now («stores_l» .entry)) (now («stores_r» .entry)) (now («allpass_pos_l» .entry)) (now («allpass_pos_r» .entry)) (now («predelay_pos» .entry)) rate (now (memory .entry))) (reverbUnit (now («comb_pos_l» .exit)) (now («comb_pos_r» .exit)) (now («stores_l» .exit)) (now («stores_r» .exit)) (now («allpass_pos_l» .exit)) (now («allpass_pos_r» .exit)) (now («predelay_pos» .exit)) rate (now (memory .exit))) r ⌝ }
+    ensures { λ r. ⌜ CallReturns reverb reset (reverbUnit (now («comb_pos_l» .entry)) (now («comb_pos_r» .entry)) (now («stores_l» .entry)) (now («stores_r» .entry)) (now («allpass_pos_l» .entry)) (now («allpass_pos_r» .entry)) (now («predelay_pos» .entry)) rate (now (memory .entry))) (reverbUnit (now («comb_pos_l» .exit)) (now («comb_pos_r» .exit)) (now («stores_l» .exit)) (now («stores_r» .exit)) (now («allpass_pos_l» .exit)) (now («allpass_pos_r» .exit)) (now («predelay_pos» .exit)) rate (now (memory .exit))) r ⌝ }
 {
     let state = Reverb {
         comb_pos_l: *comb_pos_l,
@@ -177,7 +177,7 @@ pub extern "C" fn room_raw_reverb_tick(
     predelay: f64,
     out: &mut [f64; 2],
 ) -> u32
-    ensures { λ r. ⌜ Ticked reverb 2 (ticked (portAt set 1 audio) (portAt set 2 size) (portAt set 4 damping) (portAt set 8 mix) (portAt set 16 predelay)) (reverbUnit (now («comb_pos_l» .entry)) (now («comb_pos_r» .entry)) (now («stores_l» .entry)) (now («stores_r» .entry)) (now («allpass_pos_l» .entry)) (now («allpass_pos_r» .entry)) (now («predelay_pos» .entry)) rate (now (memory .entry))) (reverbUnit (now («comb_pos_l» .exit)) (now («comb_pos_r» .exit)) (now («stores_l» .exit)) (now («stores_r» .exit)) (now («allpass_pos_l» .exit)) (now («allpass_pos_r» .exit)) (now («predelay_pos» .exit)) rate (now (memory .exit))) (now (out .exit)) r ⌝ }
+    ensures { λ r. ⌜ TickReturns reverb 2 (tickOf (portAt set 1 audio) (portAt set 2 size) (portAt set 4 damping) (portAt set 8 mix) (portAt set 16 predelay)) (reverbUnit (now («comb_pos_l» .entry)) (now («comb_pos_r» .entry)) (now («stores_l» .entry)) (now («stores_r» .entry)) (now («allpass_pos_l» .entry)) (now («allpass_pos_r» .entry)) (now («predelay_pos» .entry)) rate (now (memory .entry))) (reverbUnit (now («comb_pos_l» .exit)) (now («comb_pos_r» .exit)) (now («stores_l» .exit)) (now («stores_r» .exit)) (now («allpass_pos_l» .exit)) (now («allpass_pos_r» .exit)) (now («predelay_pos» .exit)) rate (now (memory .exit))) (now (out .exit)) r ⌝ }
 {
     let answer = Reverb::tick_in_place(
         comb_pos_l,
@@ -212,7 +212,7 @@ pub extern "C" fn room_raw_reverb_silent(
     memory: &[f64],
     out: &mut u32,
 ) -> u32
-    ensures { λ r. ⌜ Asked reverb (reverbUnit (now («comb_pos_l» .entry)) (now («comb_pos_r» .entry)) (now («stores_l» .entry)) (now («stores_r» .entry)) (now («allpass_pos_l» .entry)) (now («allpass_pos_r» .entry)) «predelay_pos» rate (now (memory .entry))) (now (out .exit)) r ⌝ }
+    ensures { λ r. ⌜ AskReturns reverb (reverbUnit (now («comb_pos_l» .entry)) (now («comb_pos_r» .entry)) (now («stores_l» .entry)) (now («stores_r» .entry)) (now («allpass_pos_l» .entry)) (now («allpass_pos_r» .entry)) «predelay_pos» rate (now (memory .entry))) (now (out .exit)) r ⌝ }
 {
     let state = Reverb {
         comb_pos_l: *comb_pos_l,

@@ -1,7 +1,7 @@
 // The tremolo's calls.
 ghost use Rattle.effect.specs.Run.{reset};
-ghost use Rattle.tremolo.specs.Tremolo.{tremolo, ticked};
-ghost use Rattle.room_effects.specs.Lent.{Began, Called, Ticked, Asked};
+ghost use Rattle.tremolo.specs.Tremolo.{tremolo, tickOf};
+ghost use Rattle.room_effects.specs.Lent.{StartReturns, CallReturns, TickReturns, AskReturns};
 ghost use Rattle.room_effects.specs.Units.{tremoloUnit};
 ghost use Rattle.room_effects.specs.Ports.{portAt};
 ghost use mathlib.Core.List.{[], _∷_};
@@ -11,7 +11,7 @@ use tremolo::Tremolo;
 // Start of a tremolo. A refused one writes the state of zeros too.
 #[no_mangle]
 pub extern "C" fn room_raw_tremolo_start(sample_rate: f64, phase: &mut f64, rate: &mut f64) -> u32
-    ensures { λ r. ⌜ Began tremolo «sample_rate» [] (tremoloUnit (now (phase .exit)) (now (rate .exit))) r ⌝ }
+    ensures { λ r. ⌜ StartReturns tremolo «sample_rate» [] (tremoloUnit (now (phase .exit)) (now (rate .exit))) r ⌝ }
 {
     let started = Tremolo::new(sample_rate);
     *phase = started.state.lfo_phase;
@@ -22,7 +22,7 @@ pub extern "C" fn room_raw_tremolo_start(sample_rate: f64, phase: &mut f64, rate
 
 #[no_mangle]
 pub extern "C" fn room_raw_tremolo_reset(phase: &mut f64, rate: f64) -> u32
-    ensures { λ r. ⌜ Called tremolo reset (tremoloUnit (now (phase .entry)) rate) (tremoloUnit (now (phase .exit)) rate) r ⌝ }
+    ensures { λ r. ⌜ CallReturns tremolo reset (tremoloUnit (now (phase .entry)) rate) (tremoloUnit (now (phase .exit)) rate) r ⌝ }
 {
     let state = Tremolo {
         lfo_phase: *phase,
@@ -51,7 +51,7 @@ pub extern "C" fn room_raw_tremolo_tick(
     sine: f64,
     out: &mut f64,
 ) -> u32
-    ensures { λ r. ⌜ Ticked tremolo 1 (ticked (portAt set 1 audio) (portAt set 2 depth) (portAt set 4 shape) frequency sine) (tremoloUnit (now (phase .entry)) rate) (tremoloUnit (now (phase .exit)) rate) (now (out .exit) ∷ []) r ⌝ }
+    ensures { λ r. ⌜ TickReturns tremolo 1 (tickOf (portAt set 1 audio) (portAt set 2 depth) (portAt set 4 shape) frequency sine) (tremoloUnit (now (phase .entry)) rate) (tremoloUnit (now (phase .exit)) rate) (now (out .exit) ∷ []) r ⌝ }
 {
     let state = Tremolo {
         lfo_phase: *phase,
@@ -76,7 +76,7 @@ pub extern "C" fn room_raw_tremolo_tick(
 
 #[no_mangle]
 pub extern "C" fn room_raw_tremolo_silent(phase: f64, rate: f64, out: &mut u32) -> u32
-    ensures { λ r. ⌜ Asked tremolo (tremoloUnit phase rate) (now (out .exit)) r ⌝ }
+    ensures { λ r. ⌜ AskReturns tremolo (tremoloUnit phase rate) (now (out .exit)) r ⌝ }
 {
     let state = Tremolo {
         lfo_phase: phase,

@@ -1,7 +1,7 @@
 // The vibrato's calls.
 ghost use Rattle.effect.specs.Run.{retune, reset};
-ghost use Rattle.vibrato.specs.Vibrato.{vibrato, ticked};
-ghost use Rattle.room_effects.specs.Lent.{Began, Called, Ticked, Asked};
+ghost use Rattle.vibrato.specs.Vibrato.{vibrato, tickOf};
+ghost use Rattle.room_effects.specs.Lent.{StartReturns, CallReturns, TickReturns, AskReturns};
 ghost use Rattle.room_effects.specs.Units.{vibratoUnit};
 ghost use Rattle.room_effects.specs.Ports.{portAt};
 ghost use mathlib.Core.List.{[], _∷_};
@@ -17,13 +17,13 @@ pub extern "C" fn room_raw_vibrato_start(
     phase: &mut f64,
     rate: &mut f64,
 ) -> u32
-    ensures { λ r. ⌜ Began vibrato «sample_rate» (now (memory .entry)) (vibratoUnit (now (pos .exit)) (now (phase .exit)) (now (rate .exit)) (now (memory .exit))) r ⌝ }
+    ensures { λ r. ⌜ StartReturns vibrato «sample_rate» (now (memory .entry)) (vibratoUnit (now (pos .exit)) (now (phase .exit)) (now (rate .exit)) (now (memory .exit))) r ⌝ }
 {
-    let begun = Vibrato::new(sample_rate, memory);
-    *pos = begun.state.write_pos;
-    *phase = begun.state.lfo_phase;
-    *rate = begun.state.sample_rate;
-    let outcome = begun.outcome;
+    let started = Vibrato::new(sample_rate, memory);
+    *pos = started.state.write_pos;
+    *phase = started.state.lfo_phase;
+    *rate = started.state.sample_rate;
+    let outcome = started.outcome;
     outcome.number()
 }
 
@@ -35,7 +35,7 @@ pub extern "C" fn room_raw_vibrato_retune(
     phase: &mut f64,
     rate: &mut f64,
 ) -> u32
-    ensures { λ r. ⌜ Called vibrato (retune «sample_rate») (vibratoUnit (now (pos .entry)) (now (phase .entry)) (now (rate .entry)) (now (memory .entry))) (vibratoUnit (now (pos .exit)) (now (phase .exit)) (now (rate .exit)) (now (memory .exit))) r ⌝ }
+    ensures { λ r. ⌜ CallReturns vibrato (retune «sample_rate») (vibratoUnit (now (pos .entry)) (now (phase .entry)) (now (rate .entry)) (now (memory .entry))) (vibratoUnit (now (pos .exit)) (now (phase .exit)) (now (rate .exit)) (now (memory .exit))) r ⌝ }
 {
     let state = Vibrato {
         write_pos: *pos,
@@ -61,21 +61,21 @@ pub extern "C" fn room_raw_vibrato_reset(
     phase: &mut f64,
     rate: f64,
 ) -> u32
-    ensures { λ r. ⌜ Called vibrato reset (vibratoUnit (now (pos .entry)) (now (phase .entry)) rate (now (memory .entry))) (vibratoUnit (now (pos .exit)) (now (phase .exit)) rate (now (memory .exit))) r ⌝ }
+    ensures { λ r. ⌜ CallReturns vibrato reset (vibratoUnit (now (pos .entry)) (now (phase .entry)) rate (now (memory .entry))) (vibratoUnit (now (pos .exit)) (now (phase .exit)) rate (now (memory .exit))) r ⌝ }
 {
     let state = Vibrato {
         write_pos: *pos,
         lfo_phase: *phase,
         sample_rate: rate,
     };
-    let emptied = state.reset(memory);
-    let outcome = emptied.outcome;
+    let cleared = state.reset(memory);
+    let outcome = cleared.outcome;
     let number = outcome.number();
     if number != 0 {
         return number;
     }
-    *pos = emptied.state.write_pos;
-    *phase = emptied.state.lfo_phase;
+    *pos = cleared.state.write_pos;
+    *phase = cleared.state.lfo_phase;
     0
 }
 
@@ -94,7 +94,7 @@ pub extern "C" fn room_raw_vibrato_tick(
     sine: f64,
     out: &mut f64,
 ) -> u32
-    ensures { λ r. ⌜ Ticked vibrato 1 (ticked (portAt set 1 audio) (portAt set 2 depth) (portAt set 4 mix) frequency sine) (vibratoUnit (now (pos .entry)) (now (phase .entry)) rate (now (memory .entry))) (vibratoUnit (now (pos .exit)) (now (phase .exit)) rate (now (memory .exit))) (now (out .exit) ∷ []) r ⌝ }
+    ensures { λ r. ⌜ TickReturns vibrato 1 (tickOf (portAt set 1 audio) (portAt set 2 depth) (portAt set 4 mix) frequency sine) (vibratoUnit (now (pos .entry)) (now (phase .entry)) rate (now (memory .entry))) (vibratoUnit (now (pos .exit)) (now (phase .exit)) rate (now (memory .exit))) (now (out .exit) ∷ []) r ⌝ }
 {
     let state = Vibrato {
         write_pos: *pos,
@@ -128,14 +128,14 @@ pub extern "C" fn room_raw_vibrato_silent(
     memory: &[f64],
     out: &mut u32,
 ) -> u32
-    ensures { λ r. ⌜ Asked vibrato (vibratoUnit «write_pos» «lfo_phase» «sample_rate» (now (memory .entry))) (now (out .exit)) r ⌝ }
+    ensures { λ r. ⌜ AskReturns vibrato (vibratoUnit «write_pos» «lfo_phase» «sample_rate» (now (memory .entry))) (now (out .exit)) r ⌝ }
 {
     let state = Vibrato {
         write_pos,
         lfo_phase,
         sample_rate,
     };
-    let answered = state.silent(memory);
-    *out = answered.flag();
-    answered.number()
+    let silence = state.silent(memory);
+    *out = silence.flag();
+    silence.number()
 }

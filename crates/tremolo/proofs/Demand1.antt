@@ -12,28 +12,28 @@ use Rattle.effect.proofs.Laws.{Laws}
 use Rattle.effect.specs.Demand1.{Demand1}
 use Rattle.effect.proofs.Demand1.{demand-1}
 use Rattle.tremolo.specs.declared.Tremolo.{Tremolo}
-use Rattle.tremolo.specs.Tremolo.{Tick, tremolo, fits, fresh, blank, tickNumber, next}
+use Rattle.tremolo.specs.Tremolo.{Tick, tremolo, stateFits, fresh, blank, tickNumber, next}
 
 -- ---- the laws
 
-blank-refused : fits blank ≡ false
-unfolding fits inRange le ofInt Ieee.fits
+blank-refused : stateFits blank ≡ false
+unfolding stateFits inRange le ofInt Ieee.fits
 blank-refused = refl
 
 zero-phase : phaseFits plusZero ≡ true
 unfolding inUnit le lt ofInt Ieee.fits
 zero-phase = refl
 
-fresh-fits : (rate : Float) → rateFits rate ≡ true → fits (fresh rate) ≡ true
-unfolding fits
+fresh-fits : (rate : Float) → rateFits rate ≡ true → stateFits (fresh rate) ≡ true
+unfolding stateFits
 fresh-fits rate h = rw (h, zero-phase)
 
-parts : (s : Tremolo) → fits s ≡ true → (rateFits (s .«sample_rate») ≡ true) × (phaseFits (s .«lfo_phase») ≡ true)
-unfolding fits
+parts : (s : Tremolo) → stateFits s ≡ true → (rateFits (s .«sample_rate») ≡ true) × (phaseFits (s .«lfo_phase») ≡ true)
+unfolding stateFits
 parts s e = both (rateFits (s .«sample_rate»)) (phaseFits (s .«lfo_phase»)) e
 
-next-fits : (t : Tick) (s : Tremolo) → fits s ≡ true → tickNumber t ≡ 0 → fits (next t s) ≡ true
-unfolding fits next tickNumber
+next-fits : (t : Tick) (s : Tremolo) → stateFits s ≡ true → tickNumber t ≡ 0 → stateFits (next t s) ≡ true
+unfolding stateFits next tickNumber
 next-fits t s e n =
     let p = parts s e in
     let f = both (frequencyFits (t .frequency)) (sineFits (t .sine)) (none-5-6 (isNanSet (t .depth) || isNanSet (t .shape)) (frequencyFits (t .frequency) && sineFits (t .sine)) n) .0 in

@@ -5,7 +5,7 @@ ghost use Rattle.port.specs.Answer.{outcomeReply, answerReply, silenceReply};
 ghost use Rattle.effect.specs.Run.{tick, reset, ask};
 ghost use Rattle.effect.specs.Contract.{Does, Starts};
 ghost use Rattle.effect.specs.Needed.{placesNeeded};
-ghost use Rattle.tremolo.specs.Tremolo.{tremolo, ticked, fits, triangle, lfo, modulated};
+ghost use Rattle.tremolo.specs.Tremolo.{tremolo, tickOf, stateFits, triangle, lfo, modulated};
 use port::Answer;
 use port::Outcome;
 use port::Port;
@@ -64,7 +64,7 @@ impl Tremolo {
 
     // The state test.
     fn state_fits(self) -> bool
-        ensures { λ r. ⌜ r ≡ fits self ⌝ }
+        ensures { λ r. ⌜ r ≡ stateFits self ⌝ }
     {
         float64::rate_fits(self.sample_rate) && float64::phase_fits(self.lfo_phase)
     }
@@ -121,7 +121,7 @@ impl Tremolo {
 
     // One sample. Frequency and sine are the host's curve numbers, the sine at the state's phase.
     pub fn tick(self, audio: Port, depth: Port, shape: Port, frequency: f64, sine: f64) -> Ticked
-        ensures { λ r. ⌜ Does tremolo (tick (ticked audio depth shape frequency sine)) self [] (r .state) [] (answerReply (r .answer)) ⌝ }
+        ensures { λ r. ⌜ Does tremolo (tick (tickOf audio depth shape frequency sine)) self [] (r .state) [] (answerReply (r .answer)) ⌝ }
     {
         if !self.state_fits() {
             return Ticked {

@@ -12,13 +12,13 @@ use Rattle.effect.proofs.Laws.{Laws, Below}
 use Rattle.effect.specs.Demand1.{Demand1}
 use Rattle.effect.proofs.Demand1.{demand-1}
 use Rattle.vibrato.specs.declared.Vibrato.{Vibrato}
-use Rattle.vibrato.specs.Vibrato.{Tick, vibrato, fits, fresh, blank, lineLength, tickNumber, next, writes}
+use Rattle.vibrato.specs.Vibrato.{Tick, vibrato, stateFits, fresh, blank, lineLength, tickNumber, next, writes}
 use Rattle.vibrato.proofs.Laws.{fits-parts, fit, length-fits, tick-fits}
 
 -- ---- the laws
 
-blank-refused : fits blank ≡ false
-unfolding fits inRange le ofInt Ieee.fits
+blank-refused : stateFits blank ≡ false
+unfolding stateFits inRange le ofInt Ieee.fits
 blank-refused = refl
 
 zero-phase : phaseFits plusZero ≡ true
@@ -26,10 +26,10 @@ unfolding inUnit le lt ofInt Ieee.fits
 zero-phase = refl
 
 -- a clearing leaves a state that passes
-fresh-fits : (rate : Float) → rateFits rate ≡ true → fits (fresh rate) ≡ true
+fresh-fits : (rate : Float) → rateFits rate ≡ true → stateFits (fresh rate) ≡ true
 fresh-fits rate h = fit (fresh rate) (record { rate = h; inside = omega (arith, length-fits rate h .0); phase = zero-phase })
 
-next-fits : (t : Tick) (s : Vibrato) → fits s ≡ true → tickNumber t ≡ 0 → fits (next t s) ≡ true
+next-fits : (t : Tick) (s : Vibrato) → stateFits s ≡ true → tickNumber t ≡ 0 → stateFits (next t s) ≡ true
 unfolding next
 next-fits t s e n =
     let f = fits-parts s e in
@@ -41,7 +41,7 @@ next-fits t s e n =
       phase = phase-stays (s .«lfo_phase») (t .frequency) rate (f .phase) (tick-fits t n .frequency) (f .rate);
     })
 
-inside : (t : Tick) (s : Vibrato) → fits s ≡ true → Below (lineLength (s .«sample_rate»)) (writes t s)
+inside : (t : Tick) (s : Vibrato) → stateFits s ≡ true → Below (lineLength (s .«sample_rate»)) (writes t s)
 unfolding writes
 inside t s e = let f = fits-parts s e .inside in (omega arith, tt)
 

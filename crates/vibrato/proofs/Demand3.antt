@@ -18,7 +18,7 @@ use Rattle.effect.proofs.LineLaws.{LineLaws}
 use Rattle.effect.proofs.Lines.{read-of}
 use Rattle.effect.proofs.Demand3.{demand-3}
 use Rattle.vibrato.specs.declared.Vibrato.{Vibrato}
-use Rattle.vibrato.specs.Vibrato.{Tick, vibrato, lines, fits, lineLength, tickNumber, input, depth, mix, distance, delayed, next, writes, sample}
+use Rattle.vibrato.specs.Vibrato.{Tick, vibrato, lines, stateFits, lineLength, tickNumber, input, depth, mix, distance, delayed, next, writes, sample}
 use Rattle.vibrato.proofs.Laws.{fits-parts, length-fits, tick-fits, distance-in}
 use Rattle.vibrato.proofs.Demand1.{laws}
 
@@ -26,7 +26,7 @@ use Rattle.vibrato.proofs.Demand1.{laws}
 abbrev heard : Tick → Float → List Float → Float
 heard t rate l = blended (input t) (readLine l (distance rate (depth t) (t .sine))) (mix t)
 
-plays : (t : Tick) (s : Vibrato) (m l : List Float) → fits s ≡ true → tickNumber t ≡ 0
+plays : (t : Tick) (s : Vibrato) (m l : List Float) → stateFits s ≡ true → tickNumber t ≡ 0
     → newestFirst (0 * lineLength (s .«sample_rate»)) (lineLength (s .«sample_rate»)) (s .«write_pos») m ≡ l
     → sample t s m ≡ heard t (s .«sample_rate») l
 unfolding sample delayed isNumber Ieee.fits isNan round

@@ -10,7 +10,7 @@ use lib.ListN.{length, take, set}
 use lib.Ieee.{Float, binary64, add, mul, div, neg, le, lt, ofInt, round}
 use lib.Ieee as Ieee
 use borrow.Author.Tests.{ltb-true, lt-ltb}
-use Rattle.float64.specs.Number.{plusZero, whole, fraction, half, rateFits, phaseFits, frequencyFits, sineFits, clampOf}
+use Rattle.float64.specs.Number.{plusZero, ofNat, fraction, half, rateFits, phaseFits, frequencyFits, sineFits, clampOf}
 use Rattle.float64.proofs.Tests.{both}
 use Rattle.float64.proofs.Interval.{In, point, add-in, mul-in, div-in, scale-in}
 use Rattle.float64.proofs.Ranges.{rate-in, sine-in, in-number}
@@ -28,7 +28,7 @@ use Rattle.effect.specs.Run.{tick, numberIn}
 use Rattle.effect.specs.Contract.{Does}
 use Rattle.effect.proofs.Contract.{accepts}
 use Rattle.vibrato.specs.declared.Vibrato.{Vibrato}
-use Rattle.vibrato.specs.Vibrato.{Tick, ticked, vibrato, lineLength, fits, tickNumber, input, depth, mix, distance, delayed, next, writes, sample}
+use Rattle.vibrato.specs.Vibrato.{Tick, tickOf, vibrato, lineLength, stateFits, tickNumber, input, depth, mix, distance, delayed, next, writes, sample}
 
 -- ---- the line's length
 
@@ -38,16 +38,16 @@ module _ (rate : Float) (h : rateFits rate ≡ true) where
   length-fits = let l = length-20 rate h in (omega arith, omega arith)
 
   -- rate × 20 / 1000 is small enough for the quick whole part
-  pub samples-small : T (le (whole 1) (samples rate (whole 20))) × T (lt (samples rate (whole 20)) (whole 9007199254740992))
+  pub samples-small : T (le (ofNat 1) (samples rate (ofNat 20))) × T (lt (samples rate (ofNat 20)) (ofNat 9007199254740992))
   unfolding Ieee.fits le lt mul div ofInt
   samples-small =
-      small (div-in (whole 1) (whole 16777216) tt tt tt (mul-in (whole 160000) (whole 3840000) tt tt tt (rate-in h) (point (whole 20) tt)) (point (whole 1000) tt))
+      small (div-in (ofNat 1) (ofNat 16777216) tt tt tt (mul-in (ofNat 160000) (ofNat 3840000) tt tt tt (rate-in h) (point (ofNat 20) tt)) (point (ofNat 1000) tt))
 
 -- ---- the state test
 
 -- by the length n of the line, as `line_length` answers it
-pub fits-by : (s : Vibrato) {n : ℕ} → n ≡ cond (rateFits (s .«sample_rate»)) (lineLength (s .«sample_rate»)) 0 → fits s ≡ ltb (s .«write_pos») n && phaseFits (s .«lfo_phase»)
-unfolding fits
+pub fits-by : (s : Vibrato) {n : ℕ} → n ≡ cond (rateFits (s .«sample_rate»)) (lineLength (s .«sample_rate»)) 0 → stateFits s ≡ ltb (s .«write_pos») n && phaseFits (s .«lfo_phase»)
+unfolding stateFits
 fits-by s e = size-tests (rateFits (s .«sample_rate»)) (lineLength (s .«sample_rate»)) (s .«write_pos») (λ n. phaseFits (s .«lfo_phase»)) e
 
 pub record Fits (s : Vibrato) : Type 0 where
@@ -56,8 +56,8 @@ pub record Fits (s : Vibrato) : Type 0 where
   pub phase : phaseFits (s .«lfo_phase») ≡ true
 
 module _ (s : Vibrato) where
-  pub fits-parts : fits s ≡ true → Fits s
-  unfolding fits
+  pub fits-parts : stateFits s ≡ true → Fits s
+  unfolding stateFits
   fits-parts e =
       let w = ltb (s .«write_pos») (lineLength (s .«sample_rate»)) in
       let p = phaseFits (s .«lfo_phase») in
@@ -65,8 +65,8 @@ module _ (s : Vibrato) where
       let b = both w p (a .1) in
       record { rate = a .0; inside = ltb-true (s .«write_pos») (lineLength (s .«sample_rate»)) (b .0); phase = b .1 }
 
-  pub fit : Fits s → fits s ≡ true
-  unfolding fits
+  pub fit : Fits s → stateFits s ≡ true
+  unfolding stateFits
   fit f = rw (f .rate, lt-ltb (s .«write_pos») (lineLength (s .«sample_rate»)) (f .inside), f .phase)
 
 -- ---- causes 5 and 6
@@ -88,18 +88,18 @@ tick-fits t e =
 -- (10 + sine × (depth × 10 × 0.9)) × rate / 1000
 abbrev swept : Float → Float → Float → Float
 swept rate depth sine =
-    div binary64 (mul binary64 (add binary64 (whole 10) (mul binary64 sine (mul binary64 (mul binary64 depth (whole 10)) (fraction 9 10)))) rate) (whole 1000)
+    div binary64 (mul binary64 (add binary64 (ofNat 10) (mul binary64 sine (mul binary64 (mul binary64 depth (ofNat 10)) (fraction 9 10)))) rate) (ofNat 1000)
 
-module _ (rate depth sine : Float) (h : rateFits rate ≡ true) (d : In binary64 plusZero (whole 1) depth) (k : sineFits sine ≡ true) where
-  swept-in : In binary64 plusZero (whole 3840) (swept rate depth sine)
+module _ (rate depth sine : Float) (h : rateFits rate ≡ true) (d : In binary64 plusZero (ofNat 1) depth) (k : sineFits sine ≡ true) where
+  swept-in : In binary64 plusZero (ofNat 3840) (swept rate depth sine)
   unfolding Ieee.fits le lt add mul div neg ofInt round
   swept-in =
-      let swing = mul-in plusZero (whole 10) tt tt tt (mul-in plusZero (whole 10) tt tt tt d (point (whole 10) tt)) (point (fraction 9 10) tt) in
-      let delay = add-in plusZero (whole 20) tt (point (whole 10) tt) (scale-in (neg (whole 10)) (whole 10) tt tt tt (sine-in k) swing) in
-      div-in plusZero (whole 3840) tt tt tt (mul-in plusZero (whole 3840000) tt tt tt delay (rate-in h)) (point (whole 1000) tt)
+      let swing = mul-in plusZero (ofNat 10) tt tt tt (mul-in plusZero (ofNat 10) tt tt tt d (point (ofNat 10) tt)) (point (fraction 9 10) tt) in
+      let delay = add-in plusZero (ofNat 20) tt (point (ofNat 10) tt) (scale-in (neg (ofNat 10)) (ofNat 10) tt tt tt (sine-in k) swing) in
+      div-in plusZero (ofNat 3840) tt tt tt (mul-in plusZero (ofNat 3840000) tt tt tt delay (rate-in h)) (point (ofNat 1000) tt)
 
   -- after the clamp both places that are read lie in the line
-  pub distance-in : In binary64 (whole 1) (whole (lineLength rate - 1)) (distance rate depth sine)
+  pub distance-in : In binary64 (ofNat 1) (ofNat (lineLength rate - 1)) (distance rate depth sine)
   unfolding distance
   distance-in =
       let l = length-fits rate h in
@@ -139,9 +139,9 @@ module _ (t : Tick) (s : Vibrato) (m : List Float) {n : ℕ} (e : n ≡ lineLeng
 
 -- ---- ports: a tick is the one with all ports set to the values that it takes from them
 
-module _ (t : Tick) {x d b : Float} (audio : x ≡ valueOr (t .audio) plusZero) (amount : d ≡ valueOr (t .depth) half) (wet : b ≡ valueOr (t .mix) (whole 1)) where
+module _ (t : Tick) {x d b : Float} (audio : x ≡ valueOr (t .audio) plusZero) (amount : d ≡ valueOr (t .depth) half) (wet : b ≡ valueOr (t .mix) (ofNat 1)) where
   abbrev pub allSet : Tick
-  allSet = ticked (Set x) (Set d) (Set b) (t .frequency) (t .sine)
+  allSet = tickOf (Set x) (Set d) (Set b) (t .frequency) (t .sine)
 
   pub set-does : {s : Vibrato} {m : List Float} {s' : Vibrato} {m' : List Float} {a : Reply} → numberIn vibrato (tick t) (length m) s ≡ 0
       → numberIn vibrato (tick allSet) (length m) s ≡ 0
@@ -156,4 +156,4 @@ module _ (t : Tick) {x d b : Float} (audio : x ≡ valueOr (t .audio) plusZero) 
       (rw k at (does .state))
       ((rw k at (does .memory)) ∙ (λ i. laid (inEach 1 0 L w (audio i)) m))
       ((rw k at (does .answer))
-      ∙ (λ i. played (blended (audio i) (readAt (lineAt 0 L w m) (distance rate (clampOf (amount i) plusZero (whole 1)) (t .sine))) (clampOf (wet i) plusZero (whole 1)) ∷ [])))
+      ∙ (λ i. played (blended (audio i) (readAt (lineAt 0 L w m) (distance rate (clampOf (amount i) plusZero (ofNat 1)) (t .sine))) (clampOf (wet i) plusZero (ofNat 1)) ∷ [])))

@@ -5,7 +5,7 @@ use mathlib.Core.List.{List, [], _∷_}
 use lib.Dec.{ltb}
 use lib.ListN.{take}
 use lib.Ieee.{Float, binary64, add, mul, div}
-use Rattle.float64.specs.Number.{plusZero, whole, fraction, half, rateFits, phaseFits, frequencyFits, sineFits, clampOf, wholePart}
+use Rattle.float64.specs.Number.{plusZero, ofNat, fraction, half, rateFits, phaseFits, frequencyFits, sineFits, clampOf, wholePart}
 use Rattle.port.specs.declared.Port.{Port}
 use Rattle.port.specs.Port.{valueOr, isNanSet}
 use Rattle.common.specs.Signal.{blended, advanced, causeNumber}
@@ -22,12 +22,12 @@ pub record Tick : Type 0 where
   pub frequency : Float
   pub sine : Float
 
-abbrev pub ticked : Port → Port → Port → Float → Float → Tick
-ticked audio depth mix frequency sine = record { audio = audio; depth = depth; mix = mix; frequency = frequency; sine = sine }
+abbrev pub tickOf : Port → Port → Port → Float → Float → Tick
+tickOf audio depth mix frequency sine = record { audio = audio; depth = depth; mix = mix; frequency = frequency; sine = sine }
 
 -- L: the whole part of rate × 20 / 1000, plus 10
 unfoldable pub lineLength : Float → ℕ
-lineLength rate = wholePart (div binary64 (mul binary64 rate (whole 20)) (whole 1000)) + 10
+lineLength rate = wholePart (div binary64 (mul binary64 rate (ofNat 20)) (ofNat 1000)) + 10
 
 -- the state after a start, a reset and a retune, which all zero the phase; and the one that a refused start gives
 abbrev pub fresh : Float → Vibrato
@@ -37,8 +37,8 @@ abbrev pub blank : Vibrato
 blank = fresh plusZero
 
 -- the state test, cause 4
-unfoldable pub fits : Vibrato → Bool
-fits s = rateFits (s .«sample_rate») && (ltb (s .«write_pos») (lineLength (s .«sample_rate»)) && phaseFits (s .«lfo_phase»))
+unfoldable pub stateFits : Vibrato → Bool
+stateFits s = rateFits (s .«sample_rate») && (ltb (s .«write_pos») (lineLength (s .«sample_rate»)) && phaseFits (s .«lfo_phase»))
 
 -- causes 5 and 6
 unfoldable pub tickNumber : Tick → ℕ
@@ -51,18 +51,18 @@ abbrev pub input : Tick → Float
 input t = valueOr (t .audio) plusZero
 
 abbrev pub depth : Tick → Float
-depth t = clampOf (valueOr (t .depth) half) plusZero (whole 1)
+depth t = clampOf (valueOr (t .depth) half) plusZero (ofNat 1)
 
 abbrev pub mix : Tick → Float
-mix t = clampOf (valueOr (t .mix) (whole 1)) plusZero (whole 1)
+mix t = clampOf (valueOr (t .mix) (ofNat 1)) plusZero (ofNat 1)
 
 -- (10 + sine × (depth × 10 × 0.9)) × rate / 1000, clamped to 1 to L − 1
 unfoldable pub distance : Float → Float → Float → Float
 distance rate depth sine =
     clampOf
-    (div binary64 (mul binary64 (add binary64 (whole 10) (mul binary64 sine (mul binary64 (mul binary64 depth (whole 10)) (fraction 9 10)))) rate) (whole 1000))
-    (whole 1)
-    (whole (lineLength rate - 1))
+    (div binary64 (mul binary64 (add binary64 (ofNat 10) (mul binary64 sine (mul binary64 (mul binary64 depth (ofNat 10)) (fraction 9 10)))) rate) (ofNat 1000))
+    (ofNat 1)
+    (ofNat (lineLength rate - 1))
 
 -- what the line holds at that distance, before the store
 unfoldable pub delayed : Tick → Vibrato → List Float → Float
@@ -96,7 +96,7 @@ vibrato =
       Start = Float;
       Retune = Float;
       Tick = Tick;
-      fits = fits;
+      stateFits = stateFits;
       settings = λ s. s .«sample_rate»;
       startSettings = λ rate. rate;
       retuneSettings = λ rate old. rate;

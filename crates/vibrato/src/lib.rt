@@ -12,7 +12,7 @@ ghost use Rattle.common.specs.Line.{nextPlace};
 ghost use Rattle.effect.specs.Run.{tick, retune, reset, ask, startNumber, numberIn};
 ghost use Rattle.effect.specs.Contract.{Does, Starts};
 ghost use Rattle.effect.specs.Needed.{placesNeeded};
-ghost use Rattle.vibrato.specs.Vibrato.{vibrato, ticked, lineLength, fresh, fits, distance};
+ghost use Rattle.vibrato.specs.Vibrato.{vibrato, tickOf, lineLength, fresh, stateFits, distance};
 use port::Answer;
 use port::Outcome;
 use port::Port;
@@ -104,7 +104,7 @@ impl Vibrato {
     // The state test, where n is the length of the line.
     fn state_fits(self, n: u64) -> bool
         requires { ⌜ n ≡ cond (rateFits (self .«sample_rate»)) (lineLength (self .«sample_rate»)) 0 ⌝ }
-        ensures { λ r. ⌜ r ≡ fits self ⌝ }
+        ensures { λ r. ⌜ r ≡ stateFits self ⌝ }
     {
         self.write_pos < n && float64::phase_fits(self.lfo_phase)
     }
@@ -225,8 +225,8 @@ impl Vibrato {
         sine: f64,
     ) -> Ticked
         requires { ⌜ n ≡ lineLength (self .«sample_rate») ⌝ }
-        requires { ⌜ numberIn vibrato (tick (ticked (Set audio) (Set depth) (Set mix) frequency sine)) (length (now mem)) self ≡ 0 ⌝ }
-        ensures { λ r. ⌜ Does vibrato (tick (ticked (Set audio) (Set depth) (Set mix) frequency sine)) self (now (mem .entry)) (r .state) (now (mem .exit)) (answerReply (r .answer)) ⌝ }
+        requires { ⌜ numberIn vibrato (tick (tickOf (Set audio) (Set depth) (Set mix) frequency sine)) (length (now mem)) self ≡ 0 ⌝ }
+        ensures { λ r. ⌜ Does vibrato (tick (tickOf (Set audio) (Set depth) (Set mix) frequency sine)) self (now (mem .entry)) (r .state) (now (mem .exit)) (answerReply (r .answer)) ⌝ }
     {
         let state = self.next(n, frequency);
         let amount = float64::clamp(depth, 0.0, 1.0);
@@ -252,7 +252,7 @@ impl Vibrato {
         frequency: f64,
         sine: f64,
     ) -> Ticked
-        ensures { λ r. ⌜ Does vibrato (tick (ticked audio depth mix frequency sine)) self (now (mem .entry)) (r .state) (now (mem .exit)) (answerReply (r .answer)) ⌝ }
+        ensures { λ r. ⌜ Does vibrato (tick (tickOf audio depth mix frequency sine)) self (now (mem .entry)) (r .state) (now (mem .exit)) (answerReply (r .answer)) ⌝ }
     {
         let n = Vibrato::line_length(self.sample_rate);
         let refusal = self.refusal(n, mem.len());

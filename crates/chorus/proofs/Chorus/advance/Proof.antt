@@ -8,14 +8,14 @@ use lib.ListN.{length, take, drop, length-set}
 use lib.Ieee.{Float, isNan, ofBits, ofInt, round}
 use lib.Ieee as Ieee
 use borrow.Author.Needs.{needs}
-use Rattle.float64.specs.Number.{plusZero, whole, half, isNumber, sineFits, clampOf}
+use Rattle.float64.specs.Number.{plusZero, ofNat, half, isNumber, sineFits, clampOf}
 use Rattle.float64.proofs.Ranges.{in-number}
 use Rattle.port.specs.declared.Port.the-variants.{Set}
 use Rattle.common.proofs.Sweep.{control-in, part-length}
 use Rattle.effect.specs.Run.{tick}
 use Rattle.effect.proofs.Table.{Accepted, accepted, TickAccepted, tick-accepted}
 use Rattle.effect.proofs.Contract.{accepts}
-use Rattle.chorus.specs.Chorus.{chorus, Tick, ticked}
+use Rattle.chorus.specs.Chorus.{chorus, Tick, tickOf}
 use Rattle.chorus.proofs.Laws.{Fits, fits-parts, length-fits, TickFits, tick-fits, swept, swept-in, voice-is, next-is, stored-is, played-is}
 use Rattle.chorus.proofs.Chorus.advance.Statement.{statement}
 use Rattle.chorus.proofs.Chorus.advance.Tie as tie
@@ -25,14 +25,14 @@ module _ (s : tie.Start) where
   abbrev handed : Tick
   handed =
       let a = s .args in
-      ticked (Set (a .audio)) (Set (a .depth)) (Set (a .mix)) (a .frequency) (a .sine0) (a .sine1) (a .sine2)
+      tickOf (Set (a .audio)) (Set (a .depth)) (Set (a .mix)) (a .frequency) (a .sine0) (a .sine1) (a .sine2)
 
   -- it is accepted, so that the state passes its test, the memory has the places and the curve numbers are in range
   taken : Accepted chorus (length (s .args .mem .now)) (tick handed) (s .args .self)
   taken = accepted chorus (length (s .args .mem .now)) (tick handed) (s .args .self) (s .pre .1)
 
   unit : Fits (s .args .self)
-  unit = fits-parts (s .args .self) (taken .fits)
+  unit = fits-parts (s .args .self) (taken .stateFits)
 
   row : TickAccepted chorus (length (s .args .mem .now)) handed (s .args .self .«sample_rate»)
   row = tick-accepted chorus (length (s .args .mem .now)) handed (s .args .self .«sample_rate») (taken .number)
@@ -51,7 +51,7 @@ module _ (s : tie.Start) where
   room = omega (arith, s .pre .0, row .enough)
 
   -- what a voice asks, of the part of k places from place o on
-  asks : (k o : ℕ) {d : Float} (sine : Float) → k ≡ s .args .n → o + s .args .n ≤ length (s .args .mem .now) → d ≡ clampOf (s .args .depth) plusZero (whole 1) → sineFits sine ≡ true
+  asks : (k o : ℕ) {d : Float} (sine : Float) → k ≡ s .args .n → o + s .args .n ≤ length (s .args .mem .now) → d ≡ clampOf (s .args .depth) plusZero (ofNat 1) → sineFits sine ≡ true
       → (s .args .self .«write_pos» < length (take k (drop o (s .args .mem .now))))
       × ((2 ≤ length (take k (drop o (s .args .mem .now))))
       × ((length (take k (drop o (s .args .mem .now))) ≤ 16777217)

@@ -53,7 +53,7 @@ module _ (c : tie.After-enum-told) where
   used : (c .before .before .before .line-length .result ≡ lineLength (start .args .self .«sample_rate»)) × (lineLength (start .args .self .«sample_rate») ≤ 6154)
   used =
       let rate = start .args .self .«sample_rate» in
-      let h = fits-parts (start .args .self) (passed .fits) .rate in
+      let h = fits-parts (start .args .self) (passed .stateFits) .rate in
       (size-is (rateFits rate) (lineLength rate) (c .before .before .before .line-length .ensures) h, length-fits rate h .1)
 
 mul-used : tie.Need-mul-used

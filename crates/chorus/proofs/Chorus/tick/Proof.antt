@@ -17,14 +17,14 @@ use Rattle.effect.specs.Run.{tick, reset, numberIn}
 use Rattle.effect.proofs.Table.{Accepted, accepted}
 use Rattle.effect.proofs.Contract.{refuses, tick-number}
 use Rattle.effect.proofs.Rows.{unit-refused}
-use Rattle.chorus.specs.Chorus.{chorus, Tick, ticked, lineLength, tickNumber}
+use Rattle.chorus.specs.Chorus.{chorus, Tick, tickOf, lineLength, tickNumber}
 use Rattle.chorus.proofs.Laws.{fits-parts, allSet, set-does}
 use Rattle.chorus.proofs.Chorus.tick.Statement.{statement}
 use Rattle.chorus.proofs.Chorus.tick.Tie as tie
 
 -- what the tick is handed
 abbrev handed : tie.Start → Tick
-handed s = let a = s .args in ticked (a .audio) (a .depth) (a .mix) (a .frequency) (a .sine0) (a .sine1) (a .sine2)
+handed s = let a = s .args in tickOf (a .audio) (a .depth) (a .mix) (a .frequency) (a .sine0) (a .sine1) (a .sine2)
 
 line-length-requires : tie.Need-line-length-requires
 line-length-requires c κs = search needs
@@ -143,7 +143,7 @@ module _ (c : tie.After-tick-causes) where
       let u = passed values in
       let depth = nan-is (a .depth) half refl (depth-is values) (c .before .before .before .is-nan .ensures) in
       let mix = nan-is (a .mix) half refl (mix-is values) (c .before .before .is-nan2 .ensures) in
-      tick-number chorus (length (a .mem .now)) (a .self) (handed (start values)) (u .fits) (sym (u .number))
+      tick-number chorus (length (a .mem .now)) (a .self) (handed (start values)) (u .stateFits) (sym (u .number))
       (sym e ∙ c .tick-causes .ensures ∙ (λ i. causeNumber (depth i || mix i) (curves-are i)))
 
   -- and by their numbers
@@ -152,7 +152,7 @@ module _ (c : tie.After-tick-causes) where
   set-number-is k e =
       let a = start values .args in
       let u = passed values in
-      tick-number chorus (length (a .mem .now)) (a .self) (all values) (u .fits) (sym (u .number))
+      tick-number chorus (length (a .mem .now)) (a .self) (all values) (u .stateFits) (sym (u .number))
       (sym e ∙ c .tick-causes .ensures ∙ (λ i. causeNumber (c .before .before .before .is-nan .ensures i || c .before .before .is-nan2 .ensures i) (curves-are i)))
 
 returns-2 : tie.Need-returns-2
@@ -174,7 +174,7 @@ advance-requires c κs =
     let v = values causes in
     let s = start v .args .self in
     let rate = s .«sample_rate» in (
-      size-is (rateFits rate) (lineLength rate) (v .before .before .before .before .before .before .line-length .ensures) (fits-parts s (passed v .fits) .rate),
+      size-is (rateFits rate) (lineLength rate) (v .before .before .before .before .before .before .line-length .ensures) (fits-parts s (passed v .stateFits) .rate),
       sym (set-number-is causes 0 (ap numberOf (told .enum-told5 .given .1))),
     )
 

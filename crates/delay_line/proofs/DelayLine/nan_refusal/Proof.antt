@@ -12,13 +12,13 @@ use Rattle.effect.specs.Run.{reset}
 use Rattle.effect.proofs.Table.{accepted}
 use Rattle.effect.proofs.Contract.{tick-number}
 use Rattle.effect.proofs.Rows.{unit-refused}
-use Rattle.delay_line.specs.DelayLine.{Tick, delayLine, ticked, tickNumber}
+use Rattle.delay_line.specs.DelayLine.{Tick, delayLine, tickOf, tickNumber}
 use Rattle.delay_line.proofs.DelayLine.nan_refusal.Statement.{statement}
 use Rattle.delay_line.proofs.DelayLine.nan_refusal.Tie as tie
 
 -- the tick with these numbers
 abbrev handed : tie.Start → Tick
-handed s = let a = s .args in ticked Unset (Set (a .time)) (Set (a .feedback)) (Set (a .mix)) (a .milliseconds)
+handed s = let a = s .args in tickOf Unset (Set (a .time)) (Set (a .feedback)) (Set (a .mix)) (a .milliseconds)
 
 refusal-requires : tie.Need-refusal-requires
 refusal-requires c κs = search needs
@@ -59,7 +59,7 @@ returns-2 c =
     let linear = s .args .self .«linear_time» in
     let u = accepted delayLine (s .args .places) reset (s .args .self) (sym (told .before .before .refusal .ensures) ∙ ap numberOf (told .enum-told .given .1)) in
     let ms = ap not (c .before .is-nan4 .ensures) ∙ not-not (isNumber (s .args .milliseconds)) in
-    tick-number delayLine (s .args .places) (s .args .self) (handed s) (u .fits) (sym (u .number))
+    tick-number delayLine (s .args .places) (s .args .self) (handed s) (u .stateFits) (sym (u .number))
     (c .tick-causes .ensures ∙ (λ i. causeNumber (linear && c .before .before .before .before .is-nan .ensures i || (c .before .before .before .is-nan2 .ensures i || c .before .before .is-nan3 .ensures i)) (linear || ms i)))
 
 pub nan-refusal-spec : {M : Type 1} → statement M

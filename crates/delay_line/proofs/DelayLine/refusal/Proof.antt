@@ -24,9 +24,9 @@ check-memory-requires c κs = search needs
 returns-2 : tie.Need-returns-2
 returns-2 c =
     let s = c .before .before .before in
-    let fits = sym (c .before .before .state-fits .ensures) ∙ not-false _ (c .before .if1 .left) in
-    reset-memory delayLine (s .args .places) (s .args .self) fits
-    (c .check-memory .ensures ∙ ap (λ (n : ℕ). memoryNumber n (s .args .places)) (size-fits (s .args .self) (s .pre) fits))
+    let stateFits = sym (c .before .before .state-fits .ensures) ∙ not-false _ (c .before .if1 .left) in
+    reset-memory delayLine (s .args .places) (s .args .self) stateFits
+    (c .check-memory .ensures ∙ ap (λ (n : ℕ). memoryNumber n (s .args .places)) (size-fits (s .args .self) (s .pre) stateFits))
 
 pub refusal-spec : {M : Type 1} → statement M
 refusal-spec = tie.close (tie.spec state-fits-requires returns check-memory-requires returns-2)

@@ -9,7 +9,7 @@ use Rattle.port.specs.Answer.{number, numberOf}
 use Rattle.port.proofs.Laws.{number-some}
 use Rattle.effect.specs.Run.{CallOf, retune, numberIn}
 use Rattle.effect.proofs.Contract.{refuses, accepts, state-refused, state-passed}
-use Rattle.delay_line.specs.DelayLine.{delayLine, retuning, fits}
+use Rattle.delay_line.specs.DelayLine.{delayLine, retuning, stateFits}
 use Rattle.delay_line.proofs.Laws.{fits-parts}
 use Rattle.delay_line.proofs.DelayLine.set_sample_rate.Statement.{statement}
 use Rattle.delay_line.proofs.DelayLine.set_sample_rate.Tie as tie
@@ -33,7 +33,7 @@ returns c =
     (omega arith)
 
 -- past the test the state passes
-passed : (c : tie.Else1) → fits (c .before .before .before .before .args .self) ≡ true
+passed : (c : tie.Else1) → stateFits (c .before .before .before .before .args .self) ≡ true
 passed c = sym (c .before .state-fits .ensures) ∙ not-false _ (c .if1 .left)
 
 settings-refusal-requires : tie.Need-settings-refusal-requires

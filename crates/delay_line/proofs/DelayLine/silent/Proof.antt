@@ -49,7 +49,7 @@ module _ (c : tie.After-enum-told) where
   passed = accepted delayLine (length (start .args .mem .now)) ask (start .args .self) (sym (c .before .before .refusal .ensures) ∙ ap numberOf (c .enum-told .given .1))
 
   used : c .before .before .before .line-length .result ≡ size (start .args .self)
-  used = size-fits (start .args .self) (c .before .before .before .line-length .ensures) (passed .fits)
+  used = size-fits (start .args .self) (c .before .before .before .line-length .ensures) (passed .stateFits)
 
 slice-aggregate-all-zero : tie.Need-slice-aggregate-all-zero
 slice-aggregate-all-zero c =

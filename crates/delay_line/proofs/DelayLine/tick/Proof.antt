@@ -17,14 +17,14 @@ use Rattle.effect.specs.Run.{tick, reset, numberIn}
 use Rattle.effect.proofs.Table.{Accepted, accepted, tick-accepted, enough}
 use Rattle.effect.proofs.Contract.{refuses, accepts, tick-number}
 use Rattle.effect.proofs.Rows.{unit-refused}
-use Rattle.delay_line.specs.DelayLine.{Tick, delayLine, ticked, settings, tickNumber, delayMs}
+use Rattle.delay_line.specs.DelayLine.{Tick, delayLine, tickOf, settings, tickNumber, delayMs}
 use Rattle.delay_line.proofs.Laws.{fits-parts, size, size-fits, setTick, set-row, set-number, no-nan, tick-fits, samples-number, next-is, stored-is, played-is}
 use Rattle.delay_line.proofs.DelayLine.tick.Statement.{statement}
 use Rattle.delay_line.proofs.DelayLine.tick.Tie as tie
 
 -- what the tick is handed
 abbrev handed : tie.Start → Tick
-handed s = let a = s .args in ticked (a .audio) (a .time) (a .feedback) (a .mix) (a .milliseconds)
+handed s = let a = s .args in tickOf (a .audio) (a .time) (a .feedback) (a .mix) (a .milliseconds)
 
 enum-known-audio : tie.Need-enum-known-audio
 enum-known-audio c = search needs
@@ -188,11 +188,11 @@ module _ (c : tie.After-enum-told6) where
   passed = accepted delayLine (length (unit .args .mem .now)) reset (unit .args .self) (sym (c .before .before .refusal .ensures) ∙ ap numberOf (c .enum-told6 .given .1))
 
   sized : joined .before .before .before .before .line-length .result ≡ size (unit .args .self)
-  sized = size-fits (unit .args .self) (joined .before .before .before .before .line-length .ensures) (passed .fits)
+  sized = size-fits (unit .args .self) (joined .before .before .before .before .line-length .ensures) (passed .stateFits)
 
   number-is : 0 ≡ numberIn delayLine (tick (handed unit)) (length (unit .args .mem .now)) (unit .args .self)
   number-is =
-      tick-number delayLine (length (unit .args .mem .now)) (unit .args .self) (handed unit) (passed .fits) (sym (passed .number))
+      tick-number delayLine (length (unit .args .mem .now)) (unit .args .self) (handed unit) (passed .stateFits) (sym (passed .number))
       (sym (sym (set-row (handed unit) (linear ports) (time-is ports) (feedback-is ports) (mix-is ports)) ∙ row joined))
 
 advance-requires : tie.Need-advance-requires
@@ -200,11 +200,11 @@ unfolding delayMs
 advance-requires c κs =
     let told = c .before in
     let s = unit told .args .self in
-    let fits = passed told .fits in
-    let ms = samples-number (set (ports told)) s (fits-parts s fits) (tick-fits (set (ports told)) (linear (ports told)) (row (joined told))) in (
+    let stateFits = passed told .stateFits in
+    let ms = samples-number (set (ports told)) s (fits-parts s stateFits) (tick-fits (set (ports told)) (linear (ports told)) (row (joined told))) in (
       sized told,
       (
-        fits,
+        stateFits,
         (
           omega (arith, sized told, enough (size s) _ (passed told .number)),
           ap isNumber (joined told .before .before .before .before .before .delay-samples .ensures .0) ∙ ms,

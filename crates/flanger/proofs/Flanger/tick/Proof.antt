@@ -17,7 +17,7 @@ use Rattle.effect.specs.Run.{tick, reset, numberIn}
 use Rattle.effect.proofs.Table.{Accepted, accepted}
 use Rattle.effect.proofs.Contract.{refuses, tick-number}
 use Rattle.effect.proofs.Rows.{unit-refused}
-use Rattle.flanger.specs.Flanger.{flanger, Tick, ticked, lineLength, tickNumber}
+use Rattle.flanger.specs.Flanger.{flanger, Tick, tickOf, lineLength, tickNumber}
 use Rattle.flanger.proofs.Laws.{fits-parts, allSet, set-does}
 use Rattle.flanger.proofs.Flanger.tick.Statement.{statement}
 use Rattle.flanger.proofs.Flanger.tick.Tie as tie
@@ -26,7 +26,7 @@ use Rattle.flanger.proofs.Flanger.tick.Tie as tie
 abbrev handed : tie.Start → Tick
 handed s =
     let a = s .args in
-    ticked (a .audio) (a .depth) (a .feedback) (a .mix) (a .frequency) (a .sine0) (a .sine1)
+    tickOf (a .audio) (a .depth) (a .feedback) (a .mix) (a .frequency) (a .sine0) (a .sine1)
 
 line-length-requires : tie.Need-line-length-requires
 line-length-requires c κs = search needs
@@ -160,7 +160,7 @@ module _ (c : tie.After-tick-causes) where
       let depth = nan-is (a .depth) half refl (depth-is values) (c .before .before .before .before .before .before .is-nan .ensures) in
       let feedback = nan-is (a .feedback) plusZero refl (feedback-is values) (c .before .before .before .before .before .is-nan2 .ensures) in
       let mix = nan-is (a .mix) half refl (mix-is values) (c .before .before .before .before .is-nan3 .ensures) in
-      tick-number flanger (length (a .mem .now)) (a .self) (handed (start values)) (u .fits) (sym (u .number))
+      tick-number flanger (length (a .mem .now)) (a .self) (handed (start values)) (u .stateFits) (sym (u .number))
       (sym e ∙ c .tick-causes .ensures ∙ (λ i. causeNumber (depth i || (feedback i || mix i)) (curves-are i)))
 
   -- and by their numbers
@@ -169,7 +169,7 @@ module _ (c : tie.After-tick-causes) where
   set-number-is k e =
       let a = start values .args in
       let u = passed values in
-      tick-number flanger (length (a .mem .now)) (a .self) (all values) (u .fits) (sym (u .number))
+      tick-number flanger (length (a .mem .now)) (a .self) (all values) (u .stateFits) (sym (u .number))
       (sym e ∙ c .tick-causes .ensures ∙ (λ i. causeNumber (c .before .before .before .before .before .before .is-nan .ensures i || (c .before .before .before .before .before .is-nan2 .ensures i || c .before .before .before .before .is-nan3 .ensures i)) (curves-are i)))
 
 returns-2 : tie.Need-returns-2
@@ -191,7 +191,7 @@ advance-requires c κs =
     let v = values causes in
     let s = start v .args .self in
     let rate = s .«sample_rate» in (
-      size-is (rateFits rate) (lineLength rate) (v .before .before .before .before .before .before .before .line-length .ensures) (fits-parts s (passed v .fits) .rate),
+      size-is (rateFits rate) (lineLength rate) (v .before .before .before .before .before .before .before .line-length .ensures) (fits-parts s (passed v .stateFits) .rate),
       sym (set-number-is causes 0 (ap numberOf (told .enum-told6 .given .1))),
     )
 

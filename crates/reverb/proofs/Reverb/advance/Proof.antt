@@ -15,7 +15,7 @@ use Rattle.effect.specs.Run.{tick}
 use Rattle.effect.proofs.Table.{Accepted, accepted, TickAccepted, tick-accepted}
 use Rattle.reverb.specs.Tunings.{left, right}
 use Rattle.reverb.specs.declared.Reverb.{Reverb}
-use Rattle.reverb.specs.Reverb.{Tick, ticked, reverb, stateOf, input, feedback, damping, predelayed, delayed, combStored, summed, wet, writes}
+use Rattle.reverb.specs.Reverb.{Tick, tickOf, reverb, stateOf, input, feedback, damping, predelayed, delayed, combStored, summed, wet, writes}
 use Rattle.reverb.specs.Reverb as page
 use Rattle.reverb.proofs.Laws.{Fits, fits-parts, predelay-number}
 use Rattle.reverb.proofs.Predelay.{delay-less}
@@ -34,14 +34,14 @@ module _ (s : tie.Start) where
   abbrev handed : Tick
   handed =
       let a = s .args in
-      ticked (Set (a .audio)) (Set (a .size)) (Set (a .damping)) (Set (a .mix)) (Set (a .predelay))
+      tickOf (Set (a .audio)) (Set (a .size)) (Set (a .damping)) (Set (a .mix)) (Set (a .predelay))
 
   -- it is accepted, so that the state passes its test and the memory has the places
   taken : Accepted reverb (length (s .args .mem .now)) (tick handed) self
   taken = accepted reverb (length (s .args .mem .now)) (tick handed) self (s .pre .1)
 
   unit : Fits self
-  unit = fits-parts self (taken .fits)
+  unit = fits-parts self (taken .stateFits)
 
   row : TickAccepted reverb (length (s .args .mem .now)) handed (s .args .rate)
   row = tick-accepted reverb (length (s .args .mem .now)) handed (s .args .rate) (taken .number)

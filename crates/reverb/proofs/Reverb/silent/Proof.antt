@@ -47,7 +47,7 @@ module _ (c : tie.After-enum-told) where
 all-silent-requires : tie.Need-all-silent-requires
 all-silent-requires c κs =
     let s = start c .args .self in
-    (lengths-are (s .«sample_rate») (fits-parts s (passed c .fits) .rate) (c .before .before .before .scaled-lengths .ensures), enough 87136 _ (passed c .number))
+    (lengths-are (s .«sample_rate») (fits-parts s (passed c .stateFits) .rate) (c .before .before .before .scaled-lengths .ensures), enough 87136 _ (passed c .number))
 
 -- accepted, with the answer b
 answered : (c : tie.After-all-silent) (b : Bool) → c .all-silent .result ≡ b

@@ -18,7 +18,7 @@ use Rattle.common.specs.Signal.{causeNumber}
 use Rattle.effect.specs.Run.{tick, memoryNumber, numberIn}
 use Rattle.effect.proofs.Contract.{refuses, state-refused, tick-memory, tick-number}
 use Rattle.reverb.specs.declared.Reverb.{Reverb}
-use Rattle.reverb.specs.Reverb.{reverb, Tick, ticked, stateOf, fits, tickNumber}
+use Rattle.reverb.specs.Reverb.{reverb, Tick, tickOf, stateOf, stateFits, tickNumber}
 use Rattle.reverb.proofs.Laws.{fits-by, fits-parts, lengths-are}
 use Rattle.reverb.proofs.Ticks.{allSet, set-does}
 use Rattle.reverb.proofs.Reverb.tick_in_place.Statement.{statement}
@@ -28,7 +28,7 @@ use Rattle.reverb.proofs.Reverb.tick_in_place.Tie as tie
 abbrev handed : tie.Start → Tick
 handed s =
     let a = s .args in
-    ticked (a .audio) (a .size) (a .damping) (a .mix) (a .predelay)
+    tickOf (a .audio) (a .size) (a .damping) (a .mix) (a .predelay)
 
 -- and what is lent to it, as a state
 abbrev self : tie.Start → Reverb
@@ -47,7 +47,7 @@ module _ (c : tie.After-parts-fit) where
   abbrev tested : tie.Start
   tested = c .before .before .before .before .before .before .before .before .before .before .before .before
 
-  fits-is : c .parts-fit .result ≡ fits (self tested)
+  fits-is : c .parts-fit .result ≡ stateFits (self tested)
   fits-is = c .parts-fit .ensures ∙ fits-by (self tested) (c .before .before .before .before .before .before .before .before .before .before .lengths .ensures)
 
 returns : tie.Need-returns
@@ -69,7 +69,7 @@ module _ (c : tie.After-check-memory) where
   abbrev begun : tie.Start
   begun = tested (c .before .before)
 
-  passed : fits (self begun) ≡ true
+  passed : stateFits (self begun) ≡ true
   passed = sym (fits-is (c .before .before)) ∙ not-false _ (c .before .if1 .left)
 
 returns-2 : tie.Need-returns-2
@@ -180,7 +180,7 @@ module _ (c : tie.At-match6-came) where
       ]
 
   -- causes 4 and 3 do not apply
-  fit : fits (self start) ≡ true
+  fit : stateFits (self start) ≡ true
   fit = passed (c .before .before .before .before .before .before .before)
 
   enough : 0 ≡ memoryNumber 87136 (length (start .args .mem .now))

@@ -4,7 +4,7 @@ use Rattle.port.specs.Answer.{answerReply}
 use Rattle.effect.specs.Run.{tick, Device}
 use Rattle.effect.specs.Contract.{Does}
 use Rattle.chorus.specs.declared.Chorus.{Chorus}
-use Rattle.chorus.specs.Chorus.{chorus, Tick, ticked}
+use Rattle.chorus.specs.Chorus.{chorus, Tick, tickOf}
 use Rattle.chorus.proofs.Demand1.{laws}
 use Rattle.room_effects.specs.Ports.{portAt}
 use Rattle.room_effects.specs.Units.{chorusOf, chorusUnit}
@@ -17,7 +17,7 @@ use Rattle.room_effects.proofs.chorus_calls.room_raw_chorus_tick.Tie as
 abbrev handed : tie.Start → Tick
 handed s =
     let a = s .args in
-    ticked (portAt (a .set) 1 (a .audio)) (portAt (a .set) 2 (a .depth)) (portAt (a .set) 4 (a .mix)) (a .frequency) (a .sine0) (a .sine1) (a .sine2)
+    tickOf (portAt (a .set) 1 (a .audio)) (portAt (a .set) 2 (a .depth)) (portAt (a .set) 4 (a .mix)) (a .frequency) (a .sine0) (a .sine1) (a .sine2)
 
 abbrev unit : tie.Start → Device Chorus
 unit s =
@@ -35,7 +35,7 @@ module _ (c : tie.After-tick) where
       let state = c .before .before .before .before .before .chorus-of in
       of-state chorus (tick (handed start)) (state .ensures)
       (of-tick chorus (state .result) {t₀ = handed start}
-      (λ i. ticked (c .before .before .before .port-at .ensures i) (c .before .before .port-at2 .ensures i) (c .before .port-at3 .ensures i) (a .frequency) (a .sine0) (a .sine1) (a .sine2))
+      (λ i. tickOf (c .before .before .before .port-at .ensures i) (c .before .before .port-at2 .ensures i) (c .before .port-at3 .ensures i) (a .frequency) (a .sine0) (a .sine1) (a .sine2))
       (c .tick .ensures))
 
 chorus-of-requires : tie.Need-chorus-of-requires

@@ -48,13 +48,13 @@ same-length-2 c = search needs
 
 returns-2 : tie.Need-returns-2
 returns-2 c =
-    let left = c .before in
-    let inner = left .before .before .before .before in
+    let next = c .before in
+    let inner = next .before .before .before .before in
     let n = inner .reset .result .state in
     let primed = on-flag (n .«delay_primed») (c .flag .ensures) in
     let does = of-state delayLine reset (inner .before .before .delay-of .ensures) (inner .reset .ensures) in
     let settings = reset-settings delayLine laws does in (
-      stored delayLine reset (unit (start inner)) does (sym (left .if1 .left) ∙ left .before .number .ensures)
+      stored delayLine reset (unit (start inner)) does (sym (next .if1 .left) ∙ next .before .number .ensures)
           (λ i. delayOf (n .«write_pos») (n .«smoothed_delay») (primed i) (settings i .rate) (settings i .coefficient) (settings i .maximum) (settings i .linear)),
       written (n .«delay_primed») (c .flag .ensures),
     )

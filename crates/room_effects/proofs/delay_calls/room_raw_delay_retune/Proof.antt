@@ -58,15 +58,15 @@ same-length-2 c = search needs
 
 returns-2 : tie.Need-returns-2
 returns-2 c =
-    let left = c .before in
-    let inner = left .before .before .before .before in
+    let next = c .before in
+    let inner = next .before .before .before .before in
     let s = start inner in
     let does = of-state delayLine (retune (handed s)) (inner .before .before .delay-of .ensures) (inner .set-sample-rate .ensures) in
     let n = inner .set-sample-rate .result .state in
     let primed = on-flag (n .«delay_primed») (c .flag .ensures) in
     let maximum = keeps-maximum (handed s) (unit s) ∙ ap (λ (u : DelayLine). u .«max_delay_secs») (sym (does .state)) in
     let linear = keeps-mode (handed s) (unit s) ∙ ap (λ (u : DelayLine). u .«linear_time») (sym (does .state)) in (
-      stored delayLine (retune (handed s)) (unit s) does (sym (left .if1 .left) ∙ left .before .number .ensures)
+      stored delayLine (retune (handed s)) (unit s) does (sym (next .if1 .left) ∙ next .before .number .ensures)
           (λ i. delayOf (n .«write_pos») (n .«smoothed_delay») (primed i) (n .«sample_rate») (n .«delay_smooth_coef») (maximum i) (linear i)),
       written (n .«delay_primed») (c .flag .ensures),
     )

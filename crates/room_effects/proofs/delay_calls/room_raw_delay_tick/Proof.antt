@@ -6,7 +6,7 @@ use Rattle.port.specs.Answer.{answerReply}
 use Rattle.effect.specs.Run.{Device, tick}
 use Rattle.effect.specs.Contract.{Does}
 use Rattle.delay_line.specs.declared.DelayLine.{DelayLine}
-use Rattle.delay_line.specs.DelayLine.{Tick, delayLine, ticked}
+use Rattle.delay_line.specs.DelayLine.{Tick, delayLine, tickOf}
 use Rattle.delay_line.proofs.Demand1.{laws}
 use Rattle.room_effects.specs.Ports.{portAt}
 use Rattle.room_effects.specs.Units.{delayOf, delayUnit}
@@ -18,7 +18,7 @@ use Rattle.room_effects.proofs.delay_calls.room_raw_delay_tick.Tie as t
 abbrev handed : tie.Start → Tick
 handed s =
     let a = s .args in
-    ticked (portAt (a .set) 1 (a .audio)) (portAt (a .set) 2 (a .time)) (portAt (a .set) 4 (a .feedback)) (portAt (a .set) 8 (a .mix)) (a .milliseconds)
+    tickOf (portAt (a .set) 1 (a .audio)) (portAt (a .set) 2 (a .time)) (portAt (a .set) 4 (a .feedback)) (portAt (a .set) 8 (a .mix)) (a .milliseconds)
 
 abbrev unit : tie.Start → Device DelayLine
 unit s =
@@ -33,7 +33,7 @@ module _ (c : tie.After-tick) where
   does : Does delayLine (tick (handed start)) (unit start .state) (unit start .memory) (c .tick .result .state) (c .tick .last .1 .0) (answerReply (c .tick .result .answer))
   does =
       of-tick delayLine (unit start .state) {t₀ = handed start}
-      (λ i. ticked (c .before .before .before .before .port-at .ensures i) (c .before .before .before .port-at2 .ensures i) (c .before .before .port-at3 .ensures i) (c .before .port-at4 .ensures i) (start .args .milliseconds))
+      (λ i. tickOf (c .before .before .before .before .port-at .ensures i) (c .before .before .before .port-at2 .ensures i) (c .before .before .port-at3 .ensures i) (c .before .port-at4 .ensures i) (start .args .milliseconds))
       (of-state delayLine (tick _) (c .before .before .before .before .before .before .delay-of .ensures) (c .tick .ensures))
 
 delay-of-requires : tie.Need-delay-of-requires
@@ -80,17 +80,17 @@ same-length-2 c = search needs
 
 returns-2 : tie.Need-returns-2
 returns-2 c =
-    let left = c .before in
-    let numbered = left .before .before in
+    let next = c .before in
+    let numbered = next .before .before in
     let inner = numbered .before .before .before in
     let s = start inner in
     let n = inner .tick .result .state in
     let primed = on-flag (n .«delay_primed») (c .flag .ensures) in
     let settings = tick-settings delayLine laws (does inner) in (
       played delayLine 1 (does inner)
-          (stored delayLine (tick (handed s)) (unit s) (does inner) (sym (left .if1 .left) ∙ numbered .number .ensures)
+          (stored delayLine (tick (handed s)) (unit s) (does inner) (sym (next .if1 .left) ∙ numbered .number .ensures)
           (λ i. delayOf (n .«write_pos») (n .«smoothed_delay») (primed i) (settings i .rate) (settings i .coefficient) (settings i .maximum) (settings i .linear)))
-          (λ i. left .before .first .ensures i ∷ []),
+          (λ i. next .before .first .ensures i ∷ []),
       written (n .«delay_primed») (c .flag .ensures),
     )
 

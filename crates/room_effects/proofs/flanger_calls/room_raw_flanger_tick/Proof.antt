@@ -4,7 +4,7 @@ use Rattle.port.specs.Answer.{answerReply}
 use Rattle.effect.specs.Run.{tick, Device}
 use Rattle.effect.specs.Contract.{Does}
 use Rattle.flanger.specs.declared.Flanger.{Flanger}
-use Rattle.flanger.specs.Flanger.{flanger, Tick, ticked}
+use Rattle.flanger.specs.Flanger.{flanger, Tick, tickOf}
 use Rattle.flanger.proofs.Demand1.{laws}
 use Rattle.room_effects.specs.Ports.{portAt}
 use Rattle.room_effects.specs.Units.{flangerOf, flangerUnit}
@@ -17,7 +17,7 @@ use Rattle.room_effects.proofs.flanger_calls.room_raw_flanger_tick.Tie 
 abbrev handed : tie.Start → Tick
 handed s =
     let a = s .args in
-    ticked (portAt (a .set) 1 (a .audio)) (portAt (a .set) 2 (a .depth)) (portAt (a .set) 4 (a .feedback)) (portAt (a .set) 8 (a .mix)) (a .frequency) (a .sine0) (a .sine1)
+    tickOf (portAt (a .set) 1 (a .audio)) (portAt (a .set) 2 (a .depth)) (portAt (a .set) 4 (a .feedback)) (portAt (a .set) 8 (a .mix)) (a .frequency) (a .sine0) (a .sine1)
 
 abbrev unit : tie.Start → Device Flanger
 unit s =
@@ -33,7 +33,7 @@ module _ (c : tie.After-tick) where
   does =
       let a = start .args in
       of-tick flanger (unit start .state) {t₀ = handed start}
-      (λ i. ticked (c .before .before .before .before .port-at .ensures i) (c .before .before .before .port-at2 .ensures i) (c .before .before .port-at3 .ensures i) (c .before .port-at4 .ensures i) (a .frequency) (a .sine0) (a .sine1))
+      (λ i. tickOf (c .before .before .before .before .port-at .ensures i) (c .before .before .before .port-at2 .ensures i) (c .before .before .port-at3 .ensures i) (c .before .port-at4 .ensures i) (a .frequency) (a .sine0) (a .sine1))
       (c .tick .ensures)
 
 port-at-requires : tie.Need-port-at-requires
@@ -75,10 +75,10 @@ returns-2 c =
     let out = c .before in
     let inner = out .before .before .before .before .before in
     let s = start inner in
-    let left = inner .tick .result .state in
+    let next = inner .tick .result .state in
     played flanger 3 (does inner)
     (stored flanger (tick (handed s)) (unit s) (does inner) (sym (c .if1 .left) ∙ out .before .before .number .ensures)
-    (ap (flangerOf (left .«write_pos») (left .«lfo_phase»)) (tick-settings flanger laws (does inner))))
+    (ap (flangerOf (next .«write_pos») (next .«lfo_phase»)) (tick-settings flanger laws (does inner))))
     (out .put-samples .ensures)
 
 pub room-raw-flanger-tick-spec : {M : Type 1} → statement M

@@ -46,9 +46,9 @@ returns-2 c =
     let tested = c .before .before .before .before .before .before .before .before in
     let inner = tested .before .before .before .before in
     let put = c .put-reverb .last .1 in
-    let left : Float → Reverb = reverbOf (put .0) (put .1 .0) (put .1 .1 .0) (put .1 .1 .1 .0) (put .1 .1 .1 .1 .0) (put .1 .1 .1 .1 .1 .0) (put .1 .1 .1 .1 .1 .1 .0) in
+    let next : Float → Reverb = reverbOf (put .0) (put .1 .0) (put .1 .1 .0) (put .1 .1 .1 .0) (put .1 .1 .1 .1 .0) (put .1 .1 .1 .1 .1 .0) (put .1 .1 .1 .1 .1 .1 .0) in
     stored reverb reset (unit (start inner)) (inner .reset .ensures) (sym (tested .if1 .left) ∙ tested .before .number .ensures)
-    (ap left (reset-settings reverb laws (inner .reset .ensures)) ∙ c .put-reverb .ensures)
+    (ap next (reset-settings reverb laws (inner .reset .ensures)) ∙ c .put-reverb .ensures)
 
 pub room-raw-reverb-reset-spec : {M : Type 1} → statement M
 room-raw-reverb-reset-spec = tie.close (tie.spec reset-requires number-requires same-length returns put-reverb-requires same-length-2 returns-2)

@@ -6,7 +6,7 @@ use Rattle.port.specs.Answer.{answerReply}
 use Rattle.effect.specs.Run.{Device, tick}
 use Rattle.effect.specs.Contract.{Does}
 use Rattle.reverb.specs.declared.Reverb.{Reverb}
-use Rattle.reverb.specs.Reverb.{Tick, reverb, ticked}
+use Rattle.reverb.specs.Reverb.{Tick, reverb, tickOf}
 use Rattle.room_effects.specs.Ports.{portAt}
 use Rattle.room_effects.specs.Units.{reverbUnit}
 use Rattle.room_effects.proofs.Laws.{of-tick, stored, played}
@@ -17,7 +17,7 @@ use Rattle.room_effects.proofs.reverb_calls.room_raw_reverb_tick.Tie as
 abbrev handed : tie.Start → Tick
 handed s =
     let a = s .args in
-    ticked (portAt (a .set) 1 (a .audio)) (portAt (a .set) 2 (a .size)) (portAt (a .set) 4 (a .damping)) (portAt (a .set) 8 (a .mix)) (portAt (a .set) 16 (a .predelay))
+    tickOf (portAt (a .set) 1 (a .audio)) (portAt (a .set) 2 (a .size)) (portAt (a .set) 4 (a .damping)) (portAt (a .set) 8 (a .mix)) (portAt (a .set) 16 (a .predelay))
 
 -- the reverb lent
 abbrev unit : tie.Start → Device Reverb
@@ -31,15 +31,15 @@ module _ (c : tie.After-tick-in-place) where
   start = c .before .before .before .before .before .before .before .before .before .before .before .before .before .before .before
 
   -- the reverb that it leaves
-  abbrev left : Device Reverb
-  left =
+  abbrev next : Device Reverb
+  next =
       let l = c .tick-in-place .last in
       reverbUnit (l .0) (l .1 .0) (l .1 .1 .0) (l .1 .1 .1 .0) (l .1 .1 .1 .1 .0) (l .1 .1 .1 .1 .1 .0) (l .1 .1 .1 .1 .1 .1 .0) (start .args .rate) (l .1 .1 .1 .1 .1 .1 .1 .1 .0)
 
-  does : Does reverb (tick (handed start)) (unit start .state) (unit start .memory) (left .state) (left .memory) (answerReply (c .tick-in-place .result))
+  does : Does reverb (tick (handed start)) (unit start .state) (unit start .memory) (next .state) (next .memory) (answerReply (c .tick-in-place .result))
   does =
       of-tick reverb (unit start .state) {t₀ = handed start}
-      (λ i. ticked (c .before .before .before .before .before .port-at .ensures i) (c .before .before .before .before .port-at2 .ensures i) (c .before .before .before .port-at3 .ensures i) (c .before .before .port-at4 .ensures i) (c .before .port-at5 .ensures i))
+      (λ i. tickOf (c .before .before .before .before .before .port-at .ensures i) (c .before .before .before .before .port-at2 .ensures i) (c .before .before .before .port-at3 .ensures i) (c .before .before .port-at4 .ensures i) (c .before .port-at5 .ensures i))
       (c .tick-in-place .ensures)
 
 port-at-requires : tie.Need-port-at-requires
@@ -77,7 +77,7 @@ returns c =
     let second = c .before .before in
     let inner = second .before .before .before .before in
     let s = start inner in
-    played reverb 2 (does inner) (stored reverb (tick (handed s)) (unit s) (does inner) (c .number .ensures) {s = left inner .state} refl) (λ i. second .before .first .ensures i ∷ second .second .ensures i ∷ [])
+    played reverb 2 (does inner) (stored reverb (tick (handed s)) (unit s) (does inner) (c .number .ensures) {s = next inner .state} refl) (λ i. second .before .first .ensures i ∷ second .second .ensures i ∷ [])
 
 pub room-raw-reverb-tick-spec : {M : Type 1} → statement M
 room-raw-reverb-tick-spec =

@@ -30,9 +30,9 @@ returns c =
 returns-2 : tie.Need-returns-2
 returns-2 c =
     let inner = c .before .before in
-    let left = inner .reset .result .state in
+    let next = inner .reset .result .state in
     stored tremolo reset (unit (inner .before)) (inner .reset .ensures) (sym (c .if1 .left) ∙ c .before .number .ensures)
-    (ap (tremoloOf (left .«lfo_phase»)) (reset-settings tremolo laws (inner .reset .ensures)))
+    (ap (tremoloOf (next .«lfo_phase»)) (reset-settings tremolo laws (inner .reset .ensures)))
 
 pub room-raw-tremolo-reset-spec : {M : Type 1} → statement M
 room-raw-tremolo-reset-spec = tie.close (tie.spec reset-requires number-requires returns returns-2)

@@ -36,9 +36,9 @@ same-length-2 c = search needs
 returns-2 : tie.Need-returns-2
 returns-2 c =
     let inner = c .before .before .before .before in
-    let left = inner .reset .result .state in
+    let next = inner .reset .result .state in
     stored vibrato reset (unit (inner .before .before .before .before)) (inner .reset .ensures) (sym (c .if1 .left) ∙ c .before .number .ensures)
-    (ap (vibratoOf (left .«write_pos») (left .«lfo_phase»)) (reset-settings vibrato laws (inner .reset .ensures)))
+    (ap (vibratoOf (next .«write_pos») (next .«lfo_phase»)) (reset-settings vibrato laws (inner .reset .ensures)))
 
 pub room-raw-vibrato-reset-spec : {M : Type 1} → statement M
 room-raw-vibrato-reset-spec = tie.close (tie.spec reset-requires number-requires same-length returns same-length-2 returns-2)

@@ -5,7 +5,7 @@ use Rattle.port.specs.Answer.{answerReply}
 use Rattle.effect.specs.Run.{tick, Device}
 use Rattle.effect.specs.Contract.{Does}
 use Rattle.vibrato.specs.declared.Vibrato.{Vibrato}
-use Rattle.vibrato.specs.Vibrato.{vibrato, Tick, ticked}
+use Rattle.vibrato.specs.Vibrato.{vibrato, Tick, tickOf}
 use Rattle.vibrato.proofs.Demand1.{laws}
 use Rattle.room_effects.specs.Ports.{portAt}
 use Rattle.room_effects.specs.Units.{vibratoOf, vibratoUnit}
@@ -18,7 +18,7 @@ use Rattle.room_effects.proofs.vibrato_calls.room_raw_vibrato_tick.Tie 
 abbrev handed : tie.Start → Tick
 handed s =
     let a = s .args in
-    ticked (portAt (a .set) 1 (a .audio)) (portAt (a .set) 2 (a .depth)) (portAt (a .set) 4 (a .mix)) (a .frequency) (a .sine)
+    tickOf (portAt (a .set) 1 (a .audio)) (portAt (a .set) 2 (a .depth)) (portAt (a .set) 4 (a .mix)) (a .frequency) (a .sine)
 
 abbrev unit : tie.Start → Device Vibrato
 unit s =
@@ -34,7 +34,7 @@ module _ (c : tie.After-tick) where
   does =
       let a = start .args in
       of-tick vibrato (unit start .state) {t₀ = handed start}
-      (λ i. ticked (c .before .before .before .port-at .ensures i) (c .before .before .port-at2 .ensures i) (c .before .port-at3 .ensures i) (a .frequency) (a .sine))
+      (λ i. tickOf (c .before .before .before .port-at .ensures i) (c .before .before .port-at2 .ensures i) (c .before .port-at3 .ensures i) (a .frequency) (a .sine))
       (c .tick .ensures)
 
 port-at-requires : tie.Need-port-at-requires
@@ -73,10 +73,10 @@ returns-2 c =
     let numbered = c .before .before in
     let inner = numbered .before .before .before in
     let s = start inner in
-    let left = inner .tick .result .state in
+    let next = inner .tick .result .state in
     played vibrato 1 (does inner)
     (stored vibrato (tick (handed s)) (unit s) (does inner) (sym (c .if1 .left) ∙ numbered .number .ensures)
-    (ap (vibratoOf (left .«write_pos») (left .«lfo_phase»)) (tick-settings vibrato laws (does inner))))
+    (ap (vibratoOf (next .«write_pos») (next .«lfo_phase»)) (tick-settings vibrato laws (does inner))))
     (λ i. c .before .first .ensures i ∷ [])
 
 pub room-raw-vibrato-tick-spec : {M : Type 1} → statement M

@@ -16,7 +16,7 @@ use Rattle.port.proofs.Laws.{value-set, value-unset, nan-is, number-some}
 use Rattle.common.specs.Signal.{causeNumber}
 use Rattle.effect.specs.Run.{tick, numberIn}
 use Rattle.effect.proofs.Contract.{refuses, accepts, state-refused, tick-number}
-use Rattle.tremolo.specs.Tremolo.{tremolo, Tick, ticked, tickNumber, next}
+use Rattle.tremolo.specs.Tremolo.{tremolo, Tick, tickOf, tickNumber, next}
 use Rattle.tremolo.specs.Tremolo as page
 use Rattle.tremolo.proofs.Laws.{sample-is}
 use Rattle.tremolo.proofs.Tremolo.tick.Statement.{statement}
@@ -28,7 +28,7 @@ state-fits-requires c κs = search needs
 returns : tie.Need-returns
 returns c =
     let a = c .before .before .args in
-    let t = ticked (a .audio) (a .depth) (a .shape) (a .frequency) (a .sine) in
+    let t = tickOf (a .audio) (a .depth) (a .shape) (a .frequency) (a .sine) in
     refuses tremolo (tick t) (a .self) [] 4
     (state-refused tremolo 0 (a .self) (tick t) (sym (c .before .state-fits .ensures) ∙ not-true _ (c .if1 .taken)))
     (omega arith)
@@ -71,7 +71,7 @@ enum-known-causes c = search needs
 
 -- what the tick is handed
 abbrev handed : tie.Start → Tick
-handed s = ticked (s .args .audio) (s .args .depth) (s .args .shape) (s .args .frequency) (s .args .sine)
+handed s = tickOf (s .args .audio) (s .args .depth) (s .args .shape) (s .args .frequency) (s .args .sine)
 
 -- each port's number, or the default
 module _ (c : tie.At-match3-came) where
@@ -102,7 +102,7 @@ module _ (c : tie.At-match3-came) where
         | inr w ↦ value-unset plusZero (w .1 .given .1) (w .2)
       ]
 
-  passed : page.fits (start .args .self) ≡ true
+  passed : page.stateFits (start .args .self) ≡ true
   passed = sym (c .before .before .before .before .state-fits .ensures) ∙ not-false _ (c .before .before .before .if1 .left)
 
 -- the number by the ports

@@ -53,7 +53,7 @@ module _ (c : tie.After-enum-told) where
   used : c .before .before .before .line-length .result ≡ lineLength (start .args .self .«sample_rate»)
   used =
       let rate = start .args .self .«sample_rate» in
-      size-is (rateFits rate) (lineLength rate) (c .before .before .before .line-length .ensures) (fits-parts (start .args .self) (passed .fits) .rate)
+      size-is (rateFits rate) (lineLength rate) (c .before .before .before .line-length .ensures) (fits-parts (start .args .self) (passed .stateFits) .rate)
 
 slice-aggregate-all-zero : tie.Need-slice-aggregate-all-zero
 slice-aggregate-all-zero c =

@@ -7,7 +7,7 @@ use mathlib.Core.Bool.{_&&_, _||_}
 use lib.ListN.{length}
 use lib.Ieee.{ofBits, ofInt, round, fits, isNan}
 use borrow.Author.Needs.{needs}
-use Rattle.float64.specs.Number.{plusZero, whole, half, isNumber, rateFits, frequencyFits, sineFits}
+use Rattle.float64.specs.Number.{plusZero, ofNat, half, isNumber, rateFits, frequencyFits, sineFits}
 use Rattle.port.specs.Port.{valueOr}
 use Rattle.port.specs.Answer.{number, numberOf}
 use Rattle.port.proofs.Laws.{value-set, value-unset, nan-is, number-some}
@@ -17,7 +17,7 @@ use Rattle.effect.specs.Run.{tick, reset, numberIn}
 use Rattle.effect.proofs.Table.{Accepted, accepted}
 use Rattle.effect.proofs.Contract.{refuses, tick-number}
 use Rattle.effect.proofs.Rows.{unit-refused}
-use Rattle.vibrato.specs.Vibrato.{vibrato, Tick, ticked, lineLength, tickNumber}
+use Rattle.vibrato.specs.Vibrato.{vibrato, Tick, tickOf, lineLength, tickNumber}
 use Rattle.vibrato.proofs.Laws.{fits-parts, allSet, set-does}
 use Rattle.vibrato.proofs.Vibrato.tick.Statement.{statement}
 use Rattle.vibrato.proofs.Vibrato.tick.Tie as tie
@@ -26,7 +26,7 @@ use Rattle.vibrato.proofs.Vibrato.tick.Tie as tie
 abbrev handed : tie.Start → Tick
 handed s =
     let a = s .args in
-    ticked (a .audio) (a .depth) (a .mix) (a .frequency) (a .sine)
+    tickOf (a .audio) (a .depth) (a .mix) (a .frequency) (a .sine)
 
 line-length-requires : tie.Need-line-length-requires
 line-length-requires c κs = search needs
@@ -107,12 +107,12 @@ module _ (c : tie.At-match4-came) where
         | inr w ↦ value-unset half (w .1 .given .1) (w .2)
       ]
 
-  mix-is : c .match4 .mix ≡ valueOr (start .args .mix) (whole 1)
+  mix-is : c .match4 .mix ≡ valueOr (start .args .mix) (ofNat 1)
   unfolding ofBits ofInt
   mix-is =
       elim (c .match4 .came) [
-        | inl w ↦ value-set (whole 1) (w .1 .given .1) (w .3)
-        | inr w ↦ value-unset (whole 1) (w .1 .given .1) (w .2)
+        | inl w ↦ value-set (ofNat 1) (w .1 .given .1) (w .3)
+        | inr w ↦ value-unset (ofNat 1) (w .1 .given .1) (w .2)
       ]
 
   -- causes 4 and 3 do not apply
@@ -137,8 +137,8 @@ module _ (c : tie.After-tick-causes) where
       let a = start values .args in
       let u = passed values in
       let depth = nan-is (a .depth) half refl (depth-is values) (c .before .before .before .before .is-nan .ensures) in
-      let mix = nan-is (a .mix) (whole 1) refl (mix-is values) (c .before .before .before .is-nan2 .ensures) in
-      tick-number vibrato (length (a .mem .now)) (a .self) (handed (start values)) (u .fits) (sym (u .number))
+      let mix = nan-is (a .mix) (ofNat 1) refl (mix-is values) (c .before .before .before .is-nan2 .ensures) in
+      tick-number vibrato (length (a .mem .now)) (a .self) (handed (start values)) (u .stateFits) (sym (u .number))
       (sym e ∙ c .tick-causes .ensures ∙ (λ i. causeNumber (depth i || mix i) (curves-are i)))
 
   -- and by their numbers
@@ -147,7 +147,7 @@ module _ (c : tie.After-tick-causes) where
   set-number-is k e =
       let a = start values .args in
       let u = passed values in
-      tick-number vibrato (length (a .mem .now)) (a .self) (all values) (u .fits) (sym (u .number))
+      tick-number vibrato (length (a .mem .now)) (a .self) (all values) (u .stateFits) (sym (u .number))
       (sym e ∙ c .tick-causes .ensures ∙ (λ i. causeNumber (c .before .before .before .before .is-nan .ensures i || c .before .before .before .is-nan2 .ensures i) (curves-are i)))
 
 returns-2 : tie.Need-returns-2
@@ -169,7 +169,7 @@ advance-requires c κs =
     let v = values causes in
     let s = start v .args .self in
     let rate = s .«sample_rate» in (
-      size-is (rateFits rate) (lineLength rate) (v .before .before .before .before .before .before .line-length .ensures) (fits-parts s (passed v .fits) .rate),
+      size-is (rateFits rate) (lineLength rate) (v .before .before .before .before .before .before .line-length .ensures) (fits-parts s (passed v .stateFits) .rate),
       sym (set-number-is causes 0 (ap numberOf (told .enum-told5 .given .1))),
     )
 

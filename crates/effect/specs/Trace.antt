@@ -4,15 +4,15 @@ use Prim.Native.Nat.{ℕ}
 use mathlib.Core.List.{List, [], _∷_, _++_}
 use Rattle.common.specs.Line.{zeros}
 use Rattle.effect.specs.Effect.{Effect, Write, laid}
-use Rattle.effect.specs.Run.{tick, retune, reset, ask, CallOf, Device, ifNone, numberFor, moved}
+use Rattle.effect.specs.Run.{tick, retune, reset, ask, CallOf, Device, ifNone, numberFor, changed}
 
-pub record Told (S : Type 0) : Type 0 where
+pub record Trace (S : Type 0) : Type 0 where
   pub state : S
   -- the writes of the accepted ticks since the last clearing, in order
   pub written : List Write
 
 -- the unit that wrote just that, over n places of +0
-abbrev pub laidOut : {S : Type 0} → ℕ → Told S → Device S
+abbrev pub laidOut : {S : Type 0} → ℕ → Trace S → Device S
 laidOut n t = record { state = t .state; memory = laid (t .written) (zeros n) }
 
 module _ (E : Effect) where
@@ -24,16 +24,16 @@ module _ (E : Effect) where
   added ask h ws = ws
 
   -- one call in a memory of n places
-  abbrev pub tell : ℕ → CallOf E → Told (E .State) → Told (E .State)
-  tell n c t =
+  abbrev pub trace : ℕ → CallOf E → Trace (E .State) → Trace (E .State)
+  trace n c t =
       ifNone (numberFor E c n (E .settings (t .state)))
-      (record { state = moved E c (laidOut n t) .state; written = added c (laidOut n t) (t .written) })
+      (record { state = changed E c (laidOut n t) .state; written = added c (laidOut n t) (t .written) })
       t
 
-  unfoldable pub toldFrom : ℕ → List (CallOf E) → Told (E .State) → Told (E .State)
-  toldFrom n [] t = t
-  toldFrom n (c ∷ cs) t = toldFrom n cs (tell n c t)
+  unfoldable pub tracedFrom : ℕ → List (CallOf E) → Trace (E .State) → Trace (E .State)
+  tracedFrom n [] t = t
+  tracedFrom n (c ∷ cs) t = tracedFrom n cs (trace n c t)
 
   -- an accepted start in a memory of n places, and then the calls
-  abbrev pub told : E .Start → ℕ → List (CallOf E) → Told (E .State)
-  told a n cs = toldFrom n cs (record { state = E .fresh (E .startSettings a); written = [] })
+  abbrev pub traced : E .Start → ℕ → List (CallOf E) → Trace (E .State)
+  traced a n cs = tracedFrom n cs (record { state = E .fresh (E .startSettings a); written = [] })
