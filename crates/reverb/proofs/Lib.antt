@@ -1,7 +1,7 @@
-pub mod Scaling
 pub mod Lists
+pub mod Scaling
 pub mod Predelay
 pub mod Laws
-pub mod Tank
+pub mod Apart
 pub mod Ticks
 pub mod Demand1

@@ -14,7 +14,7 @@ use borrow.Author.Tests.{ltb-true, lt-ltb, le-ltb}
 use Rattle.float64.proofs.Tests.{both, clash}
 use Rattle.common.specs.Line.{nextPlace, table, allZero}
 use Rattle.common.proofs.Ring.{next-lt}
-use Rattle.reverb.specs.Reverb.{allBelow, linesZero}
+use Rattle.reverb.specs.Tank.{allBelow, linesZero}
 
 pub and-assoc : (a b c : Bool) → (a && b) && c ≡ a && (b && c)
 and-assoc true b c = refl

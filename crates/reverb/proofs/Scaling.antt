@@ -2,8 +2,8 @@
 use Prim.Native.Nat.{ℕ, zero, suc, _≤_, _<_, min}
 use native.Mathlib.Nat.{le-of-suc-le-suc, not-suc-le-zero, min-le-right}
 use native.Mathlib.Omega.{arith}
-use mathlib.Core.Path.{_≡_, refl}
-use mathlib.Core.Bool.{true, _&&_, cond}
+use mathlib.Core.Path.{_≡_, refl, sym, subst}
+use mathlib.Core.Bool.{true, _&&_}
 use mathlib.Core.List.{List, [], _∷_, map}
 use lib.Dec.{T, leb}
 use lib.ListN.{length, getD, replicate, length-map}
@@ -16,8 +16,9 @@ use Rattle.float64.proofs.Interval.{In, point, mul-in, div-in, cut-in}
 use Rattle.float64.proofs.Ranges.{rate-in, range-in, in-range}
 use Rattle.float64.proofs.Parts.{whole-between}
 use Rattle.common.proofs.Sweep.{small}
-use Rattle.reverb.specs.Tunings.{Side, left, right, ratio, scaled, spread, beside, lineLengths, lengthsAt, noLengths, tuned}
-use Rattle.reverb.specs.Reverb.{allBelow}
+use Rattle.reverb.specs.declared.tunings.Lengths.{Lengths}
+use Rattle.reverb.specs.Tunings.{Side, left, right, combMost, allpassMost, leastTuning, mostTuning, combTunings, allpassTunings, ratio, scaled, spread, beside, lineLengths, lengthsAt, lengthsFor, Capped, Roomy, sided, tuned}
+use Rattle.reverb.specs.Tank.{allBelow}
 
 -- ---- the ratio
 
@@ -27,10 +28,10 @@ ratio-fits rate h = in-range (div-in (fraction 1 8) (ofNat 5) tt tt tt (rate-in 
 
 -- ---- a tuning times the ratio
 
-module _ (r : Float) (base : ℕ) (low : 225 ≤ base) (high : base ≤ 1617) (h : inRange r (fraction 1 8) (ofNat 5) ≡ true) where
+module _ (r : Float) (base : ℕ) (low : leastTuning ≤ base) (high : base ≤ mostTuning) (h : inRange r (fraction 1 8) (ofNat 5) ≡ true) where
   pub product-in : In binary64 (ofNat 1) (ofNat 16777216) (mul binary64 (ofNat base) r)
   unfolding Ieee.fits le mul ofInt round
-  product-in = mul-in (ofNat 1) (ofNat 16777216) tt tt tt (whole-between 225 base 1617 low high (omega arith)) (range-in tt h)
+  product-in = mul-in (ofNat 1) (ofNat 16777216) tt tt tt (whole-between leastTuning base mostTuning low high (omega arith)) (range-in tt h)
 
   -- its whole part is below 2^25
   pub product-cut : wholePart (mul binary64 (ofNat base) r) ≤ 16777216
@@ -42,7 +43,7 @@ module _ (r : Float) (base : ℕ) (low : 225 ≤ base) (high : base ≤ 1617) (h
   product-small = small product-in
 
 -- so is its whole part at least 1, under any cap, and beside it too
-scaled-some : (most : ℕ) (r : Float) (base : ℕ) → 1 ≤ most → 225 ≤ base → base ≤ 1617 → inRange r (fraction 1 8) (ofNat 5) ≡ true → 1 ≤ scaled most r base
+scaled-some : (most : ℕ) (r : Float) (base : ℕ) → 1 ≤ most → leastTuning ≤ base → base ≤ mostTuning → inRange r (fraction 1 8) (ofNat 5) ≡ true → 1 ≤ scaled most r base
 unfolding scaled Ieee.fits le ofInt toUnsigned
 scaled-some most r base h low high k = let c = cut-in 64 tt (product-in r base low high k) in omega (arith, c .0)
 
@@ -51,18 +52,18 @@ unfolding beside
 beside-some most wide n h k = omega arith
 
 -- a spread beyond every cap is as good as the largest cap
-pub beside-capped : (most wide n : ℕ) → most ≤ 4095 → beside most (min wide 4095) n ≡ beside most wide n
+pub beside-capped : (most wide n : ℕ) → most ≤ combMost → beside most (min wide combMost) n ≡ beside most wide n
 unfolding beside
 beside-capped most wide n h = omega arith
 
 -- every tuning lies where that holds
-pub tuned-at : (l : List ℕ) (i : ℕ) → tuned l ≡ true → i < length l → (225 ≤ getD l i 0) × (getD l i 0 ≤ 1617)
+pub tuned-at : (l : List ℕ) (i : ℕ) → tuned l ≡ true → i < length l → (leastTuning ≤ getD l i 0) × (getD l i 0 ≤ mostTuning)
 unfolding tuned
 tuned-at [] i e h = absurd (not-suc-le-zero h)
 tuned-at (b ∷ l) zero e h =
-    let a = both (leb 225 b) (leb b 1617 && tuned l) e in
-    (leb-true 225 b (a .0), leb-true b 1617 (both (leb b 1617) (tuned l) (a .1) .0))
-tuned-at (b ∷ l) (suc i) e h = tuned-at l i (both (leb b 1617) (tuned l) (both (leb 225 b) (leb b 1617 && tuned l) e .1) .1) (le-of-suc-le-suc h)
+    let a = both (leb leastTuning b) (leb b mostTuning && tuned l) e in
+    (leb-true leastTuning b (a .0), leb-true b mostTuning (both (leb b mostTuning) (tuned l) (a .1) .0))
+tuned-at (b ∷ l) (suc i) e h = tuned-at l i (both (leb b mostTuning) (tuned l) (both (leb leastTuning b) (leb b mostTuning && tuned l) e .1) .1) (le-of-suc-le-suc h)
 
 -- ---- the lengths of lines, of either side
 
@@ -101,7 +102,24 @@ lines-some most tunings side rate h t k = go side
     go right =
         zeros-below (λ base. beside most (spread (ratio rate)) (scaled most (ratio rate) base)) tunings (λ i l. beside-some most (spread (ratio rate)) _ h (some i l))
 
--- ---- at a rate that is a whole number and fits
+-- ---- every line, as the code finds them
 
-pub lengths-at : (n : ℕ) {rate : Float} → rateFits (ofNat n) ≡ true → rate ≡ ofNat n → lengthsAt (ofNat n) ≡ cond (rateFits rate) (lengthsAt rate) noLengths
+-- at a rate that is a whole number and fits
+pub lengths-at : (n : ℕ) {rate : Float} → rateFits (ofNat n) ≡ true → rate ≡ ofNat n → lengthsAt (ofNat n) ≡ lengthsFor rate
 lengths-at n h e = rw (e, h)
+
+-- at any rate that fits
+pub lengths-are : (rate : Float) {n : Lengths} → rateFits rate ≡ true → n ≡ lengthsFor rate → n ≡ lengthsAt rate
+lengths-are rate h e = rw h at e
+
+-- they have room in the tank
+pub roomy : {n : Lengths} (rate : Float) → n ≡ lengthsAt rate → Roomy n
+roomy rate e = subst Roomy (sym e) (record { combs = combs; allpasses = allpasses })
+  where
+    combs : (side : Side) → Capped combMost (sided (lengthsAt rate .«comb_l») (lengthsAt rate .«comb_r») side)
+    combs left = lines-most combMost combTunings left rate
+    combs right = lines-most combMost combTunings right rate
+
+    allpasses : (side : Side) → Capped allpassMost (sided (lengthsAt rate .«allpass_l») (lengthsAt rate .«allpass_r») side)
+    allpasses left = lines-most allpassMost allpassTunings left rate
+    allpasses right = lines-most allpassMost allpassTunings right rate

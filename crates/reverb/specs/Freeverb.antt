@@ -7,8 +7,8 @@ use lib.ListN.{getD, set}
 use lib.Ieee.{Float, nan, binary64, add, sub, mul, neg}
 use Rattle.float64.specs.Number.{ofNat, half}
 use Rattle.common.specs.Line.{nextPlace}
-use Rattle.reverb.specs.declared.Combed.{Combed}
-use Rattle.reverb.specs.declared.Passed.{Passed}
+use Rattle.reverb.specs.declared.filters.Combed.{Combed}
+use Rattle.reverb.specs.declared.filters.Passed.{Passed}
 
 -- ---- the comb, which answers what its place held
 

@@ -1,3 +1,4 @@
-pub mod Freeverb
 pub mod Tunings
+pub mod Freeverb
+pub mod Tank
 pub mod Reverb

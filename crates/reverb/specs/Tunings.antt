@@ -1,23 +1,60 @@
 -- How long the reverb's lines are: Freeverb's lengths at 44,100, scaled to the rate. Definitions only. Assumes nothing.
-use Prim.Native.Nat.{ℕ, _+_, min, max}
-use mathlib.Core.Bool.{Bool, true, _&&_}
+use Prim.Native.Nat.{ℕ, _+_, _-_, _≤_, min, max}
+use mathlib.Core.Bool.{Bool, true, _&&_, cond}
 use mathlib.Core.List.{List, [], _∷_, map}
 use lib.Dec.{leb}
-use lib.ListN.{replicate}
+use lib.ListN.{getD, replicate}
 use lib.Ieee.{Float, binary64, mul, div}
-use Rattle.float64.specs.Number.{ofNat, wholePart, roundHalfAway}
-use Rattle.reverb.specs.declared.Lengths.{Lengths}
+use Rattle.float64.specs.Number.{ofNat, rateFits, wholePart, roundHalfAway}
+use Rattle.reverb.specs.declared.tunings.Lengths.{Lengths}
 
 pub data Side : Type 0 where
   left : Side
   right : Side
 
--- lengths at 44,100
+-- l on the left, r on the right
+abbrev pub sided : {A : Type 0} → A → A → Side → A
+sided l r left = l
+sided l r right = r
+
+-- ---- the limits: the places that a line has in the tank, and the longest line, which leaves one of them over
+
+abbrev pub combSize : ℕ
+combSize = 4096
+
+abbrev pub combMost : ℕ
+combMost = combSize - 1
+
+abbrev pub allpassSize : ℕ
+allpassSize = 1500
+
+abbrev pub allpassMost : ℕ
+allpassMost = allpassSize - 1
+
+-- the predelay's line is all its places
+abbrev pub predelaySize : ℕ
+predelaySize = 9600
+
+-- ---- lengths at 44,100, from 225 to 1617
+
 abbrev pub combTunings : List ℕ
 combTunings = 1116 ∷ 1188 ∷ 1277 ∷ 1356 ∷ 1422 ∷ 1491 ∷ 1557 ∷ 1617 ∷ []
 
 abbrev pub allpassTunings : List ℕ
 allpassTunings = 556 ∷ 441 ∷ 341 ∷ 225 ∷ []
+
+abbrev pub leastTuning : ℕ
+leastTuning = 225
+
+abbrev pub mostTuning : ℕ
+mostTuning = 1617
+
+-- whether tunings lie between these, where the quick whole part serves
+unfoldable pub tuned : List ℕ → Bool
+tuned [] = true
+tuned (base ∷ bases) = leb leastTuning base && (leb base mostTuning && tuned bases)
+
+-- ---- lengths at a rate
 
 -- rate / 44100, rounded before anything is multiplied by it
 unfoldable pub ratio : Float → Float
@@ -41,10 +78,10 @@ lineLengths most tunings left rate = map (scaled most (ratio rate)) tunings
 lineLengths most tunings right rate = map (λ base. beside most (spread (ratio rate)) (scaled most (ratio rate) base)) tunings
 
 abbrev pub combLengths : Side → Float → List ℕ
-combLengths side rate = lineLengths 4095 combTunings side rate
+combLengths side rate = lineLengths combMost combTunings side rate
 
 abbrev pub allpassLengths : Side → Float → List ℕ
-allpassLengths side rate = lineLengths 1499 allpassTunings side rate
+allpassLengths side rate = lineLengths allpassMost allpassTunings side rate
 
 -- ---- as the code hands them on
 
@@ -62,7 +99,15 @@ abbrev pub noLengths : Lengths
 noLengths =
     record { «comb_l» = replicate 8 0; «comb_r» = replicate 8 0; «allpass_l» = replicate 4 0; «allpass_r» = replicate 4 0 }
 
--- whether the tunings lie where the quick whole part serves: from 225 to 1617
-unfoldable pub tuned : List ℕ → Bool
-tuned [] = true
-tuned (base ∷ bases) = leb 225 base && (leb base 1617 && tuned bases)
+-- as the code finds them: none at a refused rate
+abbrev pub lengthsFor : Float → Lengths
+lengthsFor rate = cond (rateFits rate) (lengthsAt rate) noLengths
+
+-- no length of these is more than `most`
+abbrev pub Capped : ℕ → List ℕ → Type 0
+Capped most sizes = (i : ℕ) → getD sizes i 0 ≤ most
+
+-- every line has room in the tank
+pub record Roomy (n : Lengths) : Type 0 where
+  pub combs : (side : Side) → Capped combMost (sided (n .«comb_l») (n .«comb_r») side)
+  pub allpasses : (side : Side) → Capped allpassMost (sided (n .«allpass_l») (n .«allpass_r») side)

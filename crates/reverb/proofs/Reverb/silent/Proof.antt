@@ -9,8 +9,12 @@ use Rattle.effect.specs.Run.{ask}
 use Rattle.effect.specs.Contract.{Does}
 use Rattle.effect.proofs.Table.{Accepted, accepted, enough}
 use Rattle.effect.proofs.Contract.{refuses, accepts}
+use Rattle.reverb.specs.declared.tunings.Lengths.{Lengths}
+use Rattle.reverb.specs.Tunings.{lengthsAt}
+use Rattle.reverb.specs.Tank.{tankSize, silence}
 use Rattle.reverb.specs.Reverb.{reverb}
-use Rattle.reverb.proofs.Laws.{fits-parts, lengths-are}
+use Rattle.reverb.proofs.Scaling.{lengths-are, roomy}
+use Rattle.reverb.proofs.Laws.{fits-parts}
 use borrow.Author.Needs.{needs}
 use Rattle.reverb.proofs.Reverb.silent.Statement.{statement}
 use Rattle.reverb.proofs.Reverb.silent.Tie as tie
@@ -44,10 +48,16 @@ module _ (c : tie.After-enum-told) where
   passed : Accepted reverb (length (start .args .mem .now)) ask (start .args .self)
   passed = accepted reverb (length (start .args .mem .now)) ask (start .args .self) (sym (c .before .before .refusal .ensures) ∙ ap numberOf (c .enum-told .given .1))
 
+  -- so the lengths are those at its rate
+  sizes : c .before .before .before .scaled-lengths .result ≡ lengthsAt (start .args .self .«sample_rate»)
+  sizes =
+      let s = start .args .self in
+      lengths-are (s .«sample_rate») (fits-parts s (passed .stateFits) .rate) (c .before .before .before .scaled-lengths .ensures)
+
 all-silent-requires : tie.Need-all-silent-requires
 all-silent-requires c κs =
     let s = start c .args .self in
-    (lengths-are (s .«sample_rate») (fits-parts s (passed c .stateFits) .rate) (c .before .before .before .scaled-lengths .ensures), enough 87136 _ (passed c .number))
+    (roomy (s .«sample_rate») (sizes c), enough tankSize _ (passed c .number))
 
 -- accepted, with the answer b
 answered : (c : tie.After-all-silent) (b : Bool) → c .all-silent .result ≡ b
@@ -59,7 +69,7 @@ answered c b e =
     (sym (told .before .before .refusal .ensures) ∙ ap numberOf (told .enum-told .given .1))
     refl
     refl
-    (ap answer.silent (sym e ∙ c .all-silent .ensures))
+    (ap answer.silent (sym e ∙ c .all-silent .ensures ∙ ap (λ (n : Lengths). silence n (a .mem .now)) (sizes told)))
 
 returns-2 : tie.Need-returns-2
 returns-2 c = answered (c .before) true (c .if1 .taken)

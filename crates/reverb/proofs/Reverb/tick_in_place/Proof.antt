@@ -1,26 +1,28 @@
--- `Reverb::tick_in_place` is the tick of `reverb` on what is lent: causes 4 and 3, then the ports or their defaults, cause 5, then the tick with all its ports
--- set. Assumes nothing.
-use Prim.Native.Nat.{ℕ}
+-- `Reverb::tick_in_place` is the tick of `reverb` on what is lent: causes 4 and 3, then the ports' numbers, cause 5, then the tick. Assumes nothing.
+use Prim.Native.Nat.{ℕ, _≤_}
 use native.Mathlib.Omega.{arith}
 use mathlib.Core.Path.{_≡_, refl, sym, ap, _∙_}
-use mathlib.Core.Logic.{inl, inr}
-use mathlib.Core.Bool.{true, _||_}
+use mathlib.Core.Bool.{Bool, true, false, _||_}
 use lib.ListN.{length}
-use lib.Ieee.{ofBits, round, isNan}
+use lib.Ieee.{round, isNan}
 use lib.Ieee as Ieee
 use borrow.Author.Needs.{needs}
 use borrow.Author.Tests.{not-true, not-false}
 use Rattle.float64.specs.Number.{plusZero, half, isNumber}
-use Rattle.port.specs.Port.{valueOr}
-use Rattle.port.specs.Answer.{number, numberOf}
-use Rattle.port.proofs.Laws.{value-set, value-unset, nan-is, number-some}
+use Rattle.port.specs.Answer.{number, numberOf, played}
+use Rattle.port.proofs.Laws.{nan-is, number-some}
 use Rattle.common.specs.Signal.{causeNumber}
+use Rattle.common.proofs.Sweep.{no-cause, neither}
+use Rattle.effect.specs.Effect.{laid}
 use Rattle.effect.specs.Run.{tick, memoryNumber, numberIn}
-use Rattle.effect.proofs.Contract.{refuses, state-refused, tick-memory, tick-number}
+use Rattle.effect.proofs.Table.{enough}
+use Rattle.effect.proofs.Contract.{refuses, accepts, state-refused, tick-memory, tick-number}
+use Rattle.reverb.specs.declared.Controls.{Controls}
 use Rattle.reverb.specs.declared.Reverb.{Reverb}
-use Rattle.reverb.specs.Reverb.{reverb, Tick, tickOf, stateOf, stateFits, tickNumber}
-use Rattle.reverb.proofs.Laws.{fits-by, fits-parts, lengths-are}
-use Rattle.reverb.proofs.Ticks.{allSet, set-does}
+use Rattle.reverb.specs.Tank.{tankSize}
+use Rattle.reverb.specs.Reverb.{reverb, Tick, tickOf, controlsOf, stateOf, stateFits, tickNumber, next, writes, samples}
+use Rattle.reverb.proofs.Scaling.{lengths-are}
+use Rattle.reverb.proofs.Laws.{fits-by, fits-parts}
 use Rattle.reverb.proofs.Reverb.tick_in_place.Statement.{statement}
 use Rattle.reverb.proofs.Reverb.tick_in_place.Tie as tie
 
@@ -34,21 +36,21 @@ handed s =
 abbrev self : tie.Start → Reverb
 self s =
     let a = s .args in
-    stateOf (a .comb-pos-l .now) (a .comb-pos-r .now) (a .comb-filter-state-l .now) (a .comb-filter-state-r .now) (a .allpass-pos-l .now) (a .allpass-pos-r .now) (a .predelay-pos .now) (a .rate)
+    stateOf (a .comb-pos-l .now) (a .comb-pos-r .now) (a .stores-l .now) (a .stores-r .now) (a .allpass-pos-l .now) (a .allpass-pos-r .now) (a .predelay-pos .now) (a .rate)
 
-lengths-requires : tie.Need-lengths-requires
-lengths-requires c κs = search needs
+lengths-at-requires : tie.Need-lengths-at-requires
+lengths-at-requires c κs = search needs
 
-parts-fit-requires : tie.Need-parts-fit-requires
-parts-fit-requires c κs = search needs
+positions-fit-requires : tie.Need-positions-fit-requires
+positions-fit-requires c κs = search needs
 
 -- the state test
-module _ (c : tie.After-parts-fit) where
+module _ (c : tie.After-positions-fit) where
   abbrev tested : tie.Start
-  tested = c .before .before .before .before .before .before .before .before .before .before .before .before
+  tested = c .before .before .before .before .before .before .before .before
 
-  fits-is : c .parts-fit .result ≡ stateFits (self tested)
-  fits-is = c .parts-fit .ensures ∙ fits-by (self tested) (c .before .before .before .before .before .before .before .before .before .before .lengths .ensures)
+  fits-is : c .positions-fit .result ≡ stateFits (self tested)
+  fits-is = c .positions-fit .ensures ∙ fits-by (self tested) (c .before .before .before .before .before .before .lengths-at .ensures)
 
 returns : tie.Need-returns
 returns c =
@@ -86,35 +88,8 @@ returns-2 c =
 enum-told : tie.Need-enum-told
 enum-told c = search needs
 
-enum-known-audio : tie.Need-enum-known-audio
-enum-known-audio c = search needs
-
-enum-told-2 : tie.Need-enum-told-2
-enum-told-2 c = search needs
-
-enum-known-size : tie.Need-enum-known-size
-enum-known-size c = search needs
-
-enum-told-3 : tie.Need-enum-told-3
-enum-told-3 c = search needs
-
-enum-known-damping : tie.Need-enum-known-damping
-enum-known-damping c = search needs
-
-enum-told-4 : tie.Need-enum-told-4
-enum-told-4 c = search needs
-
-enum-known-mix : tie.Need-enum-known-mix
-enum-known-mix c = search needs
-
-enum-told-5 : tie.Need-enum-told-5
-enum-told-5 c = search needs
-
-enum-known-predelay : tie.Need-enum-known-predelay
-enum-known-predelay c = search needs
-
-enum-told-6 : tie.Need-enum-told-6
-enum-told-6 c = search needs
+controls-of-requires : tie.Need-controls-of-requires
+controls-of-requires c κs = search needs
 
 is-nan-requires : tie.Need-is-nan-requires
 is-nan-requires c κs = search needs
@@ -134,106 +109,62 @@ tick-causes-requires c κs = search needs
 enum-known-causes : tie.Need-enum-known-causes
 enum-known-causes c = search needs
 
--- each port's number, or the default
-module _ (c : tie.At-match6-came) where
-  abbrev start : tie.Start
-  start = begun (c .before .before .before .before .before .before .before)
-
-  audio-is : c .before .before .before .before .match2 .audio ≡ valueOr (start .args .audio) plusZero
-  unfolding ofBits
-  audio-is =
-      elim (c .before .before .before .before .match2 .came) [
-        | inl w ↦ value-set plusZero (w .1 .given .1) (w .3)
-        | inr w ↦ value-unset plusZero (w .1 .given .1) (w .2)
-      ]
-
-  size-is : c .before .before .before .match3 .size ≡ valueOr (start .args .size) half
-  unfolding ofBits round
-  size-is =
-      elim (c .before .before .before .match3 .came) [
-        | inl w ↦ value-set half (w .1 .given .1) (w .3)
-        | inr w ↦ value-unset half (w .1 .given .1) (w .2)
-      ]
-
-  damping-is : c .before .before .match4 .damping ≡ valueOr (start .args .damping) half
-  unfolding ofBits round
-  damping-is =
-      elim (c .before .before .match4 .came) [
-        | inl w ↦ value-set half (w .1 .given .1) (w .3)
-        | inr w ↦ value-unset half (w .1 .given .1) (w .2)
-      ]
-
-  mix-is : c .before .match5 .mix ≡ valueOr (start .args .mix) half
-  unfolding ofBits round
-  mix-is =
-      elim (c .before .match5 .came) [
-        | inl w ↦ value-set half (w .1 .given .1) (w .3)
-        | inr w ↦ value-unset half (w .1 .given .1) (w .2)
-      ]
-
-  predelay-is : c .match6 .predelay ≡ valueOr (start .args .predelay) plusZero
-  unfolding ofBits
-  predelay-is =
-      elim (c .match6 .came) [
-        | inl w ↦ value-set plusZero (w .1 .given .1) (w .3)
-        | inr w ↦ value-unset plusZero (w .1 .given .1) (w .2)
-      ]
-
-  -- causes 4 and 3 do not apply
-  fit : stateFits (self start) ≡ true
-  fit = passed (c .before .before .before .before .before .before .before)
-
-  enough : 0 ≡ memoryNumber 87136 (length (start .args .mem .now))
-  enough = sym (ap numberOf (c .before .before .before .before .before .enum-told .given .1)) ∙ c .before .before .before .before .before .before .before .check-memory .ensures
-
-  -- the tick with these numbers
-  abbrev all : Tick
-  all = allSet (handed start) audio-is size-is damping-is mix-is predelay-is
-
--- the number by the ports
+-- cause 5, past causes 4 and 3
 module _ (c : tie.After-tick-causes) where
-  abbrev values : tie.At-match6-came
-  values = c .before .before .before .before .before
+  abbrev memory : tie.After-check-memory
+  memory = c .before .before .before .before .before .before .before .before
 
-  number-is : (k : ℕ) → numberOf (c .tick-causes .result) ≡ k → k ≡ numberIn reverb (tick (handed (start values))) (length (start values .args .mem .now)) (self (start values))
+  abbrev start : tie.Start
+  start = begun memory
+
+  controls-are : c .before .before .before .before .before .controls-of .result ≡ controlsOf (handed start)
+  controls-are = c .before .before .before .before .before .controls-of .ensures
+
+  has-places : 0 ≡ memoryNumber tankSize (length (start .args .mem .now))
+  has-places = sym (ap numberOf (c .before .before .before .before .before .before .enum-told .given .1)) ∙ memory .check-memory .ensures
+
+  number-is : (k : ℕ) → numberOf (c .tick-causes .result) ≡ k → k ≡ numberIn reverb (tick (handed start)) (length (start .args .mem .now)) (self start)
   unfolding tickNumber isNumber Ieee.fits isNan round
   number-is k e =
-      let a = start values .args in
-      let size = nan-is (a .size) half refl (size-is values) (c .before .before .before .before .is-nan .ensures) in
-      let damping = nan-is (a .damping) half refl (damping-is values) (c .before .before .before .is-nan2 .ensures) in
-      let mix = nan-is (a .mix) half refl (mix-is values) (c .before .before .is-nan3 .ensures) in
-      let predelay = nan-is (a .predelay) plusZero refl (predelay-is values) (c .before .is-nan4 .ensures) in
-      tick-number reverb (length (a .mem .now)) (self (start values)) (handed (start values)) (fit values) (enough values)
+      let a = start .args in
+      let size = nan-is (a .size) half refl (ap (λ (v : Controls). v .size) controls-are) (c .before .before .before .before .is-nan .ensures) in
+      let damping = nan-is (a .damping) half refl (ap (λ (v : Controls). v .damping) controls-are) (c .before .before .before .is-nan2 .ensures) in
+      let mix = nan-is (a .mix) half refl (ap (λ (v : Controls). v .mix) controls-are) (c .before .before .is-nan3 .ensures) in
+      let predelay = nan-is (a .predelay) plusZero refl (ap (λ (v : Controls). v .predelay) controls-are) (c .before .is-nan4 .ensures) in
+      tick-number reverb (length (a .mem .now)) (self start) (handed start) (passed memory) has-places
       (sym e ∙ c .tick-causes .ensures ∙ (λ i. causeNumber (size i || (damping i || (mix i || predelay i))) true))
 
-  -- and by their numbers
-  set-number-is : (k : ℕ) → numberOf (c .tick-causes .result) ≡ k → k ≡ numberIn reverb (tick (all values)) (length (start values .args .mem .now)) (self (start values))
-  unfolding tickNumber
-  set-number-is k e =
-      let a = start values .args in
-      tick-number reverb (length (a .mem .now)) (self (start values)) (all values) (fit values) (enough values)
-      (sym e ∙ c .tick-causes .ensures ∙ (λ i. causeNumber (c .before .before .before .before .is-nan .ensures i || (c .before .before .before .is-nan2 .ensures i || (c .before .before .is-nan3 .ensures i || c .before .is-nan4 .ensures i))) true))
+  -- without a cause the predelay is a number
+  predelay-number : numberOf (c .tick-causes .result) ≡ 0 → isNumber (c .before .before .before .before .before .controls-of .result .predelay) ≡ true
+  predelay-number e =
+      let size = c .before .before .before .before .is-nan .result in
+      let damping = c .before .before .before .is-nan2 .result in
+      let mix = c .before .before .is-nan3 .result in
+      let predelay = c .before .is-nan4 .result in
+      let a = no-cause (size || (damping || (mix || predelay))) true (sym (c .tick-causes .ensures) ∙ e) in
+      let b = neither damping (mix || predelay) (neither size (damping || (mix || predelay)) (a .0) .1) in
+      not-false _ (sym (c .before .is-nan4 .ensures) ∙ neither mix predelay (b .1) .1)
 
 returns-3 : tie.Need-returns-3
 returns-3 c =
     let causes = c .before .before .before in
     let cause = c .before .causes .given .0 .0 in
-    let s = start (values causes) in
+    let s = start causes in
     refuses reverb (tick (handed s)) (self s) (s .args .mem .now) (number cause)
     (number-is causes (number cause) (ap numberOf (c .before .causes .given .1)))
     (number-some cause)
 
-enum-told-7 : tie.Need-enum-told-7
-enum-told-7 c = search needs
+enum-told-2 : tie.Need-enum-told-2
+enum-told-2 c = search needs
 
 advance-requires : tie.Need-advance-requires
 advance-requires c κs =
     let told = c .before .before .before .before .before .before .before .before in
     let causes = told .before .before in
-    let v = values causes in
-    let u = self (start v) in (
-      lengths-are (u .«sample_rate») (fits-parts u (fit v) .rate) (v .before .before .before .before .before .before .before .before .before .before .before .before .before .before .before .before .before .before .before .lengths .ensures),
-      sym (set-number-is causes 0 (ap numberOf (told .enum-told7 .given .1))),
+    let memory = memory causes in
+    let u = self (begun memory) in (
+      lengths-are (u .«sample_rate») (fits-parts u (passed memory) .rate) (memory .before .before .before .before .before .before .before .before .lengths-at .ensures),
+      (passed memory, (enough tankSize _ (sym (has-places causes)), predelay-number causes (ap numberOf (told .enum-told2 .given .1)))),
     )
 
 same-length : tie.Need-same-length
@@ -244,31 +175,27 @@ returns-4 c =
     let worked = c .before .before in
     let told = worked .before .before .before .before .before .before .before .before .before in
     let causes = told .before .before in
-    let v = values causes in
-    let none = ap numberOf (told .enum-told7 .given .1) in
-    set-does (handed (start v)) (audio-is v) (size-is v) (damping-is v) (mix-is v) (predelay-is v) (sym (number-is causes 0 none)) (sym (set-number-is causes 0 none)) (worked .advance .ensures)
+    let s = start causes in
+    let m = s .args .mem .now in
+    let v = controls-are causes in
+    accepts reverb (tick (handed s)) (self s) m
+    (sym (number-is causes 0 (ap numberOf (told .enum-told2 .given .1))))
+    (worked .advance .ensures .state ∙ (λ i. next (v i) (self s) m))
+    (worked .advance .ensures .memory ∙ (λ i. laid (writes (v i) (self s) m) m))
+    (worked .advance .ensures .answer ∙ (λ i. played (samples (v i) (self s) m)))
 
 pub tick-in-place-spec : {M : Type 1} → statement M
 tick-in-place-spec =
     tie.close
     (tie.spec
-    lengths-requires
-    parts-fit-requires
+    lengths-at-requires
+    positions-fit-requires
     returns
     check-memory-requires
     enum-known-memory
     returns-2
     enum-told
-    enum-known-audio
-    enum-told-2
-    enum-known-size
-    enum-told-3
-    enum-known-damping
-    enum-told-4
-    enum-known-mix
-    enum-told-5
-    enum-known-predelay
-    enum-told-6
+    controls-of-requires
     is-nan-requires
     is-nan-requires-2
     is-nan-requires-3
@@ -276,7 +203,7 @@ tick-in-place-spec =
     tick-causes-requires
     enum-known-causes
     returns-3
-    enum-told-7
+    enum-told-2
     advance-requires
     same-length
     returns-4)

@@ -1,0 +1,58 @@
+-- `filters::allpass_at` is a step of an all-pass on the part of the tank that starts at place o, said of the whole tank. Assumes nothing.
+use Prim.Native.Nat.{_+_, _-_}
+use native.Mathlib.Omega.{arith}
+use mathlib.Core.Path.{ap, _∙_}
+use lib.Ieee.{Float, nan}
+use Rattle.common.proofs.Slices.{part-getD, part-set}
+use Rattle.reverb.specs.Tunings.{allpassSize}
+use Rattle.reverb.specs.Freeverb.{passed, passLine}
+use borrow.Author.Needs.{needs}
+use Rattle.reverb.proofs.filters.allpass_at.Statement.{statement}
+use Rattle.reverb.proofs.filters.allpass_at.Tie as tie
+
+add-e : tie.Need-add-e
+add-e c = search needs
+
+mul-process-allpass : tie.Need-mul-process-allpass
+mul-process-allpass c = search needs
+
+sub-process-allpass : tie.Need-sub-process-allpass
+sub-process-allpass c = search needs
+
+part-process-allpass-start : tie.Need-part-process-allpass-start
+part-process-allpass-start c = search needs
+
+part-process-allpass-end : tie.Need-part-process-allpass-end
+part-process-allpass-end c = search needs
+
+process-allpass-requires : tie.Need-process-allpass-requires
+process-allpass-requires c κs = search needs
+
+same-length : tie.Need-same-length
+same-length c = search needs
+
+returns : tie.Need-returns
+unfolding passLine
+returns c =
+    let p = c .before .before in
+    let s = p .before .before .before in
+    let a = s .args in
+    let m = a .mem .now in
+    let k = a .o + allpassSize - a .o in
+    let held = part-getD (a .o) k m (a .pos) nan (omega (arith, s .pre)) in (
+      p .process-allpass .ensures .0 ∙ ap (λ (x : Float). passed x (a .size) (a .pos) (a .input)) held,
+      rw (p .process-allpass .ensures .1, held) (part-set (a .o) k m (a .pos) _ (omega (arith, s .pre)) (omega (arith, s .pre))),
+    )
+
+pub allpass-at-spec : {M : Type 1} → statement M
+allpass-at-spec =
+    tie.close
+    (tie.spec
+    add-e
+    mul-process-allpass
+    sub-process-allpass
+    part-process-allpass-start
+    part-process-allpass-end
+    process-allpass-requires
+    same-length
+    returns)

@@ -1,0 +1,207 @@
+-- `tank::allpasses` steps the four all-passes of each side: the loop's invariant is that the first i of each side have stepped. Assumes nothing.
+use Prim.Native.Nat.{ℕ, _-_, _≤_, _<_}
+use native.Mathlib.Omega.{arith}
+use mathlib.Core.Path.{_≡_, refl, ap, _∙_}
+use mathlib.Core.Logic.{_≢_}
+use lib.ListN.{length}
+use Rattle.common.specs.Line.{table}
+use Rattle.common.proofs.Tables.{tabled, tabled-none, tabled-more, tabled-all}
+use Rattle.effect.specs.Effect.{laid}
+use Rattle.reverb.specs.declared.filters.Passed.{Passed}
+use Rattle.reverb.specs.Tunings.{Side, left, right, sided, allpassMost}
+use Rattle.reverb.specs.Tank.{Lines, InLines, tankSize, allpassLines, moved, bySides, allpassesHeld, passedOn, allpassWrite}
+use Rattle.reverb.proofs.Apart.{lines-long, allpass-asks, allpass-apart, allpass-across, by-sides, first-held, then-held, turned, pass-gives, pass-writes}
+use borrow.Author.Needs.{needs}
+use Rattle.reverb.proofs.tank.allpasses.Statement.{statement}
+use Rattle.reverb.proofs.tank.allpasses.Tie as tie
+
+abbrev Inv-loop : tie.InvT-loop
+Inv-loop pos-l₀ pos-r₀ mem₀ input-l input-r n positions-l positions-r output-l₀ output-r₀ i₀ pos-l pos-r mem output-l output-r i =
+    let lines = allpassLines pos-l₀ pos-r₀ n in
+    let held = allpassesHeld lines mem₀ in
+    (i ≤ 4) × (length mem ≡ length mem₀)
+    × (mem ≡ laid (bySides (allpassWrite (sided input-l input-r) lines held) i) mem₀)
+    × (pos-l ≡ tabled (moved lines left) i pos-l₀)
+    × (pos-r ≡ tabled (moved lines right) i pos-r₀)
+    × (output-l ≡ passedOn input-l (held left) i)
+    × (output-r ≡ passedOn input-r (held right) i)
+
+abbrev μ-loop : tie.MeasureT-loop
+μ-loop pos-l₀ pos-r₀ mem₀ input-l input-r n positions-l positions-r output-l₀ output-r₀ i₀ pos-l pos-r mem output-l output-r i = 4 - i
+
+loop-holds : tie.Need-loop-holds Inv-loop μ-loop
+unfolding bySides passedOn
+loop-holds c = (omega arith, refl, refl, tabled-none _ _, tabled-none _ _, refl, refl)
+
+-- what is lent, as lines
+module _ (q : tie.After-positions-r Inv-loop μ-loop) where
+  abbrev start : tie.Start Inv-loop μ-loop
+  start = q .before .before .before
+
+  abbrev lines : Lines
+  lines = let a = start .args in allpassLines (a .pos-l .now) (a .pos-r .now) (a .t3)
+
+  fits : InLines 4 allpassMost lines
+  fits = start .pre .0
+
+mul-o : tie.Need-mul-o Inv-loop μ-loop
+mul-o c = search needs
+
+add-o : tie.Need-add-o Inv-loop μ-loop
+add-o c = search needs
+
+mul-w : tie.Need-mul-w Inv-loop μ-loop
+mul-w c = search needs
+
+array-read-w : tie.Need-array-read-w Inv-loop μ-loop
+array-read-w c = search needs
+
+mul-allpass-at : tie.Need-mul-allpass-at Inv-loop μ-loop
+mul-allpass-at c = search needs
+
+element-copy-out-allpass-at : tie.Need-element-copy-out-allpass-at Inv-loop μ-loop
+element-copy-out-allpass-at c = search needs
+
+cast-allpass-at : tie.Need-cast-allpass-at Inv-loop μ-loop
+cast-allpass-at c = search needs
+
+allpass-at-requires : tie.Need-allpass-at-requires Inv-loop μ-loop
+allpass-at-requires c κs =
+    let t = c .before .before in
+    let l = t .before .loop in
+    let q = t .before .before in
+    allpass-asks (fits q) left (l .i) (length (l .mem)) (t .loop-test .taken) (omega (arith, l .inv .1, start q .pre .1))
+
+mul-pos-l : tie.Need-mul-pos-l Inv-loop μ-loop
+mul-pos-l c = search needs
+
+element-write-pos-l : tie.Need-element-write-pos-l Inv-loop μ-loop
+element-write-pos-l c = search needs
+
+mul-o-2 : tie.Need-mul-o-2 Inv-loop μ-loop
+mul-o-2 c = search needs
+
+add-o-2 : tie.Need-add-o-2 Inv-loop μ-loop
+add-o-2 c = search needs
+
+mul-w-2 : tie.Need-mul-w-2 Inv-loop μ-loop
+mul-w-2 c = search needs
+
+array-read-w-2 : tie.Need-array-read-w-2 Inv-loop μ-loop
+array-read-w-2 c = search needs
+
+mul-allpass-at-2 : tie.Need-mul-allpass-at-2 Inv-loop μ-loop
+mul-allpass-at-2 c = search needs
+
+element-copy-out-allpass-at-2 : tie.Need-element-copy-out-allpass-at-2 Inv-loop μ-loop
+element-copy-out-allpass-at-2 c = search needs
+
+cast-allpass-at-2 : tie.Need-cast-allpass-at-2 Inv-loop μ-loop
+cast-allpass-at-2 c =
+    let t = c .before .before .before .before .before .before .before in
+    omega (arith, allpass-asks (fits (t .before .before)) right (t .before .loop .i) tankSize (t .loop-test .taken) (omega arith) .1 .0)
+
+allpass-at-requires-2 : tie.Need-allpass-at-requires-2 Inv-loop μ-loop
+allpass-at-requires-2 c κs =
+    let t = c .before .before .before .before .before .before .before in
+    let l = t .before .loop in
+    let q = t .before .before in
+    allpass-asks (fits q) right (l .i) _ (t .loop-test .taken) (omega (arith, c .before .before .before .before .allpass-at .kept .0, l .inv .1, start q .pre .1))
+
+mul-pos-r : tie.Need-mul-pos-r Inv-loop μ-loop
+mul-pos-r c = search needs
+
+element-write-pos-r : tie.Need-element-write-pos-r Inv-loop μ-loop
+element-write-pos-r c = search needs
+
+add-i : tie.Need-add-i Inv-loop μ-loop
+add-i c = search needs
+
+loop-less : tie.Need-loop-less Inv-loop μ-loop
+loop-less c = search needs
+
+loop-again : tie.Need-loop-again Inv-loop μ-loop
+unfolding allpassWrite
+loop-again c =
+    let t = c .before .before .before .before .before .before .before .before .before .before in
+    let l = t .before .loop in
+    let q = t .before .before in
+    let a = start q .args in
+    let u = lines q in
+    let i = l .i in
+    let m = a .mem .now in
+    let h : i < 4 = t .loop-test .taken in
+    let f = fits q in
+    let ls = c .before .before .before .before .before .before .before .allpass-at in
+    let rs = c .before .before .allpass-at2 in
+    let x = sided (a .input-l) (a .input-r) in
+    let w = allpassWrite x u (allpassesHeld u m) in
+    let apart : (v z : Side) (k : ℕ) → k < i → w i v .place ≢ w k z .place = λ v z k g. allpass-apart f v z i k g h in
+    let across = allpass-across f i h in
+    let same-l = first-held w m i apart (l .mem) (l .inv .2) left in
+    let gives-l = pass-gives x u m left i h (l .mem) (l .output-l) same-l (l .inv .5) (ls .ensures .0) in
+    let stored = ls .ensures .1 ∙ pass-writes x u m left i h (l .mem) (l .output-l) same-l (l .inv .5) in
+    let same-r = then-held w m i apart (l .mem) (l .inv .2) across stored in
+    let gives-r = pass-gives x u m right i h (ls .last .0) (l .output-r) same-r (l .inv .6) (rs .ensures .0) in (
+      omega (arith, h),
+      rs .kept .0 ∙ ls .kept .0 ∙ l .inv .1,
+      turned w m i apart (l .mem) (l .inv .2) across stored (rs .ensures .1 ∙ pass-writes x u m right i h (ls .last .0) (l .output-r) same-r (l .inv .6)),
+      tabled-more _ i _ (omega (arith, h, lines-long f left)) (l .inv .3) (ap (λ (r : Passed). r .pos) gives-l),
+      tabled-more _ i _ (omega (arith, h, lines-long f right)) (l .inv .4) (ap (λ (r : Passed). r .pos) gives-r),
+      ap (λ (r : Passed). r .output) gives-l,
+      ap (λ (r : Passed). r .output) gives-r,
+    )
+
+same-length : tie.Need-same-length Inv-loop μ-loop
+same-length c = c .before .loop .inv .1
+
+returns : tie.Need-returns Inv-loop μ-loop
+returns c =
+    let l = c .before .loop in
+    let q = c .before .before in
+    let a = start q .args in
+    let u = lines q in
+    let h = allpassesHeld u (a .mem .now) in
+    let x = sided (a .input-l) (a .input-r) in
+    let e : l .i ≡ 4 = omega arith in
+    record {
+      positions =
+          by-sides (λ side. table (moved u side) 4)
+          (rw e at (l .inv .3) ∙ tabled-all (moved u left) 4 (a .pos-l .now) (lines-long (fits q) left))
+          (rw e at (l .inv .4) ∙ tabled-all (moved u right) 4 (a .pos-r .now) (lines-long (fits q) right));
+      memory = rw e at (l .inv .2);
+      outputs = by-sides (λ side. passedOn (x side) (h side) 4) (rw e at (l .inv .5)) (rw e at (l .inv .6));
+    }
+
+pub allpasses-spec : {M : Type 1} → statement M
+allpasses-spec =
+    tie.close
+    (tie.spec
+    Inv-loop
+    μ-loop
+    loop-holds
+    mul-o
+    add-o
+    mul-w
+    array-read-w
+    mul-allpass-at
+    element-copy-out-allpass-at
+    cast-allpass-at
+    allpass-at-requires
+    mul-pos-l
+    element-write-pos-l
+    mul-o-2
+    add-o-2
+    mul-w-2
+    array-read-w-2
+    mul-allpass-at-2
+    element-copy-out-allpass-at-2
+    cast-allpass-at-2
+    allpass-at-requires-2
+    mul-pos-r
+    element-write-pos-r
+    add-i
+    loop-less
+    loop-again
+    same-length
+    returns)
