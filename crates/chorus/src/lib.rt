@@ -119,7 +119,7 @@ impl Chorus {
     {
         self.write_pos < n
             && (float64::phase_fits(self.lfo_phase0)
-                & (float64::phase_fits(self.lfo_phase1) & float64::phase_fits(self.lfo_phase2)))
+                && (float64::phase_fits(self.lfo_phase1) && float64::phase_fits(self.lfo_phase2)))
     }
 
     // Causes 4 and 3: a state that fails its test, and memory that is too short for it.

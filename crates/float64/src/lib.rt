@@ -131,7 +131,7 @@ pub fn whole_part_small(x: f64) -> u64
     digits >> (1075 - exponent)
 }
 
-// The Rust's `x as usize`: toward zero, held to 0..=2^64 - 1, and 0 for a NaN.
+// The Rust's `x as usize`: toward zero, held to 0..=2^64 - 1, and 0 for a NaN. No effect meets a number of 2^53 or more.
 pub fn whole_part(x: f64) -> u64
     ensures { λ r. ⌜ r ≡ wholePart x ⌝ }
 {
@@ -139,16 +139,6 @@ pub fn whole_part(x: f64) -> u64
         if x < 9007199254740992.0 {
             return whole_part_small(x);
         }
-        return whole_part_large(x);
-    }
-    0
-}
-
-// The whole part of a number of 2^53 or more, which no effect meets.
-fn whole_part_large(x: f64) -> u64
-    ensures { λ r. ⌜ r ≡ wholePart x ⌝ }
-{
-    if x > -1.0 {
         if x < 18446744073709551616.0 {
             return std::num::truncating_f64_to_u64(x);
         }

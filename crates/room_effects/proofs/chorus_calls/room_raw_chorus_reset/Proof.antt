@@ -16,7 +16,7 @@ use Rattle.room_effects.proofs.chorus_calls.room_raw_chorus_reset.Tie a
 abbrev unit : tie.Start → Device Chorus
 unit s =
     let a = s .args in
-    chorusUnit (a .pos .now) (a .phases .now) (a .rate) (a .memory .now)
+    chorusUnit (a .write-pos .now) (a .lfo-phases .now) (a .sample-rate) (a .memory .now)
 
 -- the inner call, of the state as the lent numbers have it
 module _ (c : tie.After-reset) where

@@ -15,7 +15,7 @@ use Rattle.room_effects.proofs.chorus_calls.room_raw_chorus_retune.Tie 
 abbrev unit : tie.Start → Device Chorus
 unit s =
     let a = s .args in
-    chorusUnit (a .pos .now) (a .phases .now) (a .rate .now) (a .memory .now)
+    chorusUnit (a .write-pos .now) (a .lfo-phases .now) (a .sample-rate .now) (a .memory .now)
 
 -- the inner call, of the state as the lent numbers have it
 module _ (c : tie.After-set-sample-rate) where
@@ -23,7 +23,7 @@ module _ (c : tie.After-set-sample-rate) where
   start = c .before .before .before .before .before .before
 
   abbrev call : CallOf chorus
-  call = retune (start .args .sample-rate)
+  call = retune (start .args .new-sample-rate)
 
   does : Does chorus call (unit start .state) (unit start .memory) (c .set-sample-rate .result .state) (c .set-sample-rate .last .1 .1 .0) (outcomeReply (c .set-sample-rate .result .outcome))
   does = of-state chorus call (c .before .before .chorus-of .ensures) (c .set-sample-rate .ensures)

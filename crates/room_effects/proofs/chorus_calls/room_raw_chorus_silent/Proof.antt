@@ -24,7 +24,7 @@ returns : tie.Need-returns
 returns c =
     let a = c .before .before .before .before .before .args in
     let does = of-state chorus ask (c .before .before .before .chorus-of .ensures) (c .before .before .silent .ensures) in
-    asked chorus does (stored chorus ask (chorusUnit (a .pos) (a .phases .now) (a .rate) (a .memory .now)) does (c .number .ensures) (sym (c .before .before .before .chorus-of .ensures))) (c .before .flag .ensures)
+    asked chorus does (stored chorus ask (chorusUnit (a .write-pos) (a .lfo-phases .now) (a .sample-rate) (a .memory .now)) does (c .number .ensures) (sym (c .before .before .before .chorus-of .ensures))) (c .before .flag .ensures)
 
 pub room-raw-chorus-silent-spec : {M : Type 1} → statement M
 room-raw-chorus-silent-spec = tie.close (tie.spec chorus-of-requires silent-requires flag-requires number-requires returns)

@@ -22,7 +22,7 @@ handed s =
 abbrev unit : tie.Start → Device Chorus
 unit s =
     let a = s .args in
-    chorusUnit (a .pos .now) (a .phases .now) (a .rate) (a .memory .now)
+    chorusUnit (a .write-pos .now) (a .lfo-phases .now) (a .sample-rate) (a .memory .now)
 
 -- the inner tick, with the state as the lent numbers have it and the ports as the mask has them
 module _ (c : tie.After-tick) where

@@ -14,7 +14,7 @@ use Rattle.room_effects.proofs.delay_calls.room_raw_delay_reset.Tie as 
 abbrev unit : tie.Start → Device DelayLine
 unit s =
     let a = s .args in
-    delayUnit (a .pos .now) (a .distance .now) (a .primed .now) (a .rate) (a .coefficient) (a .maximum) (a .linear) (a .memory .now)
+    delayUnit (a .write-pos .now) (a .smoothed-delay .now) (a .delay-primed .now) (a .sample-rate) (a .delay-smooth-coef) (a .max-delay-secs) (a .linear-time) (a .memory .now)
 
 abbrev start : tie.After-reset → tie.Start
 start c = c .before .before .before .before .before .before
@@ -37,7 +37,7 @@ returns c =
     let s = start inner in
     let does = of-state delayLine reset (inner .before .before .delay-of .ensures) (inner .reset .ensures) in (
       kept delayLine reset (unit s) does (c .before .number .ensures) (c .if1 .taken),
-      unwritten (s .args .primed .now) (c .if1 .taken),
+      unwritten (s .args .delay-primed .now) (c .if1 .taken),
     )
 
 flag-requires : tie.Need-flag-requires

@@ -14,10 +14,10 @@ use Rattle.room_effects.proofs.delay_calls.room_raw_delay_retune.Tie as
 abbrev unit : tie.Start → Device DelayLine
 unit s =
     let a = s .args in
-    delayUnit (a .pos .now) (a .distance .now) (a .primed .now) (a .rate .now) (a .coefficient .now) (a .maximum) (a .linear) (a .memory .now)
+    delayUnit (a .write-pos .now) (a .smoothed-delay .now) (a .delay-primed .now) (a .sample-rate .now) (a .delay-smooth-coef .now) (a .max-delay-secs) (a .linear-time) (a .memory .now)
 
 abbrev handed : tie.Start → Retune
-handed s = retuning (s .args .sample-rate) (s .args .coef)
+handed s = retuning (s .args .new-sample-rate) (s .args .new-delay-smooth-coef)
 
 abbrev start : tie.After-set-sample-rate → tie.Start
 start c = c .before .before .before .before .before .before
@@ -47,7 +47,7 @@ returns c =
     let s = start inner in
     let does = of-state delayLine (retune (handed s)) (inner .before .before .delay-of .ensures) (inner .set-sample-rate .ensures) in (
       kept delayLine (retune (handed s)) (unit s) does (c .before .number .ensures) (c .if1 .taken),
-      unwritten (s .args .primed .now) (c .if1 .taken),
+      unwritten (s .args .delay-primed .now) (c .if1 .taken),
     )
 
 flag-requires : tie.Need-flag-requires

@@ -26,7 +26,7 @@ returns c =
     let state = c .before .before .before .delay-of .ensures in
     let does = of-state delayLine ask state (c .before .before .silent .ensures) in
     asked delayLine does
-    (stored delayLine ask (delayUnit (a .pos) (a .distance) (a .primed) (a .rate) (a .coefficient) (a .maximum) (a .linear) (a .memory .now)) does (c .number .ensures) (sym state))
+    (stored delayLine ask (delayUnit (a .write-pos) (a .smoothed-delay) (a .delay-primed) (a .sample-rate) (a .delay-smooth-coef) (a .max-delay-secs) (a .linear-time) (a .memory .now)) does (c .number .ensures) (sym state))
     (c .before .flag .ensures)
 
 pub room-raw-delay-silent-spec : {M : Type 1} → statement M

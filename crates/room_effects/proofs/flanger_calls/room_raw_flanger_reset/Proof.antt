@@ -14,7 +14,7 @@ use Rattle.room_effects.proofs.flanger_calls.room_raw_flanger_reset.Tie
 abbrev unit : tie.Start → Device Flanger
 unit s =
     let a = s .args in
-    flangerUnit (a .pos .now) (a .phase .now) (a .rate) (a .memory .now)
+    flangerUnit (a .write-pos .now) (a .lfo-phase .now) (a .sample-rate) (a .memory .now)
 
 reset-requires : tie.Need-reset-requires
 reset-requires c κs = search needs

@@ -21,7 +21,7 @@ returns : tie.Need-returns
 returns c =
     let a = c .before .before .before .before .args in
     let does = c .before .before .silent .ensures in
-    asked flanger does (stored flanger ask (flangerUnit (a .pos) (a .phase) (a .rate) (a .memory .now)) does (c .number .ensures) refl) (c .before .flag .ensures)
+    asked flanger does (stored flanger ask (flangerUnit (a .write-pos) (a .lfo-phase) (a .sample-rate) (a .memory .now)) does (c .number .ensures) refl) (c .before .flag .ensures)
 
 pub room-raw-flanger-silent-spec : {M : Type 1} → statement M
 room-raw-flanger-silent-spec = tie.close (tie.spec silent-requires flag-requires number-requires returns)

@@ -14,7 +14,7 @@ use Rattle.room_effects.proofs.tremolo_calls.room_raw_tremolo_reset.Tie
 abbrev unit : tie.Start → Device Tremolo
 unit s =
     let a = s .args in
-    tremoloUnit (a .phase .now) (a .rate)
+    tremoloUnit (a .lfo-phase .now) (a .sample-rate)
 
 reset-requires : tie.Need-reset-requires
 reset-requires c κs = search needs

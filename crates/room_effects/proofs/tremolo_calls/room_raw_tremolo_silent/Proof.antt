@@ -21,7 +21,7 @@ returns : tie.Need-returns
 returns c =
     let a = c .before .before .before .args in
     let does = c .before .before .silent .ensures in
-    asked tremolo does (stored tremolo ask (tremoloUnit (a .phase) (a .rate)) does (c .number .ensures) refl) (c .before .flag .ensures)
+    asked tremolo does (stored tremolo ask (tremoloUnit (a .lfo-phase) (a .sample-rate)) does (c .number .ensures) refl) (c .before .flag .ensures)
 
 pub room-raw-tremolo-silent-spec : {M : Type 1} → statement M
 room-raw-tremolo-silent-spec = tie.close (tie.spec silent-requires flag-requires number-requires returns)

@@ -23,7 +23,7 @@ handed s =
 abbrev unit : tie.Start → Device Tremolo
 unit s =
     let a = s .args in
-    tremoloUnit (a .phase .now) (a .rate)
+    tremoloUnit (a .lfo-phase .now) (a .sample-rate)
 
 -- the inner tick, with the ports as the mask has them
 module _ (c : tie.After-tick) where

@@ -14,7 +14,7 @@ use Rattle.room_effects.proofs.vibrato_calls.room_raw_vibrato_reset.Tie
 abbrev unit : tie.Start → Device Vibrato
 unit s =
     let a = s .args in
-    vibratoUnit (a .pos .now) (a .phase .now) (a .rate) (a .memory .now)
+    vibratoUnit (a .write-pos .now) (a .lfo-phase .now) (a .sample-rate) (a .memory .now)
 
 reset-requires : tie.Need-reset-requires
 reset-requires c κs = search needs

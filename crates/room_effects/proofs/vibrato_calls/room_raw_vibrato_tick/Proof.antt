@@ -23,7 +23,7 @@ handed s =
 abbrev unit : tie.Start → Device Vibrato
 unit s =
     let a = s .args in
-    vibratoUnit (a .pos .now) (a .phase .now) (a .rate) (a .memory .now)
+    vibratoUnit (a .write-pos .now) (a .lfo-phase .now) (a .sample-rate) (a .memory .now)
 
 -- the inner tick, with the ports as the mask has them
 module _ (c : tie.After-tick) where
