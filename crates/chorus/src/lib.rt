@@ -170,7 +170,8 @@ impl Chorus {
     fn distance(n: usize, base: f64, swing: f64, sine: f64) -> f64
         requires { ⌜ 2 ≤ n ⌝ }
         requires { ⌜ n ≤ 16777217 ⌝ }
-        ensures { λ r. ⌜ r ≡ clampOf (add binary64 base (mul binary64 (add binary64 (mul binary64 sine half) half) swing)) (ofNat 1) (ofNat (n - 1)) ⌝ }
+        ensures { λ r. ⌜ r ≡ clampOf (add binary64 base (mul binary64 (add binary64 (mul binary64 sine half) half) swing)) (ofNat 1)
+            (ofNat (n - 1)) ⌝ }
     {
         common::held_to_line(base + (sine * 0.5 + 0.5) * swing, (n - 1) as u32)
     }
@@ -181,7 +182,9 @@ impl Chorus {
         requires { ⌜ 2 ≤ length (now line) ⌝ }
         requires { ⌜ length (now line) ≤ 16777217 ⌝ }
         requires { ⌜ isNumber (add binary64 base (mul binary64 (add binary64 (mul binary64 sine half) half) swing)) ≡ true ⌝ }
-        ensures { λ r. ⌜ r ≡ readAt (lineAt 0 (length (now (line .entry))) w (now (line .entry))) (clampOf (add binary64 base (mul binary64 (add binary64 (mul binary64 sine half) half) swing)) (ofNat 1) (ofNat (length (now (line .entry)) - 1))) ⌝ }
+        ensures { λ r. ⌜ r ≡ readAt (lineAt 0 (length (now (line .entry))) w (now (line .entry)))
+            (clampOf (add binary64 base (mul binary64 (add binary64 (mul binary64 sine half) half) swing)) (ofNat 1)
+            (ofNat (length (now (line .entry)) - 1))) ⌝ }
     {
         common::read_interpolated(line, w, Chorus::distance(line.len(), base, swing, sine))
     }
@@ -231,8 +234,10 @@ impl Chorus {
         sine2: f64,
     ) -> Ticked
         requires { ⌜ n ≡ lineLength (self .«sample_rate») ⌝ }
-        requires { ⌜ numberIn chorus (tick (tickOf (Set audio) (Set depth) (Set mix) frequency sine0 sine1 sine2)) (length (now mem)) self ≡ 0 ⌝ }
-        ensures { λ r. ⌜ Does chorus (tick (tickOf (Set audio) (Set depth) (Set mix) frequency sine0 sine1 sine2)) self (now (mem .entry)) (r .state) (now (mem .exit)) (answerReply (r .answer)) ⌝ }
+        requires { ⌜ numberIn chorus (tick (tickOf (Set audio) (Set depth) (Set mix) frequency sine0 sine1 sine2)) (length (now mem)) self
+            ≡ 0 ⌝ }
+        ensures { λ r. ⌜ Does chorus (tick (tickOf (Set audio) (Set depth) (Set mix) frequency sine0 sine1 sine2)) self (now (mem .entry))
+            (r .state) (now (mem .exit)) (answerReply (r .answer)) ⌝ }
     {
         let state = self.next(n, frequency);
         let rate = self.sample_rate;
@@ -265,7 +270,8 @@ impl Chorus {
         sine1: f64,
         sine2: f64,
     ) -> Ticked
-        ensures { λ r. ⌜ Does chorus (tick (tickOf audio depth mix frequency sine0 sine1 sine2)) self (now (mem .entry)) (r .state) (now (mem .exit)) (answerReply (r .answer)) ⌝ }
+        ensures { λ r. ⌜ Does chorus (tick (tickOf audio depth mix frequency sine0 sine1 sine2)) self (now (mem .entry)) (r .state)
+            (now (mem .exit)) (answerReply (r .answer)) ⌝ }
     {
         let n = Chorus::line_length(self.sample_rate);
         let refusal = self.refusal(n, mem.len());

@@ -104,7 +104,9 @@ impl DelayLine {
 
     // Causes 1, 2 and 3, where the maximum is in its range.
     fn settings_refusal(rate: f64, coefficient: f64, maximum: f64, places: usize) -> Outcome
-        ensures { λ r. ⌜ (maximumFits maximum ≡ true → numberOf r ≡ first (settingsNumber rate coefficient) (memoryNumber (lineLength rate maximum) places)) ⌝ }
+        ensures { λ r. ⌜
+            (maximumFits maximum ≡ true → numberOf r ≡ first (settingsNumber rate coefficient)
+            (memoryNumber (lineLength rate maximum) places)) ⌝ }
     {
         let n = DelayLine::line_length(rate, maximum);
         if n == 0 {
@@ -140,7 +142,8 @@ impl DelayLine {
         linear: bool,
         mem: &mut [f64],
     ) -> Cleared
-        ensures { λ r. ⌜ Starts delayLine (handing «sample_rate» coefficient «max_delay_secs» linear) (now (mem .entry)) (r .state) (now (mem .exit)) (outcomeReply (r .outcome)) ⌝ }
+        ensures { λ r. ⌜ Starts delayLine (handing «sample_rate» coefficient «max_delay_secs» linear) (now (mem .entry)) (r .state)
+            (now (mem .exit)) (outcomeReply (r .outcome)) ⌝ }
     {
         let maximum = DelayLine::held_maximum(max_delay_secs);
         let outcome = DelayLine::settings_refusal(sample_rate, coefficient, maximum, mem.len());
@@ -163,7 +166,8 @@ impl DelayLine {
 
     // The state test, where n is the length of the line.
     fn state_fits(self, n: u64) -> bool
-        requires { ⌜ n ≡ cond (rateFits (self .«sample_rate») && maximumFits (self .«max_delay_secs»)) (lineLength (self .«sample_rate») (self .«max_delay_secs»)) 0 ⌝ }
+        requires { ⌜ n ≡ cond (rateFits (self .«sample_rate») && maximumFits (self .«max_delay_secs»))
+            (lineLength (self .«sample_rate») (self .«max_delay_secs»)) 0 ⌝ }
         ensures { λ r. ⌜ r ≡ stateFits self ⌝ }
     {
         if self.write_pos >= n {
@@ -177,7 +181,8 @@ impl DelayLine {
 
     // Causes 4 and 3: a state that fails its test, and memory that is too short for it.
     fn refusal(self, n: u64, places: usize) -> Outcome
-        requires { ⌜ n ≡ cond (rateFits (self .«sample_rate») && maximumFits (self .«max_delay_secs»)) (lineLength (self .«sample_rate») (self .«max_delay_secs»)) 0 ⌝ }
+        requires { ⌜ n ≡ cond (rateFits (self .«sample_rate») && maximumFits (self .«max_delay_secs»))
+            (lineLength (self .«sample_rate») (self .«max_delay_secs»)) 0 ⌝ }
         ensures { λ r. ⌜ numberOf r ≡ numberIn delayLine reset places self ⌝ }
     {
         effect::check_state(self.state_fits(n), effect::check_memory(n, places))
@@ -185,7 +190,8 @@ impl DelayLine {
 
     // Retune: a clearing at another rate and coefficient, which keeps the maximum and the mode.
     pub fn set_sample_rate(self, sample_rate: f64, coefficient: f64, mem: &mut [f64]) -> Cleared
-        ensures { λ r. ⌜ Does delayLine (retune (retuning «sample_rate» coefficient)) self (now (mem .entry)) (r .state) (now (mem .exit)) (outcomeReply (r .outcome)) ⌝ }
+        ensures { λ r. ⌜ Does delayLine (retune (retuning «sample_rate» coefficient)) self (now (mem .entry)) (r .state) (now (mem .exit))
+            (outcomeReply (r .outcome)) ⌝ }
     {
         let maximum = self.max_delay_secs;
         let n = DelayLine::line_length(self.sample_rate, maximum);
@@ -241,7 +247,8 @@ impl DelayLine {
     // The delay in samples, not yet held to the line: milliseconds x rate / 1000, in linear mode of the time port's seconds, else of those handed. It is
     // NaN where what it is read from is.
     fn delay_samples(self, time: f64, milliseconds: f64) -> f64
-        ensures { λ r. ⌜ r ≡ samplesOf (self .«sample_rate») (cond (self .«linear_time») (mul binary64 (clampOf time plusZero (self .«max_delay_secs»)) (ofNat 1000)) milliseconds) ⌝ }
+        ensures { λ r. ⌜ r ≡ samplesOf (self .«sample_rate»)
+            (cond (self .«linear_time») (mul binary64 (clampOf time plusZero (self .«max_delay_secs»)) (ofNat 1000)) milliseconds) ⌝ }
         ensures { λ r. ⌜ (isNumber r ≡ true → cond (self .«linear_time») (isNumber time) (isNumber milliseconds) ≡ true) ⌝ }
     {
         if self.linear_time {
@@ -261,7 +268,8 @@ impl DelayLine {
         mix: f64,
         milliseconds: f64,
     ) -> Outcome
-        requires { ⌜ n ≡ cond (rateFits (self .«sample_rate») && maximumFits (self .«max_delay_secs»)) (lineLength (self .«sample_rate») (self .«max_delay_secs»)) 0 ⌝ }
+        requires { ⌜ n ≡ cond (rateFits (self .«sample_rate») && maximumFits (self .«max_delay_secs»))
+            (lineLength (self .«sample_rate») (self .«max_delay_secs»)) 0 ⌝ }
         ensures { λ r. ⌜ numberOf r ≡ numberIn delayLine (tick (tickOf Unset (Set time) (Set feedback) (Set mix) milliseconds)) places self ⌝ }
     {
         let refusal = self.refusal(n, places);
@@ -306,8 +314,11 @@ impl DelayLine {
         requires { ⌜ n ≤ length (now mem) ⌝ }
         requires { ⌜ isNumber samples ≡ true ⌝ }
         ensures { λ r. ⌜ r .state ≡ moved n (readsAt self samples) self ⌝ }
-        ensures { λ r. ⌜ answerReply (r .answer) ≡ played (blended (sanitized audio) (delayedBy self samples (now (mem .entry))) (clampOf mix plusZero (ofNat 1)) ∷ []) ⌝ }
-        ensures { λ _. ⌜ now (mem .exit) ≡ set (now (mem .entry)) (self .«write_pos») (add binary64 (sanitized audio) (mul binary64 (delayedBy self samples (now (mem .entry))) (clampOf feedback plusZero (fraction 99 100)))) ⌝ }
+        ensures { λ r. ⌜ answerReply (r .answer) ≡ played
+            (blended (sanitized audio) (delayedBy self samples (now (mem .entry))) (clampOf mix plusZero (ofNat 1)) ∷ []) ⌝ }
+        ensures { λ _. ⌜ now (mem .exit) ≡ set (now (mem .entry)) (self .«write_pos»)
+            (add binary64 (sanitized audio)
+            (mul binary64 (delayedBy self samples (now (mem .entry))) (clampOf feedback plusZero (fraction 99 100)))) ⌝ }
     {
         let target = DelayLine::target_delay(n, samples);
         let distance = self.glided(target);
@@ -336,7 +347,8 @@ impl DelayLine {
         mix: Port,
         milliseconds: f64,
     ) -> Ticked
-        ensures { λ r. ⌜ Does delayLine (tick (tickOf audio time feedback mix milliseconds)) self (now (mem .entry)) (r .state) (now (mem .exit)) (answerReply (r .answer)) ⌝ }
+        ensures { λ r. ⌜ Does delayLine (tick (tickOf audio time feedback mix milliseconds)) self (now (mem .entry)) (r .state)
+            (now (mem .exit)) (answerReply (r .answer)) ⌝ }
     {
         let audio = if let Port::Set(x) = audio { x } else { 0.0 };
         let time = if let Port::Set(x) = time { x } else { 0.5 };

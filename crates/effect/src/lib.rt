@@ -69,7 +69,8 @@ fn fewer(a: usize, b: usize) -> usize
 
 // The answer to "silent?" of a unit whose tests came to this outcome: whether the first `used` places are +0 or -0.
 pub fn silence(outcome: Outcome, used: usize, mem: &[f64]) -> Silence
-    ensures { λ r. ⌜ silenceReply r ≡ ifNone (numberOf outcome) (silent (allZero (take used (now (mem .entry))))) (refused (numberOf outcome)) ⌝ }
+    ensures { λ r. ⌜ silenceReply r ≡ ifNone (numberOf outcome) (silent (allZero (take used (now (mem .entry)))))
+        (refused (numberOf outcome)) ⌝ }
 {
     if let Outcome::Refused(cause) = outcome {
         return Silence::Refused(cause);

@@ -118,7 +118,8 @@ impl Flanger {
 
     // Retune: a clearing at another rate, which keeps the phase.
     pub fn set_sample_rate(self, sample_rate: f64, mem: &mut [f64]) -> Cleared
-        ensures { λ r. ⌜ Does flanger (retune «sample_rate») self (now (mem .entry)) (r .state) (now (mem .exit)) (outcomeReply (r .outcome)) ⌝ }
+        ensures { λ r. ⌜ Does flanger (retune «sample_rate») self (now (mem .entry)) (r .state) (now (mem .exit))
+            (outcomeReply (r .outcome)) ⌝ }
     {
         let n = Flanger::line_length(self.sample_rate);
         let others = Flanger::rate_refusal(sample_rate, mem.len());
@@ -199,8 +200,10 @@ impl Flanger {
         sine1: f64,
     ) -> Ticked
         requires { ⌜ n ≡ lineLength (self .«sample_rate») ⌝ }
-        requires { ⌜ numberIn flanger (tick (tickOf (Set audio) (Set depth) (Set feedback) (Set mix) frequency sine0 sine1)) (length (now mem)) self ≡ 0 ⌝ }
-        ensures { λ r. ⌜ Does flanger (tick (tickOf (Set audio) (Set depth) (Set feedback) (Set mix) frequency sine0 sine1)) self (now (mem .entry)) (r .state) (now (mem .exit)) (answerReply (r .answer)) ⌝ }
+        requires { ⌜ numberIn flanger (tick (tickOf (Set audio) (Set depth) (Set feedback) (Set mix) frequency sine0 sine1))
+            (length (now mem)) self ≡ 0 ⌝ }
+        ensures { λ r. ⌜ Does flanger (tick (tickOf (Set audio) (Set depth) (Set feedback) (Set mix) frequency sine0 sine1)) self
+            (now (mem .entry)) (r .state) (now (mem .exit)) (answerReply (r .answer)) ⌝ }
     {
         let state = self.next(n, frequency);
         let rate = self.sample_rate;
@@ -235,7 +238,8 @@ impl Flanger {
         sine0: f64,
         sine1: f64,
     ) -> Ticked
-        ensures { λ r. ⌜ Does flanger (tick (tickOf audio depth feedback mix frequency sine0 sine1)) self (now (mem .entry)) (r .state) (now (mem .exit)) (answerReply (r .answer)) ⌝ }
+        ensures { λ r. ⌜ Does flanger (tick (tickOf audio depth feedback mix frequency sine0 sine1)) self (now (mem .entry)) (r .state)
+            (now (mem .exit)) (answerReply (r .answer)) ⌝ }
     {
         let n = Flanger::line_length(self.sample_rate);
         let refusal = self.refusal(n, mem.len());

@@ -38,7 +38,8 @@ pub extern "C" fn room_raw_chorus_start(
     lfo_phases: &mut [f64; 3],
     sample_rate: &mut f64,
 ) -> u32
-    ensures { λ r. ⌜ StartReturns chorus «new_sample_rate» (now (memory .entry)) (chorusUnit (now («write_pos» .exit)) (now («lfo_phases» .exit)) (now («sample_rate» .exit)) (now (memory .exit))) r ⌝ }
+    ensures { λ r. ⌜ StartReturns chorus «new_sample_rate» (now (memory .entry))
+        (chorusUnit (now («write_pos» .exit)) (now («lfo_phases» .exit)) (now («sample_rate» .exit)) (now (memory .exit))) r ⌝ }
 {
     let started = Chorus::new(new_sample_rate, memory);
     let state = started.state;
@@ -56,7 +57,9 @@ pub extern "C" fn room_raw_chorus_retune(
     lfo_phases: &mut [f64; 3],
     sample_rate: &mut f64,
 ) -> u32
-    ensures { λ r. ⌜ CallReturns chorus (retune «new_sample_rate») (chorusUnit (now («write_pos» .entry)) (now («lfo_phases» .entry)) (now («sample_rate» .entry)) (now (memory .entry))) (chorusUnit (now («write_pos» .exit)) (now («lfo_phases» .exit)) (now («sample_rate» .exit)) (now (memory .exit))) r ⌝ }
+    ensures { λ r. ⌜ CallReturns chorus (retune «new_sample_rate»)
+        (chorusUnit (now («write_pos» .entry)) (now («lfo_phases» .entry)) (now («sample_rate» .entry)) (now (memory .entry)))
+        (chorusUnit (now («write_pos» .exit)) (now («lfo_phases» .exit)) (now («sample_rate» .exit)) (now (memory .exit))) r ⌝ }
 {
     let state = chorus_of(*write_pos, lfo_phases, *sample_rate);
     let cleared = state.set_sample_rate(new_sample_rate, memory);
@@ -78,7 +81,9 @@ pub extern "C" fn room_raw_chorus_reset(
     lfo_phases: &mut [f64; 3],
     sample_rate: f64,
 ) -> u32
-    ensures { λ r. ⌜ CallReturns chorus reset (chorusUnit (now («write_pos» .entry)) (now («lfo_phases» .entry)) «sample_rate» (now (memory .entry))) (chorusUnit (now («write_pos» .exit)) (now («lfo_phases» .exit)) «sample_rate» (now (memory .exit))) r ⌝ }
+    ensures { λ r. ⌜ CallReturns chorus reset
+        (chorusUnit (now («write_pos» .entry)) (now («lfo_phases» .entry)) «sample_rate» (now (memory .entry)))
+        (chorusUnit (now («write_pos» .exit)) (now («lfo_phases» .exit)) «sample_rate» (now (memory .exit))) r ⌝ }
 {
     let state = chorus_of(*write_pos, lfo_phases, sample_rate);
     let cleared = state.reset(memory);
@@ -108,7 +113,9 @@ pub extern "C" fn room_raw_chorus_tick(
     sine2: f64,
     out: &mut [f64; 3],
 ) -> u32
-    ensures { λ r. ⌜ TickReturns chorus 3 (tickOf (portAt set 1 audio) (portAt set 2 depth) (portAt set 4 mix) frequency sine0 sine1 sine2) (chorusUnit (now («write_pos» .entry)) (now («lfo_phases» .entry)) «sample_rate» (now (memory .entry))) (chorusUnit (now («write_pos» .exit)) (now («lfo_phases» .exit)) «sample_rate» (now (memory .exit))) (now (out .exit)) r ⌝ }
+    ensures { λ r. ⌜ TickReturns chorus 3 (tickOf (portAt set 1 audio) (portAt set 2 depth) (portAt set 4 mix) frequency sine0 sine1 sine2)
+        (chorusUnit (now («write_pos» .entry)) (now («lfo_phases» .entry)) «sample_rate» (now (memory .entry)))
+        (chorusUnit (now («write_pos» .exit)) (now («lfo_phases» .exit)) «sample_rate» (now (memory .exit))) (now (out .exit)) r ⌝ }
 {
     let state = chorus_of(*write_pos, lfo_phases, sample_rate);
     let ticked = state.tick(
@@ -139,7 +146,8 @@ pub extern "C" fn room_raw_chorus_silent(
     memory: &[f64],
     out: &mut u32,
 ) -> u32
-    ensures { λ r. ⌜ AskReturns chorus (chorusUnit «write_pos» (now («lfo_phases» .entry)) «sample_rate» (now (memory .entry))) (now (out .exit)) r ⌝ }
+    ensures { λ r. ⌜ AskReturns chorus (chorusUnit «write_pos» (now («lfo_phases» .entry)) «sample_rate» (now (memory .entry)))
+        (now (out .exit)) r ⌝ }
 {
     let state = chorus_of(write_pos, lfo_phases, sample_rate);
     let silence = state.silent(memory);

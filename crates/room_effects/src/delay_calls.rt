@@ -26,7 +26,8 @@ fn delay_of(
     max_delay_secs: f64,
     linear_time: u32,
 ) -> DelayLine
-    ensures { λ r. ⌜ r ≡ delayOf «write_pos» «smoothed_delay» (isOn «delay_primed») «sample_rate» «delay_smooth_coef» «max_delay_secs» (isOn «linear_time») ⌝ }
+    ensures { λ r. ⌜ r ≡ delayOf «write_pos» «smoothed_delay» (isOn «delay_primed») «sample_rate» «delay_smooth_coef» «max_delay_secs»
+        (isOn «linear_time») ⌝ }
 {
     DelayLine {
         write_pos,
@@ -55,7 +56,11 @@ pub extern "C" fn room_raw_delay_start(
     max_delay_secs: &mut f64,
     linear_time: &mut u32,
 ) -> u32
-    ensures { λ r. ⌜ StartReturns delayLine (handing «new_sample_rate» «new_delay_smooth_coef» «new_max_delay_secs» (isOn «new_linear_time»)) (now (memory .entry)) (delayUnit (now («write_pos» .exit)) (now («smoothed_delay» .exit)) (now («delay_primed» .exit)) (now («sample_rate» .exit)) (now («delay_smooth_coef» .exit)) (now («max_delay_secs» .exit)) (now («linear_time» .exit)) (now (memory .exit))) r × FlagWritten (now («delay_primed» .exit)) × FlagWritten (now («linear_time» .exit)) ⌝ }
+    ensures { λ r. ⌜ StartReturns delayLine
+        (handing «new_sample_rate» «new_delay_smooth_coef» «new_max_delay_secs» (isOn «new_linear_time»)) (now (memory .entry))
+        (delayUnit (now («write_pos» .exit)) (now («smoothed_delay» .exit)) (now («delay_primed» .exit)) (now («sample_rate» .exit))
+        (now («delay_smooth_coef» .exit)) (now («max_delay_secs» .exit)) (now («linear_time» .exit)) (now (memory .exit))) r
+        × FlagWritten (now («delay_primed» .exit)) × FlagWritten (now («linear_time» .exit)) ⌝ }
 {
     let started = DelayLine::with_max_delay(
         new_sample_rate,
@@ -88,7 +93,12 @@ pub extern "C" fn room_raw_delay_retune(
     max_delay_secs: f64,
     linear_time: u32,
 ) -> u32
-    ensures { λ r. ⌜ CallReturns delayLine (retune (retuning «new_sample_rate» «new_delay_smooth_coef»)) (delayUnit (now («write_pos» .entry)) (now («smoothed_delay» .entry)) (now («delay_primed» .entry)) (now («sample_rate» .entry)) (now («delay_smooth_coef» .entry)) «max_delay_secs» «linear_time» (now (memory .entry))) (delayUnit (now («write_pos» .exit)) (now («smoothed_delay» .exit)) (now («delay_primed» .exit)) (now («sample_rate» .exit)) (now («delay_smooth_coef» .exit)) «max_delay_secs» «linear_time» (now (memory .exit))) r × FlagLeft r (now («delay_primed» .entry)) (now («delay_primed» .exit)) ⌝ }
+    ensures { λ r. ⌜ CallReturns delayLine (retune (retuning «new_sample_rate» «new_delay_smooth_coef»))
+        (delayUnit (now («write_pos» .entry)) (now («smoothed_delay» .entry)) (now («delay_primed» .entry)) (now («sample_rate» .entry))
+        (now («delay_smooth_coef» .entry)) «max_delay_secs» «linear_time» (now (memory .entry)))
+        (delayUnit (now («write_pos» .exit)) (now («smoothed_delay» .exit)) (now («delay_primed» .exit)) (now («sample_rate» .exit))
+        (now («delay_smooth_coef» .exit)) «max_delay_secs» «linear_time» (now (memory .exit))) r × FlagLeft r
+        (now («delay_primed» .entry)) (now («delay_primed» .exit)) ⌝ }
 {
     let state = delay_of(
         *write_pos,
@@ -124,7 +134,11 @@ pub extern "C" fn room_raw_delay_reset(
     max_delay_secs: f64,
     linear_time: u32,
 ) -> u32
-    ensures { λ r. ⌜ CallReturns delayLine reset (delayUnit (now («write_pos» .entry)) (now («smoothed_delay» .entry)) (now («delay_primed» .entry)) «sample_rate» «delay_smooth_coef» «max_delay_secs» «linear_time» (now (memory .entry))) (delayUnit (now («write_pos» .exit)) (now («smoothed_delay» .exit)) (now («delay_primed» .exit)) «sample_rate» «delay_smooth_coef» «max_delay_secs» «linear_time» (now (memory .exit))) r × FlagLeft r (now («delay_primed» .entry)) (now («delay_primed» .exit)) ⌝ }
+    ensures { λ r. ⌜ CallReturns delayLine reset
+        (delayUnit (now («write_pos» .entry)) (now («smoothed_delay» .entry)) (now («delay_primed» .entry)) «sample_rate»
+        «delay_smooth_coef» «max_delay_secs» «linear_time» (now (memory .entry)))
+        (delayUnit (now («write_pos» .exit)) (now («smoothed_delay» .exit)) (now («delay_primed» .exit)) «sample_rate» «delay_smooth_coef»
+        «max_delay_secs» «linear_time» (now (memory .exit))) r × FlagLeft r (now («delay_primed» .entry)) (now («delay_primed» .exit)) ⌝ }
 {
     let state = delay_of(
         *write_pos,
@@ -166,7 +180,13 @@ pub extern "C" fn room_raw_delay_tick(
     milliseconds: f64,
     out: &mut f64,
 ) -> u32
-    ensures { λ r. ⌜ TickReturns delayLine 1 (tickOf (portAt set 1 audio) (portAt set 2 time) (portAt set 4 feedback) (portAt set 8 mix) milliseconds) (delayUnit (now («write_pos» .entry)) (now («smoothed_delay» .entry)) (now («delay_primed» .entry)) «sample_rate» «delay_smooth_coef» «max_delay_secs» «linear_time» (now (memory .entry))) (delayUnit (now («write_pos» .exit)) (now («smoothed_delay» .exit)) (now («delay_primed» .exit)) «sample_rate» «delay_smooth_coef» «max_delay_secs» «linear_time» (now (memory .exit))) (now (out .exit) ∷ []) r × FlagLeft r (now («delay_primed» .entry)) (now («delay_primed» .exit)) ⌝ }
+    ensures { λ r. ⌜ TickReturns delayLine 1
+        (tickOf (portAt set 1 audio) (portAt set 2 time) (portAt set 4 feedback) (portAt set 8 mix) milliseconds)
+        (delayUnit (now («write_pos» .entry)) (now («smoothed_delay» .entry)) (now («delay_primed» .entry)) «sample_rate»
+        «delay_smooth_coef» «max_delay_secs» «linear_time» (now (memory .entry)))
+        (delayUnit (now («write_pos» .exit)) (now («smoothed_delay» .exit)) (now («delay_primed» .exit)) «sample_rate» «delay_smooth_coef»
+        «max_delay_secs» «linear_time» (now (memory .exit))) (now (out .exit) ∷ []) r × FlagLeft r (now («delay_primed» .entry))
+        (now («delay_primed» .exit)) ⌝ }
 {
     let state = delay_of(
         *write_pos,
@@ -209,7 +229,9 @@ pub extern "C" fn room_raw_delay_silent(
     memory: &[f64],
     out: &mut u32,
 ) -> u32
-    ensures { λ r. ⌜ AskReturns delayLine (delayUnit «write_pos» «smoothed_delay» «delay_primed» «sample_rate» «delay_smooth_coef» «max_delay_secs» «linear_time» (now (memory .entry))) (now (out .exit)) r ⌝ }
+    ensures { λ r. ⌜ AskReturns delayLine
+        (delayUnit «write_pos» «smoothed_delay» «delay_primed» «sample_rate» «delay_smooth_coef» «max_delay_secs» «linear_time»
+        (now (memory .entry))) (now (out .exit)) r ⌝ }
 {
     let state = delay_of(
         write_pos,

@@ -17,7 +17,8 @@ pub extern "C" fn room_raw_flanger_start(
     lfo_phase: &mut f64,
     sample_rate: &mut f64,
 ) -> u32
-    ensures { λ r. ⌜ StartReturns flanger «new_sample_rate» (now (memory .entry)) (flangerUnit (now («write_pos» .exit)) (now («lfo_phase» .exit)) (now («sample_rate» .exit)) (now (memory .exit))) r ⌝ }
+    ensures { λ r. ⌜ StartReturns flanger «new_sample_rate» (now (memory .entry))
+        (flangerUnit (now («write_pos» .exit)) (now («lfo_phase» .exit)) (now («sample_rate» .exit)) (now (memory .exit))) r ⌝ }
 {
     let started = Flanger::new(new_sample_rate, memory);
     *write_pos = started.state.write_pos;
@@ -35,7 +36,9 @@ pub extern "C" fn room_raw_flanger_retune(
     lfo_phase: &mut f64,
     sample_rate: &mut f64,
 ) -> u32
-    ensures { λ r. ⌜ CallReturns flanger (retune «new_sample_rate») (flangerUnit (now («write_pos» .entry)) (now («lfo_phase» .entry)) (now («sample_rate» .entry)) (now (memory .entry))) (flangerUnit (now («write_pos» .exit)) (now («lfo_phase» .exit)) (now («sample_rate» .exit)) (now (memory .exit))) r ⌝ }
+    ensures { λ r. ⌜ CallReturns flanger (retune «new_sample_rate»)
+        (flangerUnit (now («write_pos» .entry)) (now («lfo_phase» .entry)) (now («sample_rate» .entry)) (now (memory .entry)))
+        (flangerUnit (now («write_pos» .exit)) (now («lfo_phase» .exit)) (now («sample_rate» .exit)) (now (memory .exit))) r ⌝ }
 {
     let state = Flanger {
         write_pos: *write_pos,
@@ -61,7 +64,9 @@ pub extern "C" fn room_raw_flanger_reset(
     lfo_phase: &mut f64,
     sample_rate: f64,
 ) -> u32
-    ensures { λ r. ⌜ CallReturns flanger reset (flangerUnit (now («write_pos» .entry)) (now («lfo_phase» .entry)) «sample_rate» (now (memory .entry))) (flangerUnit (now («write_pos» .exit)) (now («lfo_phase» .exit)) «sample_rate» (now (memory .exit))) r ⌝ }
+    ensures { λ r. ⌜ CallReturns flanger reset
+        (flangerUnit (now («write_pos» .entry)) (now («lfo_phase» .entry)) «sample_rate» (now (memory .entry)))
+        (flangerUnit (now («write_pos» .exit)) (now («lfo_phase» .exit)) «sample_rate» (now (memory .exit))) r ⌝ }
 {
     let state = Flanger {
         write_pos: *write_pos,
@@ -96,7 +101,10 @@ pub extern "C" fn room_raw_flanger_tick(
     sine1: f64,
     out: &mut [f64; 3],
 ) -> u32
-    ensures { λ r. ⌜ TickReturns flanger 3 (tickOf (portAt set 1 audio) (portAt set 2 depth) (portAt set 4 feedback) (portAt set 8 mix) frequency sine0 sine1) (flangerUnit (now («write_pos» .entry)) (now («lfo_phase» .entry)) «sample_rate» (now (memory .entry))) (flangerUnit (now («write_pos» .exit)) (now («lfo_phase» .exit)) «sample_rate» (now (memory .exit))) (now (out .exit)) r ⌝ }
+    ensures { λ r. ⌜ TickReturns flanger 3
+        (tickOf (portAt set 1 audio) (portAt set 2 depth) (portAt set 4 feedback) (portAt set 8 mix) frequency sine0 sine1)
+        (flangerUnit (now («write_pos» .entry)) (now («lfo_phase» .entry)) «sample_rate» (now (memory .entry)))
+        (flangerUnit (now («write_pos» .exit)) (now («lfo_phase» .exit)) «sample_rate» (now (memory .exit))) (now (out .exit)) r ⌝ }
 {
     let state = Flanger {
         write_pos: *write_pos,

@@ -26,7 +26,8 @@ pub extern "C" fn room_raw_tremolo_start(
 
 #[no_mangle]
 pub extern "C" fn room_raw_tremolo_reset(lfo_phase: &mut f64, sample_rate: f64) -> u32
-    ensures { λ r. ⌜ CallReturns tremolo reset (tremoloUnit (now («lfo_phase» .entry)) «sample_rate») (tremoloUnit (now («lfo_phase» .exit)) «sample_rate») r ⌝ }
+    ensures { λ r. ⌜ CallReturns tremolo reset (tremoloUnit (now («lfo_phase» .entry)) «sample_rate»)
+        (tremoloUnit (now («lfo_phase» .exit)) «sample_rate») r ⌝ }
 {
     let state = Tremolo {
         lfo_phase: *lfo_phase,
@@ -55,7 +56,9 @@ pub extern "C" fn room_raw_tremolo_tick(
     sine: f64,
     out: &mut f64,
 ) -> u32
-    ensures { λ r. ⌜ TickReturns tremolo 1 (tickOf (portAt set 1 audio) (portAt set 2 depth) (portAt set 4 shape) frequency sine) (tremoloUnit (now («lfo_phase» .entry)) «sample_rate») (tremoloUnit (now («lfo_phase» .exit)) «sample_rate») (now (out .exit) ∷ []) r ⌝ }
+    ensures { λ r. ⌜ TickReturns tremolo 1 (tickOf (portAt set 1 audio) (portAt set 2 depth) (portAt set 4 shape) frequency sine)
+        (tremoloUnit (now («lfo_phase» .entry)) «sample_rate») (tremoloUnit (now («lfo_phase» .exit)) «sample_rate») (now (out .exit) ∷ [])
+        r ⌝ }
 {
     let state = Tremolo {
         lfo_phase: *lfo_phase,

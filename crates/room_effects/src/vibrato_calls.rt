@@ -17,7 +17,8 @@ pub extern "C" fn room_raw_vibrato_start(
     lfo_phase: &mut f64,
     sample_rate: &mut f64,
 ) -> u32
-    ensures { λ r. ⌜ StartReturns vibrato «new_sample_rate» (now (memory .entry)) (vibratoUnit (now («write_pos» .exit)) (now («lfo_phase» .exit)) (now («sample_rate» .exit)) (now (memory .exit))) r ⌝ }
+    ensures { λ r. ⌜ StartReturns vibrato «new_sample_rate» (now (memory .entry))
+        (vibratoUnit (now («write_pos» .exit)) (now («lfo_phase» .exit)) (now («sample_rate» .exit)) (now (memory .exit))) r ⌝ }
 {
     let started = Vibrato::new(new_sample_rate, memory);
     *write_pos = started.state.write_pos;
@@ -35,7 +36,9 @@ pub extern "C" fn room_raw_vibrato_retune(
     lfo_phase: &mut f64,
     sample_rate: &mut f64,
 ) -> u32
-    ensures { λ r. ⌜ CallReturns vibrato (retune «new_sample_rate») (vibratoUnit (now («write_pos» .entry)) (now («lfo_phase» .entry)) (now («sample_rate» .entry)) (now (memory .entry))) (vibratoUnit (now («write_pos» .exit)) (now («lfo_phase» .exit)) (now («sample_rate» .exit)) (now (memory .exit))) r ⌝ }
+    ensures { λ r. ⌜ CallReturns vibrato (retune «new_sample_rate»)
+        (vibratoUnit (now («write_pos» .entry)) (now («lfo_phase» .entry)) (now («sample_rate» .entry)) (now (memory .entry)))
+        (vibratoUnit (now («write_pos» .exit)) (now («lfo_phase» .exit)) (now («sample_rate» .exit)) (now (memory .exit))) r ⌝ }
 {
     let state = Vibrato {
         write_pos: *write_pos,
@@ -61,7 +64,9 @@ pub extern "C" fn room_raw_vibrato_reset(
     lfo_phase: &mut f64,
     sample_rate: f64,
 ) -> u32
-    ensures { λ r. ⌜ CallReturns vibrato reset (vibratoUnit (now («write_pos» .entry)) (now («lfo_phase» .entry)) «sample_rate» (now (memory .entry))) (vibratoUnit (now («write_pos» .exit)) (now («lfo_phase» .exit)) «sample_rate» (now (memory .exit))) r ⌝ }
+    ensures { λ r. ⌜ CallReturns vibrato reset
+        (vibratoUnit (now («write_pos» .entry)) (now («lfo_phase» .entry)) «sample_rate» (now (memory .entry)))
+        (vibratoUnit (now («write_pos» .exit)) (now («lfo_phase» .exit)) «sample_rate» (now (memory .exit))) r ⌝ }
 {
     let state = Vibrato {
         write_pos: *write_pos,
@@ -94,7 +99,9 @@ pub extern "C" fn room_raw_vibrato_tick(
     sine: f64,
     out: &mut f64,
 ) -> u32
-    ensures { λ r. ⌜ TickReturns vibrato 1 (tickOf (portAt set 1 audio) (portAt set 2 depth) (portAt set 4 mix) frequency sine) (vibratoUnit (now («write_pos» .entry)) (now («lfo_phase» .entry)) «sample_rate» (now (memory .entry))) (vibratoUnit (now («write_pos» .exit)) (now («lfo_phase» .exit)) «sample_rate» (now (memory .exit))) (now (out .exit) ∷ []) r ⌝ }
+    ensures { λ r. ⌜ TickReturns vibrato 1 (tickOf (portAt set 1 audio) (portAt set 2 depth) (portAt set 4 mix) frequency sine)
+        (vibratoUnit (now («write_pos» .entry)) (now («lfo_phase» .entry)) «sample_rate» (now (memory .entry)))
+        (vibratoUnit (now («write_pos» .exit)) (now («lfo_phase» .exit)) «sample_rate» (now (memory .exit))) (now (out .exit) ∷ []) r ⌝ }
 {
     let state = Vibrato {
         write_pos: *write_pos,

@@ -114,7 +114,8 @@ impl Vibrato {
 
     // Retune: a clearing at another rate. The phase goes to 0 too.
     pub fn set_sample_rate(self, sample_rate: f64, mem: &mut [f64]) -> Cleared
-        ensures { λ r. ⌜ Does vibrato (retune «sample_rate») self (now (mem .entry)) (r .state) (now (mem .exit)) (outcomeReply (r .outcome)) ⌝ }
+        ensures { λ r. ⌜ Does vibrato (retune «sample_rate») self (now (mem .entry)) (r .state) (now (mem .exit))
+            (outcomeReply (r .outcome)) ⌝ }
     {
         let n = Vibrato::line_length(self.sample_rate);
         let others = Vibrato::rate_refusal(sample_rate, mem.len());
@@ -183,7 +184,8 @@ impl Vibrato {
     ) -> Ticked
         requires { ⌜ n ≡ lineLength (self .«sample_rate») ⌝ }
         requires { ⌜ numberIn vibrato (tick (tickOf (Set audio) (Set depth) (Set mix) frequency sine)) (length (now mem)) self ≡ 0 ⌝ }
-        ensures { λ r. ⌜ Does vibrato (tick (tickOf (Set audio) (Set depth) (Set mix) frequency sine)) self (now (mem .entry)) (r .state) (now (mem .exit)) (answerReply (r .answer)) ⌝ }
+        ensures { λ r. ⌜ Does vibrato (tick (tickOf (Set audio) (Set depth) (Set mix) frequency sine)) self (now (mem .entry)) (r .state)
+            (now (mem .exit)) (answerReply (r .answer)) ⌝ }
     {
         let state = self.next(n, frequency);
         let amount = float64::clamp(depth, 0.0, 1.0);
@@ -209,7 +211,8 @@ impl Vibrato {
         frequency: f64,
         sine: f64,
     ) -> Ticked
-        ensures { λ r. ⌜ Does vibrato (tick (tickOf audio depth mix frequency sine)) self (now (mem .entry)) (r .state) (now (mem .exit)) (answerReply (r .answer)) ⌝ }
+        ensures { λ r. ⌜ Does vibrato (tick (tickOf audio depth mix frequency sine)) self (now (mem .entry)) (r .state) (now (mem .exit))
+            (answerReply (r .answer)) ⌝ }
     {
         let n = Vibrato::line_length(self.sample_rate);
         let refusal = self.refusal(n, mem.len());
