@@ -13,9 +13,6 @@ use Rattle.delay_line.proofs.Laws.{length-fits, rate-size}
 use Rattle.delay_line.proofs.DelayLine.settings_refusal.Statement.{statement}
 use Rattle.delay_line.proofs.DelayLine.settings_refusal.Tie as tie
 
-line-length-requires : tie.Need-line-length-requires
-line-length-requires c κs = search needs
-
 -- where the maximum fits, the length is by the rate alone
 by-rate : (c : tie.After-line-length) → maximumFits (c .before .args .maximum) ≡ true → c .line-length .result ≡ cond (rateFits (c .before .args .rate)) (lineLength (c .before .args .rate) (c .before .args .maximum)) 0
 by-rate c k = rate-size (c .before .args .rate) (c .before .args .maximum) k (c .line-length .ensures)
@@ -31,15 +28,9 @@ returns c k =
 rate-passed : (c : tie.Else1) → maximumFits (c .before .before .args .maximum) ≡ true → rateFits (c .before .before .args .rate) ≡ true
 rate-passed c k = let a = c .before .before .args in size-some (rateFits (a .rate)) (lineLength (a .rate) (a .maximum)) (by-rate (c .before) k) (c .if1 .left)
 
-coefficient-fits-requires : tie.Need-coefficient-fits-requires
-coefficient-fits-requires c κs = search needs
-
 returns-2 : tie.Need-returns-2
 unfolding settingsNumber
 returns-2 c k = rw (rate-passed (c .before .before) k, sym (c .before .coefficient-fits .ensures) ∙ not-true _ (c .if2 .taken))
-
-check-memory-requires : tie.Need-check-memory-requires
-check-memory-requires c κs = search needs
 
 returns-3 : tie.Need-returns-3
 unfolding settingsNumber
@@ -54,9 +45,9 @@ pub settings-refusal-spec : {M : Type 1} → statement M
 settings-refusal-spec =
     tie.close
     (tie.spec
-    line-length-requires
+    (search needs)
     returns
-    coefficient-fits-requires
+    (search needs)
     returns-2
-    check-memory-requires
+    (search needs)
     returns-3)

@@ -29,18 +29,6 @@ keeps-maximum r h = ifNone-both (λ (u : Device DelayLine). h .state .«max_dela
 keeps-mode : (r : Retune) (h : Device DelayLine) → h .state .«linear_time» ≡ step delayLine (retune r) h .state .«linear_time»
 keeps-mode r h = ifNone-both (λ (u : Device DelayLine). h .state .«linear_time» ≡ u .state .«linear_time») (numberAt delayLine (retune r) h) refl refl
 
-delay-of-requires : tie.Need-delay-of-requires
-delay-of-requires c κs = search needs
-
-set-sample-rate-requires : tie.Need-set-sample-rate-requires
-set-sample-rate-requires c κs = search needs
-
-number-requires : tie.Need-number-requires
-number-requires c κs = search needs
-
-same-length : tie.Need-same-length
-same-length c = search needs
-
 returns : tie.Need-returns
 returns c =
     let inner = c .before .before .before .before in
@@ -49,12 +37,6 @@ returns c =
       kept delayLine (retune (handed s)) (unit s) does (c .before .number .ensures) (c .if1 .taken),
       unwritten (s .args .delay-primed .now) (c .if1 .taken),
     )
-
-flag-requires : tie.Need-flag-requires
-flag-requires c κs = search needs
-
-same-length-2 : tie.Need-same-length-2
-same-length-2 c = search needs
 
 returns-2 : tie.Need-returns-2
 returns-2 c =
@@ -73,4 +55,4 @@ returns-2 c =
 
 pub room-raw-delay-retune-spec : {M : Type 1} → statement M
 room-raw-delay-retune-spec =
-    tie.close (tie.spec delay-of-requires set-sample-rate-requires number-requires same-length returns flag-requires same-length-2 returns-2)
+    tie.close (tie.spec (search needs) (search needs) (search needs) (search needs) returns (search needs) (search needs) returns-2)

@@ -8,18 +8,6 @@ use Rattle.room_effects.proofs.Laws.{of-state, stored, asked}
 use Rattle.room_effects.proofs.delay_calls.room_raw_delay_silent.Statement.{statement}
 use Rattle.room_effects.proofs.delay_calls.room_raw_delay_silent.Tie as tie
 
-delay-of-requires : tie.Need-delay-of-requires
-delay-of-requires c κs = search needs
-
-silent-requires : tie.Need-silent-requires
-silent-requires c κs = search needs
-
-flag-requires : tie.Need-flag-requires
-flag-requires c κs = search needs
-
-number-requires : tie.Need-number-requires
-number-requires c κs = search needs
-
 returns : tie.Need-returns
 returns c =
     let a = c .before .before .before .before .before .args in
@@ -30,4 +18,4 @@ returns c =
     (c .before .flag .ensures)
 
 pub room-raw-delay-silent-spec : {M : Type 1} → statement M
-room-raw-delay-silent-spec = tie.close (tie.spec delay-of-requires silent-requires flag-requires number-requires returns)
+room-raw-delay-silent-spec = tie.close (tie.spec (search needs) (search needs) (search needs) (search needs) returns)
