@@ -20,7 +20,7 @@ static uint32_t delay_start(unit *u, double rate)
     const uint32_t linear = u->controls[DELAY_SECONDS].set ? 1u : 0u;
     const uint32_t refused = room_delay_start(&u->state.delay, u->memory, u->places, rate, control_value(u, DELAY_MAX),
                                               delay_coefficient(rate), linear);
-    u->milliseconds = delay_milliseconds(u->state.delay.maximum, control_value(u, DELAY_TIME));
+    u->milliseconds = delay_milliseconds(u->state.delay.max_delay_secs, control_value(u, DELAY_TIME));
     return refused;
 }
 

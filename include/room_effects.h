@@ -109,91 +109,100 @@ static inline uint32_t room_set_mask(room_port first, room_port second, room_por
 
 /*
  * What the library exports. The functions further down are what a host calls; they put a struct together from these.
- * A state comes as its fields, a number that may change by its address; ports come as a mask of those that are set and
- * their numbers; memory comes as the address of its first place and the count of places. Numbers returned, and what is
- * written on a refusal, are as said above. Masks: 1 is the tick's first port, 2 the second, 4 the third, 8 the fourth, 16 the
- * fifth; bits beyond its ports are not read. A silent's `out` gets 1 for yes, else 0; 0 on a refusal.
+ * A state comes as its fields, by their names, a number that may change by its address; what a start or a retune is handed for
+ * a field has `new_` before that name. Ports come as a mask of those that are set and their numbers; memory comes as the
+ * address of its first place and the count of places. Numbers returned, and what is written on a refusal, are as said above.
+ * Masks: 1 is the tick's first port, 2 the second, 4 the third, 8 the fourth, 16 the fifth; bits beyond its ports are not
+ * read. A silent's `out` gets 1 for yes, else 0; 0 on a refusal.
  */
 #ifdef __cplusplus
 extern "C" {
 #endif
 
-uint32_t room_raw_tremolo_start(double sample_rate, double *out_phase, double *out_rate);
-uint32_t room_raw_tremolo_reset(double *phase, double rate);
-uint32_t room_raw_tremolo_tick(double *phase, double rate, uint32_t set, double audio, double depth, double shape,
+uint32_t room_raw_tremolo_start(double new_sample_rate, double *lfo_phase, double *sample_rate);
+uint32_t room_raw_tremolo_reset(double *lfo_phase, double sample_rate);
+uint32_t room_raw_tremolo_tick(double *lfo_phase, double sample_rate, uint32_t set, double audio, double depth, double shape,
                                double frequency, double sine, double *out);
-uint32_t room_raw_tremolo_silent(double phase, double rate, uint32_t *out);
+uint32_t room_raw_tremolo_silent(double lfo_phase, double sample_rate, uint32_t *out);
 
-uint32_t room_raw_vibrato_start(double sample_rate, double *memory, uint64_t places, uint64_t *pos, double *phase,
-                                double *rate);
-uint32_t room_raw_vibrato_retune(double sample_rate, double *memory, uint64_t places, uint64_t *pos, double *phase,
-                                 double *rate);
-uint32_t room_raw_vibrato_reset(double *memory, uint64_t places, uint64_t *pos, double *phase, double rate);
-uint32_t room_raw_vibrato_tick(uint64_t *pos, double *phase, double rate, double *memory, uint64_t places, uint32_t set,
-                               double audio, double depth, double mix, double frequency, double sine, double *out);
-uint32_t room_raw_vibrato_silent(uint64_t pos, double phase, double rate, const double *memory, uint64_t places,
-                                 uint32_t *out);
+uint32_t room_raw_vibrato_start(double new_sample_rate, double *memory, uint64_t places, uint64_t *write_pos,
+                                double *lfo_phase, double *sample_rate);
+uint32_t room_raw_vibrato_retune(double new_sample_rate, double *memory, uint64_t places, uint64_t *write_pos,
+                                 double *lfo_phase, double *sample_rate);
+uint32_t room_raw_vibrato_reset(double *memory, uint64_t places, uint64_t *write_pos, double *lfo_phase, double sample_rate);
+uint32_t room_raw_vibrato_tick(uint64_t *write_pos, double *lfo_phase, double sample_rate, double *memory, uint64_t places,
+                               uint32_t set, double audio, double depth, double mix, double frequency, double sine,
+                               double *out);
+uint32_t room_raw_vibrato_silent(uint64_t write_pos, double lfo_phase, double sample_rate, const double *memory,
+                                 uint64_t places, uint32_t *out);
 
-uint32_t room_raw_chorus_start(double sample_rate, double *memory, uint64_t places, uint64_t *pos, double phases[3],
-                               double *rate);
-uint32_t room_raw_chorus_retune(double sample_rate, double *memory, uint64_t places, uint64_t *pos, double phases[3],
-                                double *rate);
-uint32_t room_raw_chorus_reset(double *memory, uint64_t places, uint64_t *pos, double phases[3], double rate);
-uint32_t room_raw_chorus_tick(uint64_t *pos, double phases[3], double rate, double *memory, uint64_t places, uint32_t set,
-                              double audio, double depth, double mix, double frequency, double sine0, double sine1,
-                              double sine2, double out[3]);
-uint32_t room_raw_chorus_silent(uint64_t pos, const double phases[3], double rate, const double *memory, uint64_t places,
-                                uint32_t *out);
-
-uint32_t room_raw_flanger_start(double sample_rate, double *memory, uint64_t places, uint64_t *pos, double *phase,
-                                double *rate);
-uint32_t room_raw_flanger_retune(double sample_rate, double *memory, uint64_t places, uint64_t *pos, double *phase,
-                                 double *rate);
-uint32_t room_raw_flanger_reset(double *memory, uint64_t places, uint64_t *pos, double *phase, double rate);
-uint32_t room_raw_flanger_tick(uint64_t *pos, double *phase, double rate, double *memory, uint64_t places, uint32_t set,
-                               double audio, double depth, double feedback, double mix, double frequency, double sine0,
-                               double sine1, double out[3]);
-uint32_t room_raw_flanger_silent(uint64_t pos, double phase, double rate, const double *memory, uint64_t places,
-                                 uint32_t *out);
-
-uint32_t room_raw_delay_start(double sample_rate, double max_delay_secs, double coef, uint32_t linear_time, double *memory,
-                              uint64_t places, uint64_t *pos, double *distance, uint32_t *primed, double *rate,
-                              double *coefficient, double *maximum, uint32_t *linear);
-uint32_t room_raw_delay_retune(double sample_rate, double coef, double *memory, uint64_t places, uint64_t *pos,
-                               double *distance, uint32_t *primed, double *rate, double *coefficient, double maximum,
-                               uint32_t linear);
-uint32_t room_raw_delay_reset(double *memory, uint64_t places, uint64_t *pos, double *distance, uint32_t *primed,
-                              double rate, double coefficient, double maximum, uint32_t linear);
-uint32_t room_raw_delay_tick(uint64_t *pos, double *distance, uint32_t *primed, double rate, double coefficient,
-                             double maximum, uint32_t linear, double *memory, uint64_t places, uint32_t set, double audio,
-                             double time, double feedback, double mix, double milliseconds, double *out);
-uint32_t room_raw_delay_silent(uint64_t pos, double distance, uint32_t primed, double rate, double coefficient,
-                               double maximum, uint32_t linear, const double *memory, uint64_t places, uint32_t *out);
-
-uint32_t room_raw_reverb_start(double sample_rate, double *memory, uint64_t places, uint64_t comb_pos_l[8],
-                               uint64_t comb_pos_r[8], double stores_l[8], double stores_r[8], uint64_t allpass_pos_l[4],
-                               uint64_t allpass_pos_r[4], uint64_t *predelay_pos, double *rate);
-uint32_t room_raw_reverb_retune(double sample_rate, double *memory, uint64_t places, uint64_t comb_pos_l[8],
-                                uint64_t comb_pos_r[8], double stores_l[8], double stores_r[8], uint64_t allpass_pos_l[4],
-                                uint64_t allpass_pos_r[4], uint64_t *predelay_pos, double *rate);
-uint32_t room_raw_reverb_reset(double *memory, uint64_t places, uint64_t comb_pos_l[8], uint64_t comb_pos_r[8],
-                               double stores_l[8], double stores_r[8], uint64_t allpass_pos_l[4],
-                               uint64_t allpass_pos_r[4], uint64_t *predelay_pos, double rate);
-uint32_t room_raw_reverb_tick(uint64_t comb_pos_l[8], uint64_t comb_pos_r[8], double stores_l[8], double stores_r[8],
-                              uint64_t allpass_pos_l[4], uint64_t allpass_pos_r[4], uint64_t *predelay_pos, double rate,
-                              double *memory, uint64_t places, uint32_t set, double audio, double size, double damping,
-                              double mix, double predelay, double out[2]);
-uint32_t room_raw_reverb_silent(const uint64_t comb_pos_l[8], const uint64_t comb_pos_r[8], const double stores_l[8],
-                                const double stores_r[8], const uint64_t allpass_pos_l[4],
-                                const uint64_t allpass_pos_r[4], uint64_t predelay_pos, double rate, const double *memory,
+uint32_t room_raw_chorus_start(double new_sample_rate, double *memory, uint64_t places, uint64_t *write_pos,
+                               double lfo_phases[3], double *sample_rate);
+uint32_t room_raw_chorus_retune(double new_sample_rate, double *memory, uint64_t places, uint64_t *write_pos,
+                                double lfo_phases[3], double *sample_rate);
+uint32_t room_raw_chorus_reset(double *memory, uint64_t places, uint64_t *write_pos, double lfo_phases[3],
+                               double sample_rate);
+uint32_t room_raw_chorus_tick(uint64_t *write_pos, double lfo_phases[3], double sample_rate, double *memory, uint64_t places,
+                              uint32_t set, double audio, double depth, double mix, double frequency, double sine0,
+                              double sine1, double sine2, double out[3]);
+uint32_t room_raw_chorus_silent(uint64_t write_pos, const double lfo_phases[3], double sample_rate, const double *memory,
                                 uint64_t places, uint32_t *out);
+
+uint32_t room_raw_flanger_start(double new_sample_rate, double *memory, uint64_t places, uint64_t *write_pos,
+                                double *lfo_phase, double *sample_rate);
+uint32_t room_raw_flanger_retune(double new_sample_rate, double *memory, uint64_t places, uint64_t *write_pos,
+                                 double *lfo_phase, double *sample_rate);
+uint32_t room_raw_flanger_reset(double *memory, uint64_t places, uint64_t *write_pos, double *lfo_phase, double sample_rate);
+uint32_t room_raw_flanger_tick(uint64_t *write_pos, double *lfo_phase, double sample_rate, double *memory, uint64_t places,
+                               uint32_t set, double audio, double depth, double feedback, double mix, double frequency,
+                               double sine0, double sine1, double out[3]);
+uint32_t room_raw_flanger_silent(uint64_t write_pos, double lfo_phase, double sample_rate, const double *memory,
+                                 uint64_t places, uint32_t *out);
+
+uint32_t room_raw_delay_start(double new_sample_rate, double new_max_delay_secs, double new_delay_smooth_coef,
+                              uint32_t new_linear_time, double *memory, uint64_t places, uint64_t *write_pos,
+                              double *smoothed_delay, uint32_t *delay_primed, double *sample_rate,
+                              double *delay_smooth_coef, double *max_delay_secs, uint32_t *linear_time);
+uint32_t room_raw_delay_retune(double new_sample_rate, double new_delay_smooth_coef, double *memory, uint64_t places,
+                               uint64_t *write_pos, double *smoothed_delay, uint32_t *delay_primed, double *sample_rate,
+                               double *delay_smooth_coef, double max_delay_secs, uint32_t linear_time);
+uint32_t room_raw_delay_reset(double *memory, uint64_t places, uint64_t *write_pos, double *smoothed_delay,
+                              uint32_t *delay_primed, double sample_rate, double delay_smooth_coef, double max_delay_secs,
+                              uint32_t linear_time);
+uint32_t room_raw_delay_tick(uint64_t *write_pos, double *smoothed_delay, uint32_t *delay_primed, double sample_rate,
+                             double delay_smooth_coef, double max_delay_secs, uint32_t linear_time, double *memory,
+                             uint64_t places, uint32_t set, double audio, double time, double feedback, double mix,
+                             double milliseconds, double *out);
+uint32_t room_raw_delay_silent(uint64_t write_pos, double smoothed_delay, uint32_t delay_primed, double sample_rate,
+                               double delay_smooth_coef, double max_delay_secs, uint32_t linear_time, const double *memory,
+                               uint64_t places, uint32_t *out);
+
+uint32_t room_raw_reverb_start(double new_sample_rate, double *memory, uint64_t places, uint64_t comb_pos_l[8],
+                               uint64_t comb_pos_r[8], double comb_filter_state_l[8], double comb_filter_state_r[8],
+                               uint64_t allpass_pos_l[4], uint64_t allpass_pos_r[4], uint64_t *predelay_pos,
+                               double *sample_rate);
+uint32_t room_raw_reverb_retune(double new_sample_rate, double *memory, uint64_t places, uint64_t comb_pos_l[8],
+                                uint64_t comb_pos_r[8], double comb_filter_state_l[8], double comb_filter_state_r[8],
+                                uint64_t allpass_pos_l[4], uint64_t allpass_pos_r[4], uint64_t *predelay_pos,
+                                double *sample_rate);
+uint32_t room_raw_reverb_reset(double *memory, uint64_t places, uint64_t comb_pos_l[8], uint64_t comb_pos_r[8],
+                               double comb_filter_state_l[8], double comb_filter_state_r[8], uint64_t allpass_pos_l[4],
+                               uint64_t allpass_pos_r[4], uint64_t *predelay_pos, double sample_rate);
+uint32_t room_raw_reverb_tick(uint64_t comb_pos_l[8], uint64_t comb_pos_r[8], double comb_filter_state_l[8],
+                              double comb_filter_state_r[8], uint64_t allpass_pos_l[4], uint64_t allpass_pos_r[4],
+                              uint64_t *predelay_pos, double sample_rate, double *memory, uint64_t places, uint32_t set,
+                              double audio, double size, double damping, double mix, double predelay, double out[2]);
+uint32_t room_raw_reverb_silent(const uint64_t comb_pos_l[8], const uint64_t comb_pos_r[8],
+                                const double comb_filter_state_l[8], const double comb_filter_state_r[8],
+                                const uint64_t allpass_pos_l[4], const uint64_t allpass_pos_r[4], uint64_t predelay_pos,
+                                double sample_rate, const double *memory, uint64_t places, uint32_t *out);
 
 /*
  * How many places an effect needs at this rate, for a controller that asks at power-up. effect: 1 delay, 2 chorus, 3 flanger,
- * 4 vibrato, 5 tremolo, 6 reverb. maximum: the delay's alone, in seconds, held as its start holds it; the others' counts don't
- * read it. The tremolo needs 0. For another number, and for a rate that is refused, 2^64 - 1. A host calls this one as it is.
+ * 4 vibrato, 5 tremolo, 6 reverb. max_delay_secs: the delay's alone, held as its start holds it; the others' counts don't read
+ * it. The tremolo needs 0. For another number, and for a rate that is refused, 2^64 - 1. A host calls this one as it is.
  */
-uint64_t room_places_needed(uint32_t effect, double rate, double maximum);
+uint64_t room_places_needed(uint32_t effect, double sample_rate, double max_delay_secs);
 
 #ifdef __cplusplus
 }
@@ -406,62 +415,63 @@ static inline uint32_t room_flanger_silent(const room_flanger *state, const doub
  */
 
 typedef struct room_delay {
-    uint64_t write_pos; /* below L */
-    double distance;    /* how many places back the last tick read: 1 to L - 1; +0, sign included, while not primed */
-    uint32_t primed;    /* a flag: whether a tick has read since the last start, retune or reset */
-    double sample_rate; /* 8,000 to 192,000 */
-    double coefficient; /* of the glide: at least 0 and below 1 */
-    double maximum;     /* seconds: 0.001 to 60 */
-    uint32_t linear;    /* a flag: whether ticks take their time from the time port, in seconds, and not in milliseconds */
+    uint64_t write_pos;       /* below L */
+    double smoothed_delay;    /* how many places back the last tick read: 1 to L - 1; +0, sign included, while not primed */
+    uint32_t delay_primed;    /* a flag: whether a tick has read since the last start, retune or reset */
+    double sample_rate;       /* 8,000 to 192,000 */
+    double delay_smooth_coef; /* of the glide: at least 0 and below 1 */
+    double max_delay_secs;    /* the maximum: 0.001 to 60 */
+    uint32_t linear_time;     /* a flag: whether ticks take their time from the time port, in seconds, not in milliseconds */
 } room_delay;
 
 /*
- * A delay at this rate with this glide coefficient: position 0, not primed, distance +0, +0 in every place. The maximum, in
- * seconds, is clamped to 0.001 to 60; an infinite one, and NaN, means 2. It is the state's `maximum` that L goes by.
- * `linear` is a flag. Refusals: 1, 2, 3.
+ * A delay at this rate with this glide coefficient: position 0, not primed, smoothed_delay +0, +0 in every place. The maximum,
+ * in seconds, is clamped to 0.001 to 60; an infinite one, and NaN, means 2. It is the state's `max_delay_secs` that L goes by.
+ * `linear_time` is a flag. Refusals: 1, 2, 3.
  */
 static inline uint32_t room_delay_start(room_delay *state, double *memory, uint64_t places, double sample_rate,
-                                        double maximum, double coefficient, uint32_t linear)
+                                        double max_delay_secs, double delay_smooth_coef, uint32_t linear_time)
 {
-    return room_raw_delay_start(sample_rate, maximum, coefficient, linear, memory, places, &state->write_pos,
-                                &state->distance, &state->primed, &state->sample_rate, &state->coefficient,
-                                &state->maximum, &state->linear);
+    return room_raw_delay_start(sample_rate, max_delay_secs, delay_smooth_coef, linear_time, memory, places,
+                                &state->write_pos, &state->smoothed_delay, &state->delay_primed, &state->sample_rate,
+                                &state->delay_smooth_coef, &state->max_delay_secs, &state->linear_time);
 }
 
 /*
- * The same rate or another, and the coefficient that goes with it: position 0, not primed, distance +0, +0 in every place;
- * the maximum and `linear` stay. Refusals: 4, 1, 2, 3.
+ * The same rate or another, and the coefficient that goes with it: position 0, not primed, smoothed_delay +0, +0 in every
+ * place; the maximum and `linear_time` stay. Refusals: 4, 1, 2, 3.
  */
 static inline uint32_t room_delay_retune(room_delay *state, double *memory, uint64_t places, double sample_rate,
-                                         double coefficient)
+                                         double delay_smooth_coef)
 {
-    return room_raw_delay_retune(sample_rate, coefficient, memory, places, &state->write_pos, &state->distance,
-                                 &state->primed, &state->sample_rate, &state->coefficient, state->maximum, state->linear);
+    return room_raw_delay_retune(sample_rate, delay_smooth_coef, memory, places, &state->write_pos, &state->smoothed_delay,
+                                 &state->delay_primed, &state->sample_rate, &state->delay_smooth_coef,
+                                 state->max_delay_secs, state->linear_time);
 }
 
-/* Position 0, not primed, distance +0, +0 in every place; the rest stays. Refusals: 4, 3. */
+/* Position 0, not primed, smoothed_delay +0, +0 in every place; the rest stays. Refusals: 4, 3. */
 static inline uint32_t room_delay_reset(room_delay *state, double *memory, uint64_t places)
 {
-    return room_raw_delay_reset(memory, places, &state->write_pos, &state->distance, &state->primed, state->sample_rate,
-                                state->coefficient, state->maximum, state->linear);
+    return room_raw_delay_reset(memory, places, &state->write_pos, &state->smoothed_delay, &state->delay_primed,
+                                state->sample_rate, state->delay_smooth_coef, state->max_delay_secs, state->linear_time);
 }
 
 /*
  * One sample in out[0]: `audio` blended with what the line plays. Audio that is NaN or infinite counts as +0. The line stores
  * the audio plus what it played times the feedback; with huge audio that may overflow.
- * time: read where `linear` is on, and there alone: seconds, 0 to the maximum; 0.5 if unset. milliseconds: read where
- * `linear` is off, and there alone: the host's curve number from its time control, as 1 x (maximum x 1000)^time; any but NaN.
- * Either goes as milliseconds x rate / 1000 places back, clamped to 1 to L - 1, so that a time of 0 is one sample. The first
- * tick after a start, a retune or a reset reads there; later ones glide there, and read at that target + (the last distance -
- * the target) x coefficient.
+ * time: read where `linear_time` is on, and there alone: seconds, 0 to the maximum; 0.5 if unset. milliseconds: read where
+ * `linear_time` is off, and there alone: the host's curve number from its time control, as 1 x (maximum x 1000)^time; any but
+ * NaN. Either goes as milliseconds x rate / 1000 places back, clamped to 1 to L - 1, so that a time of 0 is one sample. The
+ * first tick after a start, a retune or a reset reads there; later ones glide there, and read at that target +
+ * (smoothed_delay - the target) x delay_smooth_coef.
  * feedback: 0 to 0.99; 0 if unset. mix: 0 dry to 1 wet; 0.5 if unset. Audio is 0 if unset.
  * Refusals: 4, 3, 5, 6.
  */
 static inline uint32_t room_delay_tick(room_delay *state, double *memory, uint64_t places, room_port audio, room_port time,
                                        room_port feedback, room_port mix, double milliseconds, double out[1])
 {
-    return room_raw_delay_tick(&state->write_pos, &state->distance, &state->primed, state->sample_rate, state->coefficient,
-                               state->maximum, state->linear, memory, places,
+    return room_raw_delay_tick(&state->write_pos, &state->smoothed_delay, &state->delay_primed, state->sample_rate,
+                               state->delay_smooth_coef, state->max_delay_secs, state->linear_time, memory, places,
                                room_set_mask(audio, time, feedback) | room_set_bit(mix, 8u), audio.value, time.value,
                                feedback.value, mix.value, milliseconds, out);
 }
@@ -470,9 +480,9 @@ static inline uint32_t room_delay_tick(room_delay *state, double *memory, uint64
 static inline uint32_t room_delay_silent(const room_delay *state, const double *memory, uint64_t places, int *silent)
 {
     uint32_t yes = 0u;
-    const uint32_t number =
-        room_raw_delay_silent(state->write_pos, state->distance, state->primed, state->sample_rate, state->coefficient,
-                              state->maximum, state->linear, memory, places, &yes);
+    const uint32_t number = room_raw_delay_silent(state->write_pos, state->smoothed_delay, state->delay_primed,
+                                                  state->sample_rate, state->delay_smooth_coef, state->max_delay_secs,
+                                                  state->linear_time, memory, places, &yes);
     *silent = yes != 0u;
     return number;
 }
@@ -494,8 +504,8 @@ static inline uint32_t room_delay_silent(const room_delay *state, const double *
 typedef struct room_reverb {
     uint64_t comb_pos_l[8]; /* each below its comb's length, left and right */
     uint64_t comb_pos_r[8];
-    double comb_store_l[8]; /* the combs' damping stores: any floats */
-    double comb_store_r[8];
+    double comb_filter_state_l[8]; /* the combs' damping stores: any floats */
+    double comb_filter_state_r[8];
     uint64_t allpass_pos_l[4]; /* each below its all-pass's length */
     uint64_t allpass_pos_r[4];
     uint64_t predelay_pos; /* below 9,600 */
@@ -505,25 +515,25 @@ typedef struct room_reverb {
 /* A reverb at this rate: positions 0, damping stores +0, +0 in every place. Refusals: 1, 3. */
 static inline uint32_t room_reverb_start(room_reverb *state, double *memory, uint64_t places, double sample_rate)
 {
-    return room_raw_reverb_start(sample_rate, memory, places, state->comb_pos_l, state->comb_pos_r, state->comb_store_l,
-                                 state->comb_store_r, state->allpass_pos_l, state->allpass_pos_r, &state->predelay_pos,
-                                 &state->sample_rate);
+    return room_raw_reverb_start(sample_rate, memory, places, state->comb_pos_l, state->comb_pos_r,
+                                 state->comb_filter_state_l, state->comb_filter_state_r, state->allpass_pos_l,
+                                 state->allpass_pos_r, &state->predelay_pos, &state->sample_rate);
 }
 
 /* As a new start: positions 0, damping stores +0, +0 in every place, the same rate or another. Refusals: 4, 1, 3. */
 static inline uint32_t room_reverb_retune(room_reverb *state, double *memory, uint64_t places, double sample_rate)
 {
-    return room_raw_reverb_retune(sample_rate, memory, places, state->comb_pos_l, state->comb_pos_r, state->comb_store_l,
-                                  state->comb_store_r, state->allpass_pos_l, state->allpass_pos_r, &state->predelay_pos,
-                                  &state->sample_rate);
+    return room_raw_reverb_retune(sample_rate, memory, places, state->comb_pos_l, state->comb_pos_r,
+                                  state->comb_filter_state_l, state->comb_filter_state_r, state->allpass_pos_l,
+                                  state->allpass_pos_r, &state->predelay_pos, &state->sample_rate);
 }
 
 /* Positions 0, damping stores +0, +0 in every place; the rate stays. Refusals: 4, 3. */
 static inline uint32_t room_reverb_reset(room_reverb *state, double *memory, uint64_t places)
 {
-    return room_raw_reverb_reset(memory, places, state->comb_pos_l, state->comb_pos_r, state->comb_store_l,
-                                 state->comb_store_r, state->allpass_pos_l, state->allpass_pos_r, &state->predelay_pos,
-                                 state->sample_rate);
+    return room_raw_reverb_reset(memory, places, state->comb_pos_l, state->comb_pos_r, state->comb_filter_state_l,
+                                 state->comb_filter_state_r, state->allpass_pos_l, state->allpass_pos_r,
+                                 &state->predelay_pos, state->sample_rate);
 }
 
 /*
@@ -538,9 +548,9 @@ static inline uint32_t room_reverb_reset(room_reverb *state, double *memory, uin
 static inline uint32_t room_reverb_tick(room_reverb *state, double *memory, uint64_t places, room_port audio, room_port size,
                                         room_port damping, room_port mix, room_port predelay, double out[2])
 {
-    return room_raw_reverb_tick(state->comb_pos_l, state->comb_pos_r, state->comb_store_l, state->comb_store_r,
-                                state->allpass_pos_l, state->allpass_pos_r, &state->predelay_pos, state->sample_rate, memory,
-                                places,
+    return room_raw_reverb_tick(state->comb_pos_l, state->comb_pos_r, state->comb_filter_state_l,
+                                state->comb_filter_state_r, state->allpass_pos_l, state->allpass_pos_r,
+                                &state->predelay_pos, state->sample_rate, memory, places,
                                 room_set_mask(audio, size, damping) | room_set_bit(mix, 8u) | room_set_bit(predelay, 16u),
                                 audio.value, size.value, damping.value, mix.value, predelay.value, out);
 }
@@ -553,9 +563,9 @@ static inline uint32_t room_reverb_silent(const room_reverb *state, const double
 {
     uint32_t yes = 0u;
     const uint32_t number =
-        room_raw_reverb_silent(state->comb_pos_l, state->comb_pos_r, state->comb_store_l, state->comb_store_r,
-                               state->allpass_pos_l, state->allpass_pos_r, state->predelay_pos, state->sample_rate, memory,
-                               places, &yes);
+        room_raw_reverb_silent(state->comb_pos_l, state->comb_pos_r, state->comb_filter_state_l,
+                               state->comb_filter_state_r, state->allpass_pos_l, state->allpass_pos_r, state->predelay_pos,
+                               state->sample_rate, memory, places, &yes);
     *silent = yes != 0u;
     return number;
 }
