@@ -1,8 +1,9 @@
 /*
  * room_effects.h: the room effects for C99 and C++11 hosts.
  *
- * Link with target/staticlib/libroom_effects.a, which `rt staticlib room_effects` makes. The library holds no memory, no
- * state and no lock of its own: everything is in what a call is handed.
+ * Link with target/staticlib/libroom_effects.a, which `rt staticlib room_effects` makes, and `make host` too. It is for x86-64
+ * Linux: the kit compiles for no other processor. On Arm the proofs can be checked, with the same verdict, and what was
+ * compiled can be run in an emulator, but the archive links only into x86-64 programs.
  *
  * How to use an effect E
  *
@@ -23,7 +24,7 @@
  *
  * What a call returns
  *
- * Every call returns 0 if it was accepted, else the number of the cause for which it was refused:
+ * Every call returns 0 if it was accepted, else the number of the cause for which it was refused (enum room_cause):
  *
  *   1  the sample rate is NaN or outside 8,000 to 192,000
  *   2  the glide coefficient is NaN, below 0, or 1 or more (delay only)
@@ -51,16 +52,52 @@
  * one size: see there. The memory may be longer than that. Start, retune and reset put +0 into every place, spare ones too; a
  * tick writes one place of each line and never a spare one. room_places_needed says how many places an effect needs.
  *
+ * With 0 places the address is not used and may be NULL: an effect with lines refuses that as any memory that is too short.
+ * Every other address that a call is handed is that of an object of its type, never NULL.
+ *
  * Ports
  *
  * A port carries a number or is unset. An unset port takes the effect's default, and its number is not read. Controls are
  * clamped to their range, infinities too; -0 stays -0. The audio port is no control: any float is accepted there.
  *
+ * Silence
+ *
+ * A unit that feeds back may never fall silent by itself, however long its audio is 0: delay and flanger with a feedback above
+ * 0.5 (of the flanger also below -0.5), the reverb from a size of about 0.315 on, so at its default of 0.5 too. What goes round
+ * becomes subnormal, and there every product is rounded to a multiple of 2^-1074: 1 x 2^-1074 x 0.6 is nearer to 1 x 2^-1074
+ * than to 0, so the sample stays as it is and goes round for good. (x 0.5 it is a tie, which goes to the even neighbour, 0.)
+ * That is more than 6,000 dB below full scale; but "silent?" says no, and ticks over subnormal numbers take longer, the
+ * reverb's twice as long. The remedy is a reset, once nothing can be heard any more.
+ *
  * Floating-point mode
  *
  * Calls are made in the mode that C starts a program in: rounding to nearest, subnormal numbers kept, exceptions masked. A host
  * that flushes subnormals to zero (FTZ, DAZ), as some do for speed, turns that off around the calls, or what is said here does
- * not hold: a line with a subnormal sample would be called silent.
+ * not hold: a line with a subnormal sample would be called silent. room_float_mode_ok asks; a host calls it at power-up, in
+ * each thread that makes calls, since each thread has a mode of its own, which it gets from the one that makes it.
+ *
+ * `-ffast-math`, `-Ofast` and `-funsafe-math-optimizations` break that mode where they stand on the command that links the
+ * program or a shared library that it loads: gcc then links crtfastmath.o, which sets FTZ and DAZ before main. (Seen with gcc
+ * 12.2; with clang 14 for the first two.) Compiled with them and linked without, a host keeps the mode.
+ *
+ * Threads, stack, what is linked
+ *
+ * The library holds no memory, no state and no lock of its own: the archive has no section that can be written, and everything
+ * is in what a call is handed. So calls may be made in any thread and at the same time, as long as no two of them at a time
+ * are of the same unit. No call waits, allocates or calls the system. One that is cut off before it returns may have written
+ * part of its state and places; its unit is then started anew.
+ *
+ * By the frames of the compiled functions a call takes at most 632 bytes of stack (the reverb's retune; its other calls at most
+ * 424, those of the other effects 112), and beside that what memset takes, the one function that the archive needs from
+ * elsewhere.
+ *
+ * What calls cost
+ *
+ * A tick takes the same time however long the lines are, some 5 ns (tremolo) to 35 ns (reverb at 48,000) on an AMD EPYC, longer
+ * where a swept delay is read outside the caches. Start, retune and reset write all places that are lent, at memset's speed;
+ * silent reads the places in use, up to the first part of 512 that sounds. Seen there: reset 6.5 us for the reverb, 1.3 to 2 ms
+ * for a delay of 60 s at 192,000; silent, of a unit that is, 4.6 us and 2.7 to 3.4 ms. A sample at 192,000 lasts 5.2 us: these
+ * calls belong between takes. docs/BENCHMARKS.md has more.
  *
  * Curve numbers
  *
@@ -72,6 +109,60 @@
 #define ROOM_EFFECTS_H
 
 #include <stdint.h>
+
+/*
+ * The version of this interface: MAJOR moves where a struct or a call is changed or goes, so that a host has to be looked over;
+ * MINOR where an effect or a call is added; PATCH where neither is. A controller is built with the header and the archive of
+ * one version.
+ */
+#define ROOM_EFFECTS_VERSION_MAJOR 1
+#define ROOM_EFFECTS_VERSION_MINOR 0
+#define ROOM_EFFECTS_VERSION_PATCH 0
+
+/* The effects by their numbers, for room_places_needed. */
+enum room_effect {
+    ROOM_DELAY = 1,
+    ROOM_CHORUS = 2,
+    ROOM_FLANGER = 3,
+    ROOM_VIBRATO = 4,
+    ROOM_TREMOLO = 5,
+    ROOM_REVERB = 6
+};
+
+/* What a call returns: why it was refused. */
+enum room_cause {
+    ROOM_ACCEPTED = 0,
+    ROOM_REFUSED_SAMPLE_RATE = 1,
+    ROOM_REFUSED_GLIDE_COEFFICIENT = 2,
+    ROOM_REFUSED_MEMORY = 3,
+    ROOM_REFUSED_STATE = 4,
+    ROOM_REFUSED_CONTROL = 5,
+    ROOM_REFUSED_CURVE = 6
+};
+
+/*
+ * Whether this thread's floating-point mode is the one that calls are made in: 1 where subnormal numbers are kept, read and
+ * made, and sums are rounded to the nearest, ties to even; else 0. It does not see whether exceptions are masked. All its
+ * numbers are volatile, so that no compiler works the answer out beforehand, not even with -ffast-math.
+ */
+static inline int room_float_mode_ok(void)
+{
+    volatile double smallest = 4.9406564584124654e-324; /* 2^-1074, the smallest subnormal */
+    volatile double normal = 2.2250738585072014e-308;   /* 2^-1022, the smallest that is not subnormal */
+    volatile double two_to_52 = 4503599627370496.0;
+    volatile double quarter = 0.25;
+    volatile double four = 4.0;
+    volatile double half_step = 1.1102230246251565e-16; /* 2^-53, half a step at 1 */
+    volatile double one = 1.0;
+    volatile double odd = 1.0000000000000002;  /* 1 + 2^-52, one step on */
+    volatile double even = 1.0000000000000004; /* 1 + 2^-51, two steps on */
+    volatile double raised = smallest * two_to_52;
+    volatile double lowered = normal * quarter;
+    volatile double back = lowered * four;
+    volatile double down = one + half_step;
+    volatile double up = odd + half_step;
+    return raised == normal && back == normal && down == one && up == even;
+}
 
 /* A port: `value`, or unset where `set` is 0. */
 typedef struct room_port {
@@ -199,8 +290,9 @@ uint32_t room_raw_reverb_silent(const uint64_t comb_pos_l[8], const uint64_t com
 
 /*
  * How many places an effect needs at this rate, for a controller that asks at power-up. effect: 1 delay, 2 chorus, 3 flanger,
- * 4 vibrato, 5 tremolo, 6 reverb. max_delay_secs: the delay's alone, held as its start holds it; the others' counts don't read
- * it. The tremolo needs 0. For another number, and for a rate that is refused, 2^64 - 1. A host calls this one as it is.
+ * 4 vibrato, 5 tremolo, 6 reverb (enum room_effect). max_delay_secs: the delay's alone, held as its start holds it; the others'
+ * counts don't read it. The tremolo needs 0. For another number, and for a rate that is refused, 2^64 - 1. A host calls this
+ * one as it is.
  */
 uint64_t room_places_needed(uint32_t effect, double sample_rate, double max_delay_secs);
 
