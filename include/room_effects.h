@@ -89,7 +89,7 @@
  *
  * By the frames of the compiled functions a call takes at most 632 bytes of stack (the reverb's retune; its other calls at most
  * 424, those of the other effects 112), and beside that what memset takes, the one function that the archive needs from
- * elsewhere.
+ * elsewhere. Where memset is bound at its first call, that takes some 3 KB more, once.
  *
  * What calls cost
  *
