@@ -30,10 +30,10 @@ test: kit
 bench: kit
 	bench/run
 
-# kit.txt has the kit that the proofs were last made with. Another may prove the same, but nobody has seen it.
+# kit.txt has the kit that the proofs were last checked with. Another may prove the same, but nobody has seen it.
 kit:
 	@is=$$(rt version 2>/dev/null) && test "$$is" != "$$(cat kit.txt)" && \
-		echo "warning: this kit is '$$is'; the proofs were made with '$$(cat kit.txt)'" || true
+		echo "warning: this kit is '$$is'; the proofs were last checked with '$$(cat kit.txt)'" || true
 
 clean:
 	rm -rf target
@@ -43,7 +43,7 @@ help:
 	@echo "make host        build library and host: $(LIB), target/room"
 	@echo "make test        every test, and every proof from nothing"
 	@echo "make bench       time ticks and clearings, beside the Rust's"
-	@echo "make kit         warn if this is not the kit that the proofs were made with"
+	@echo "make kit         warn if this is not the kit that the proofs were last checked with"
 	@echo "make clean       remove target/, which holds all that is built"
 
 .DELETE_ON_ERROR:
