@@ -113,6 +113,13 @@ pub fn abs(x: f64) -> f64
     if x > 0.0 { x } else { 0.0 - x }
 }
 
+// A count as a float, exactly. From 32 bits that is one instruction; from 64 it is ten, as the processor's conversion is of signed numbers.
+pub fn from_u32(n: u32) -> f64
+    ensures { λ r. ⌜ r ≡ ofNat n ⌝ }
+{
+    n as f64
+}
+
 // The whole part of a number from 1 to below 2^53: the digits, shifted. The effects' reads use it, where a total one costs more.
 pub fn whole_part_small(x: f64) -> u64
     requires { ⌜ T (Ieee.le (ofNat 1) x) ⌝ ∗ ⌜ T (Ieee.lt x (ofNat 9007199254740992)) ⌝ }

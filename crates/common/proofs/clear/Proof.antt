@@ -45,9 +45,9 @@ same-length c = c .before .loop .inv .1
 
 returns : tie.Need-returns Inv-loop μ-loop
 returns c =
-    let ofNat = c .before .before .args .mem .now in
-    let e : c .before .loop .i ≡ length ofNat = omega arith in
-    rw (c .before .loop .inv .2, e) (fill-all plusZero ofNat)
+    let given = c .before .before .args .mem .now in
+    let e : c .before .loop .i ≡ length given = omega arith in
+    rw (c .before .loop .inv .2, e) (fill-all plusZero given)
 
 pub clear-spec : {M : Type 1} → statement M
 clear-spec =
