@@ -131,7 +131,7 @@ static int count_places(chain *c, uint32_t rate, trouble *why)
         stage *s = &c->stage[i];
         const uint64_t each = unit_places(&s->unit[0], rate);
         if (each == UINT64_MAX)
-            return trouble_say(why, "%s: %s", s->unit[0].kind->name, refusal_text(1));
+            return trouble_say(why, "%s: %s", s->unit[0].kind->name, refusal_text(ROOM_REFUSED_SAMPLE_RATE));
         s->unit[0].places = s->unit[1].places = each;
         c->places += each * s->units; /* at most 16 x 2 x 11,520,001 */
     }

@@ -58,6 +58,10 @@ int main(int count, char **words)
         options_help();
         return 0;
     }
+    if (!room_float_mode_ok()) {
+        trouble_say(&why, "the floating-point mode is not the one that C starts a program in: was it linked with -ffast-math?");
+        return complain(&why);
+    }
     if (!(o.demo != NULL ? demo(o.demo, &why) : run(&o, &why)))
         return complain(&why);
     return 0;

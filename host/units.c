@@ -20,7 +20,7 @@ static uint32_t delay_start(unit *u, double rate)
     const uint32_t linear = u->controls[DELAY_SECONDS].set ? 1u : 0u;
     const uint32_t refused = room_delay_start(&u->state.delay, u->memory, u->places, rate, control_value(u, DELAY_MAX),
                                               delay_coefficient(rate), linear);
-    u->milliseconds = delay_milliseconds(u->state.delay.maximum, control_value(u, DELAY_TIME));
+    u->milliseconds = delay_milliseconds(u->state.delay.max_delay_secs, control_value(u, DELAY_TIME));
     return refused;
 }
 
@@ -224,31 +224,31 @@ int unit_agrees(const unit *u, trouble *why)
 
 /* Names, ranges and initial settings are quiver's ports'; `seconds` and `max` are its linear time and its maximum. */
 const effect effects[EFFECT_COUNT] = {
-    {"delay", 1, 1, delay_start, delay_retune, delay_reset, delay_silent, delay_tick,
+    {"delay", ROOM_DELAY, 1, delay_start, delay_retune, delay_reset, delay_silent, delay_tick,
      {{"time", 0.0, 1.0, 0.5, "1 ms to max, exponential: max in ms to this power"},
       {"seconds", 0.0, 60.0, NAN, "instead of time: the time in seconds, at most max; 0 is one sample"},
       {"feedback", 0.0, 0.99, 0.0, "how much of an echo is echoed again"},
       {"mix", 0.0, 1.0, 0.5, "0 dry to 1 wet"},
       {"max", 0.001, 60.0, 2.0, "the longest time in seconds, for which memory is lent"}}},
-    {"chorus", 2, 3, chorus_start, chorus_retune, chorus_reset, chorus_silent, chorus_tick,
+    {"chorus", ROOM_CHORUS, 3, chorus_start, chorus_retune, chorus_reset, chorus_silent, chorus_tick,
      {{"rate", 0.0, 1.0, 0.3, "0.1 to 5 Hz, exponential"},
       {"depth", 0.0, 1.0, 0.5, "how far the three voices move, up to 25 ms"},
       {"mix", 0.0, 1.0, 0.5, "0 dry to 1 wet"}}},
-    {"flanger", 3, 3, flanger_start, flanger_retune, flanger_reset, flanger_silent, flanger_tick,
+    {"flanger", ROOM_FLANGER, 3, flanger_start, flanger_retune, flanger_reset, flanger_silent, flanger_tick,
      {{"rate", 0.0, 1.0, 0.3, "0.05 to 5 Hz, exponential"},
       {"depth", 0.0, 1.0, 0.5, "how far the sweep goes, up to 9 ms"},
       {"feedback", -0.95, 0.95, 0.0, "how much is fed back, upside down if below 0"},
       {"mix", 0.0, 1.0, 0.5, "0 dry to 1 wet"},
       {"spread", 0.0, 1.0, 0.5, "how far the right sweep runs ahead of the left, up to half a turn"}}},
-    {"vibrato", 4, 1, vibrato_start, vibrato_retune, vibrato_reset, vibrato_silent, vibrato_tick,
+    {"vibrato", ROOM_VIBRATO, 1, vibrato_start, vibrato_retune, vibrato_reset, vibrato_silent, vibrato_tick,
      {{"rate", 0.0, 1.0, 0.3, "0.1 to 15 Hz, exponential"},
       {"depth", 0.0, 1.0, 0.5, "how far the pitch moves"},
       {"mix", 0.0, 1.0, 1.0, "0 dry to 1 wet"}}},
-    {"tremolo", 5, 1, tremolo_start, tremolo_start, tremolo_reset, tremolo_silent, tremolo_tick,
+    {"tremolo", ROOM_TREMOLO, 1, tremolo_start, tremolo_start, tremolo_reset, tremolo_silent, tremolo_tick,
      {{"rate", 0.0, 1.0, 0.3, "0.1 to 20 Hz, exponential"},
       {"depth", 0.0, 1.0, 0.5, "how soft it gets"},
       {"shape", 0.0, 1.0, 0.0, "0 sine to 1 triangle"}}},
-    {"reverb", 6, 2, reverb_start, reverb_retune, reverb_reset, reverb_silent, reverb_tick,
+    {"reverb", ROOM_REVERB, 2, reverb_start, reverb_retune, reverb_reset, reverb_silent, reverb_tick,
      {{"size", 0.0, 1.0, 0.5, "how long the room rings"},
       {"damping", 0.0, 1.0, 0.5, "0 bright to 1 dark"},
       {"mix", 0.0, 1.0, 0.5, "0 dry to 1 wet"},

@@ -1,8 +1,9 @@
 /*
  * room_effects.h: the room effects for C99 and C++11 hosts.
  *
- * Link with target/staticlib/libroom_effects.a, which `rt staticlib room_effects` makes. The library holds no memory, no
- * state and no lock of its own: everything is in what a call is handed.
+ * Link with target/staticlib/libroom_effects.a, which `rt staticlib room_effects` makes, and `make host` too. It is for x86-64
+ * Linux: the kit compiles for no other processor. On Arm the proofs can be checked, with the same verdict, and what was
+ * compiled can be run in an emulator, but the archive links only into x86-64 programs.
  *
  * How to use an effect E
  *
@@ -23,7 +24,7 @@
  *
  * What a call returns
  *
- * Every call returns 0 if it was accepted, else the number of the cause for which it was refused:
+ * Every call returns 0 if it was accepted, else the number of the cause for which it was refused (enum room_cause):
  *
  *   1  the sample rate is NaN or outside 8,000 to 192,000
  *   2  the glide coefficient is NaN, below 0, or 1 or more (delay only)
@@ -51,16 +52,52 @@
  * one size: see there. The memory may be longer than that. Start, retune and reset put +0 into every place, spare ones too; a
  * tick writes one place of each line and never a spare one. room_places_needed says how many places an effect needs.
  *
+ * With 0 places the address is not used and may be NULL: an effect with lines refuses that as any memory that is too short.
+ * Every other address that a call is handed is that of an object of its type, never NULL.
+ *
  * Ports
  *
  * A port carries a number or is unset. An unset port takes the effect's default, and its number is not read. Controls are
  * clamped to their range, infinities too; -0 stays -0. The audio port is no control: any float is accepted there.
  *
+ * Silence
+ *
+ * A unit that feeds back may never fall silent by itself, however long its audio is 0: delay and flanger with a feedback above
+ * 0.5 (of the flanger also below -0.5), the reverb from a size of about 0.315 on, so at its default of 0.5 too. What goes round
+ * becomes subnormal, and there every product is rounded to a multiple of 2^-1074: 1 x 2^-1074 x 0.6 is nearer to 1 x 2^-1074
+ * than to 0, so the sample stays as it is and goes round for good. (x 0.5 it is a tie, which goes to the even neighbour, 0.)
+ * That is more than 6,000 dB below full scale; but "silent?" says no, and ticks over subnormal numbers take longer, the
+ * reverb's twice as long. The remedy is a reset, once nothing can be heard any more.
+ *
  * Floating-point mode
  *
  * Calls are made in the mode that C starts a program in: rounding to nearest, subnormal numbers kept, exceptions masked. A host
  * that flushes subnormals to zero (FTZ, DAZ), as some do for speed, turns that off around the calls, or what is said here does
- * not hold: a line with a subnormal sample would be called silent.
+ * not hold: a line with a subnormal sample would be called silent. room_float_mode_ok asks; a host calls it at power-up, in
+ * each thread that makes calls, since each thread has a mode of its own, which it gets from the one that makes it.
+ *
+ * `-ffast-math`, `-Ofast` and `-funsafe-math-optimizations` break that mode where they stand on the command that links the
+ * program or a shared library that it loads: gcc then links crtfastmath.o, which sets FTZ and DAZ before main. (Seen with gcc
+ * 12.2; with clang 14 for the first two.) Compiled with them and linked without, a host keeps the mode.
+ *
+ * Threads, stack, what is linked
+ *
+ * The library holds no memory, no state and no lock of its own: the archive has no section that can be written, and everything
+ * is in what a call is handed. So calls may be made in any thread and at the same time, as long as no two of them at a time
+ * are of the same unit. No call waits, allocates or calls the system. One that is cut off before it returns may have written
+ * part of its state and places; its unit is then started anew.
+ *
+ * By the frames of the compiled functions a call takes at most 632 bytes of stack (the reverb's retune; its other calls at most
+ * 424, those of the other effects 112), and beside that what memset takes, the one function that the archive needs from
+ * elsewhere. Where memset is bound at its first call, that takes some 3 KB more, once.
+ *
+ * What calls cost
+ *
+ * A tick takes the same time however long the lines are, some 5 ns (tremolo) to 35 ns (reverb at 48,000) on an AMD EPYC, longer
+ * where a swept delay is read outside the caches. Start, retune and reset write all places that are lent, at memset's speed;
+ * silent reads the places in use, up to the first part of 512 that sounds. Seen there: reset 6.5 us for the reverb, 1.3 to 2 ms
+ * for a delay of 60 s at 192,000; silent, of a unit that is, 4.6 us and 2.7 to 3.4 ms. A sample at 192,000 lasts 5.2 us: these
+ * calls belong between takes. docs/BENCHMARKS.md has more.
  *
  * Curve numbers
  *
@@ -72,6 +109,60 @@
 #define ROOM_EFFECTS_H
 
 #include <stdint.h>
+
+/*
+ * The version of this interface: MAJOR moves where a struct or a call is changed or goes, so that a host has to be looked over;
+ * MINOR where an effect or a call is added; PATCH where neither is. A controller is built with the header and the archive of
+ * one version.
+ */
+#define ROOM_EFFECTS_VERSION_MAJOR 1
+#define ROOM_EFFECTS_VERSION_MINOR 0
+#define ROOM_EFFECTS_VERSION_PATCH 0
+
+/* The effects by their numbers, for room_places_needed. */
+enum room_effect {
+    ROOM_DELAY = 1,
+    ROOM_CHORUS = 2,
+    ROOM_FLANGER = 3,
+    ROOM_VIBRATO = 4,
+    ROOM_TREMOLO = 5,
+    ROOM_REVERB = 6
+};
+
+/* What a call returns: why it was refused. */
+enum room_cause {
+    ROOM_ACCEPTED = 0,
+    ROOM_REFUSED_SAMPLE_RATE = 1,
+    ROOM_REFUSED_GLIDE_COEFFICIENT = 2,
+    ROOM_REFUSED_MEMORY = 3,
+    ROOM_REFUSED_STATE = 4,
+    ROOM_REFUSED_CONTROL = 5,
+    ROOM_REFUSED_CURVE = 6
+};
+
+/*
+ * Whether this thread's floating-point mode is the one that calls are made in: 1 where subnormal numbers are kept, read and
+ * made, and sums are rounded to the nearest, ties to even; else 0. It does not see whether exceptions are masked. All its
+ * numbers are volatile, so that no compiler works the answer out beforehand, not even with -ffast-math.
+ */
+static inline int room_float_mode_ok(void)
+{
+    volatile double smallest = 4.9406564584124654e-324; /* 2^-1074, the smallest subnormal */
+    volatile double normal = 2.2250738585072014e-308;   /* 2^-1022, the smallest that is not subnormal */
+    volatile double two_to_52 = 4503599627370496.0;
+    volatile double quarter = 0.25;
+    volatile double four = 4.0;
+    volatile double half_step = 1.1102230246251565e-16; /* 2^-53, half a step at 1 */
+    volatile double one = 1.0;
+    volatile double odd = 1.0000000000000002;  /* 1 + 2^-52, one step on */
+    volatile double even = 1.0000000000000004; /* 1 + 2^-51, two steps on */
+    volatile double raised = smallest * two_to_52;
+    volatile double lowered = normal * quarter;
+    volatile double back = lowered * four;
+    volatile double down = one + half_step;
+    volatile double up = odd + half_step;
+    return raised == normal && back == normal && down == one && up == even;
+}
 
 /* A port: `value`, or unset where `set` is 0. */
 typedef struct room_port {
@@ -109,91 +200,101 @@ static inline uint32_t room_set_mask(room_port first, room_port second, room_por
 
 /*
  * What the library exports. The functions further down are what a host calls; they put a struct together from these.
- * A state comes as its fields, a number that may change by its address; ports come as a mask of those that are set and
- * their numbers; memory comes as the address of its first place and the count of places. Numbers returned, and what is
- * written on a refusal, are as said above. Masks: 1 is the tick's first port, 2 the second, 4 the third, 8 the fourth, 16 the
- * fifth; bits beyond its ports are not read. A silent's `out` gets 1 for yes, else 0; 0 on a refusal.
+ * A state comes as its fields, by their names, a number that may change by its address; what a start or a retune is handed for
+ * a field has `new_` before that name. Ports come as a mask of those that are set and their numbers; memory comes as the
+ * address of its first place and the count of places. Numbers returned, and what is written on a refusal, are as said above.
+ * Masks: 1 is the tick's first port, 2 the second, 4 the third, 8 the fourth, 16 the fifth; bits beyond its ports are not
+ * read. A silent's `out` gets 1 for yes, else 0; 0 on a refusal.
  */
 #ifdef __cplusplus
 extern "C" {
 #endif
 
-uint32_t room_raw_tremolo_start(double sample_rate, double *out_phase, double *out_rate);
-uint32_t room_raw_tremolo_reset(double *phase, double rate);
-uint32_t room_raw_tremolo_tick(double *phase, double rate, uint32_t set, double audio, double depth, double shape,
+uint32_t room_raw_tremolo_start(double new_sample_rate, double *lfo_phase, double *sample_rate);
+uint32_t room_raw_tremolo_reset(double *lfo_phase, double sample_rate);
+uint32_t room_raw_tremolo_tick(double *lfo_phase, double sample_rate, uint32_t set, double audio, double depth, double shape,
                                double frequency, double sine, double *out);
-uint32_t room_raw_tremolo_silent(double phase, double rate, uint32_t *out);
+uint32_t room_raw_tremolo_silent(double lfo_phase, double sample_rate, uint32_t *out);
 
-uint32_t room_raw_vibrato_start(double sample_rate, double *memory, uint64_t places, uint64_t *pos, double *phase,
-                                double *rate);
-uint32_t room_raw_vibrato_retune(double sample_rate, double *memory, uint64_t places, uint64_t *pos, double *phase,
-                                 double *rate);
-uint32_t room_raw_vibrato_reset(double *memory, uint64_t places, uint64_t *pos, double *phase, double rate);
-uint32_t room_raw_vibrato_tick(uint64_t *pos, double *phase, double rate, double *memory, uint64_t places, uint32_t set,
-                               double audio, double depth, double mix, double frequency, double sine, double *out);
-uint32_t room_raw_vibrato_silent(uint64_t pos, double phase, double rate, const double *memory, uint64_t places,
-                                 uint32_t *out);
+uint32_t room_raw_vibrato_start(double new_sample_rate, double *memory, uint64_t places, uint64_t *write_pos,
+                                double *lfo_phase, double *sample_rate);
+uint32_t room_raw_vibrato_retune(double new_sample_rate, double *memory, uint64_t places, uint64_t *write_pos,
+                                 double *lfo_phase, double *sample_rate);
+uint32_t room_raw_vibrato_reset(double *memory, uint64_t places, uint64_t *write_pos, double *lfo_phase, double sample_rate);
+uint32_t room_raw_vibrato_tick(uint64_t *write_pos, double *lfo_phase, double sample_rate, double *memory, uint64_t places,
+                               uint32_t set, double audio, double depth, double mix, double frequency, double sine,
+                               double *out);
+uint32_t room_raw_vibrato_silent(uint64_t write_pos, double lfo_phase, double sample_rate, const double *memory,
+                                 uint64_t places, uint32_t *out);
 
-uint32_t room_raw_chorus_start(double sample_rate, double *memory, uint64_t places, uint64_t *pos, double phases[3],
-                               double *rate);
-uint32_t room_raw_chorus_retune(double sample_rate, double *memory, uint64_t places, uint64_t *pos, double phases[3],
-                                double *rate);
-uint32_t room_raw_chorus_reset(double *memory, uint64_t places, uint64_t *pos, double phases[3], double rate);
-uint32_t room_raw_chorus_tick(uint64_t *pos, double phases[3], double rate, double *memory, uint64_t places, uint32_t set,
-                              double audio, double depth, double mix, double frequency, double sine0, double sine1,
-                              double sine2, double out[3]);
-uint32_t room_raw_chorus_silent(uint64_t pos, const double phases[3], double rate, const double *memory, uint64_t places,
-                                uint32_t *out);
-
-uint32_t room_raw_flanger_start(double sample_rate, double *memory, uint64_t places, uint64_t *pos, double *phase,
-                                double *rate);
-uint32_t room_raw_flanger_retune(double sample_rate, double *memory, uint64_t places, uint64_t *pos, double *phase,
-                                 double *rate);
-uint32_t room_raw_flanger_reset(double *memory, uint64_t places, uint64_t *pos, double *phase, double rate);
-uint32_t room_raw_flanger_tick(uint64_t *pos, double *phase, double rate, double *memory, uint64_t places, uint32_t set,
-                               double audio, double depth, double feedback, double mix, double frequency, double sine0,
-                               double sine1, double out[3]);
-uint32_t room_raw_flanger_silent(uint64_t pos, double phase, double rate, const double *memory, uint64_t places,
-                                 uint32_t *out);
-
-uint32_t room_raw_delay_start(double sample_rate, double max_delay_secs, double coef, uint32_t linear_time, double *memory,
-                              uint64_t places, uint64_t *pos, double *distance, uint32_t *primed, double *rate,
-                              double *coefficient, double *maximum, uint32_t *linear);
-uint32_t room_raw_delay_retune(double sample_rate, double coef, double *memory, uint64_t places, uint64_t *pos,
-                               double *distance, uint32_t *primed, double *rate, double *coefficient, double maximum,
-                               uint32_t linear);
-uint32_t room_raw_delay_reset(double *memory, uint64_t places, uint64_t *pos, double *distance, uint32_t *primed,
-                              double rate, double coefficient, double maximum, uint32_t linear);
-uint32_t room_raw_delay_tick(uint64_t *pos, double *distance, uint32_t *primed, double rate, double coefficient,
-                             double maximum, uint32_t linear, double *memory, uint64_t places, uint32_t set, double audio,
-                             double time, double feedback, double mix, double milliseconds, double *out);
-uint32_t room_raw_delay_silent(uint64_t pos, double distance, uint32_t primed, double rate, double coefficient,
-                               double maximum, uint32_t linear, const double *memory, uint64_t places, uint32_t *out);
-
-uint32_t room_raw_reverb_start(double sample_rate, double *memory, uint64_t places, uint64_t comb_pos_l[8],
-                               uint64_t comb_pos_r[8], double stores_l[8], double stores_r[8], uint64_t allpass_pos_l[4],
-                               uint64_t allpass_pos_r[4], uint64_t *predelay_pos, double *rate);
-uint32_t room_raw_reverb_retune(double sample_rate, double *memory, uint64_t places, uint64_t comb_pos_l[8],
-                                uint64_t comb_pos_r[8], double stores_l[8], double stores_r[8], uint64_t allpass_pos_l[4],
-                                uint64_t allpass_pos_r[4], uint64_t *predelay_pos, double *rate);
-uint32_t room_raw_reverb_reset(double *memory, uint64_t places, uint64_t comb_pos_l[8], uint64_t comb_pos_r[8],
-                               double stores_l[8], double stores_r[8], uint64_t allpass_pos_l[4],
-                               uint64_t allpass_pos_r[4], uint64_t *predelay_pos, double rate);
-uint32_t room_raw_reverb_tick(uint64_t comb_pos_l[8], uint64_t comb_pos_r[8], double stores_l[8], double stores_r[8],
-                              uint64_t allpass_pos_l[4], uint64_t allpass_pos_r[4], uint64_t *predelay_pos, double rate,
-                              double *memory, uint64_t places, uint32_t set, double audio, double size, double damping,
-                              double mix, double predelay, double out[2]);
-uint32_t room_raw_reverb_silent(const uint64_t comb_pos_l[8], const uint64_t comb_pos_r[8], const double stores_l[8],
-                                const double stores_r[8], const uint64_t allpass_pos_l[4],
-                                const uint64_t allpass_pos_r[4], uint64_t predelay_pos, double rate, const double *memory,
+uint32_t room_raw_chorus_start(double new_sample_rate, double *memory, uint64_t places, uint64_t *write_pos,
+                               double lfo_phases[3], double *sample_rate);
+uint32_t room_raw_chorus_retune(double new_sample_rate, double *memory, uint64_t places, uint64_t *write_pos,
+                                double lfo_phases[3], double *sample_rate);
+uint32_t room_raw_chorus_reset(double *memory, uint64_t places, uint64_t *write_pos, double lfo_phases[3],
+                               double sample_rate);
+uint32_t room_raw_chorus_tick(uint64_t *write_pos, double lfo_phases[3], double sample_rate, double *memory, uint64_t places,
+                              uint32_t set, double audio, double depth, double mix, double frequency, double sine0,
+                              double sine1, double sine2, double out[3]);
+uint32_t room_raw_chorus_silent(uint64_t write_pos, const double lfo_phases[3], double sample_rate, const double *memory,
                                 uint64_t places, uint32_t *out);
+
+uint32_t room_raw_flanger_start(double new_sample_rate, double *memory, uint64_t places, uint64_t *write_pos,
+                                double *lfo_phase, double *sample_rate);
+uint32_t room_raw_flanger_retune(double new_sample_rate, double *memory, uint64_t places, uint64_t *write_pos,
+                                 double *lfo_phase, double *sample_rate);
+uint32_t room_raw_flanger_reset(double *memory, uint64_t places, uint64_t *write_pos, double *lfo_phase, double sample_rate);
+uint32_t room_raw_flanger_tick(uint64_t *write_pos, double *lfo_phase, double sample_rate, double *memory, uint64_t places,
+                               uint32_t set, double audio, double depth, double feedback, double mix, double frequency,
+                               double sine0, double sine1, double out[3]);
+uint32_t room_raw_flanger_silent(uint64_t write_pos, double lfo_phase, double sample_rate, const double *memory,
+                                 uint64_t places, uint32_t *out);
+
+uint32_t room_raw_delay_start(double new_sample_rate, double new_max_delay_secs, double new_delay_smooth_coef,
+                              uint32_t new_linear_time, double *memory, uint64_t places, uint64_t *write_pos,
+                              double *smoothed_delay, uint32_t *delay_primed, double *sample_rate,
+                              double *delay_smooth_coef, double *max_delay_secs, uint32_t *linear_time);
+uint32_t room_raw_delay_retune(double new_sample_rate, double new_delay_smooth_coef, double *memory, uint64_t places,
+                               uint64_t *write_pos, double *smoothed_delay, uint32_t *delay_primed, double *sample_rate,
+                               double *delay_smooth_coef, double max_delay_secs, uint32_t linear_time);
+uint32_t room_raw_delay_reset(double *memory, uint64_t places, uint64_t *write_pos, double *smoothed_delay,
+                              uint32_t *delay_primed, double sample_rate, double delay_smooth_coef, double max_delay_secs,
+                              uint32_t linear_time);
+uint32_t room_raw_delay_tick(uint64_t *write_pos, double *smoothed_delay, uint32_t *delay_primed, double sample_rate,
+                             double delay_smooth_coef, double max_delay_secs, uint32_t linear_time, double *memory,
+                             uint64_t places, uint32_t set, double audio, double time, double feedback, double mix,
+                             double milliseconds, double *out);
+uint32_t room_raw_delay_silent(uint64_t write_pos, double smoothed_delay, uint32_t delay_primed, double sample_rate,
+                               double delay_smooth_coef, double max_delay_secs, uint32_t linear_time, const double *memory,
+                               uint64_t places, uint32_t *out);
+
+uint32_t room_raw_reverb_start(double new_sample_rate, double *memory, uint64_t places, uint64_t comb_pos_l[8],
+                               uint64_t comb_pos_r[8], double comb_filter_state_l[8], double comb_filter_state_r[8],
+                               uint64_t allpass_pos_l[4], uint64_t allpass_pos_r[4], uint64_t *predelay_pos,
+                               double *sample_rate);
+uint32_t room_raw_reverb_retune(double new_sample_rate, double *memory, uint64_t places, uint64_t comb_pos_l[8],
+                                uint64_t comb_pos_r[8], double comb_filter_state_l[8], double comb_filter_state_r[8],
+                                uint64_t allpass_pos_l[4], uint64_t allpass_pos_r[4], uint64_t *predelay_pos,
+                                double *sample_rate);
+uint32_t room_raw_reverb_reset(double *memory, uint64_t places, uint64_t comb_pos_l[8], uint64_t comb_pos_r[8],
+                               double comb_filter_state_l[8], double comb_filter_state_r[8], uint64_t allpass_pos_l[4],
+                               uint64_t allpass_pos_r[4], uint64_t *predelay_pos, double sample_rate);
+uint32_t room_raw_reverb_tick(uint64_t comb_pos_l[8], uint64_t comb_pos_r[8], double comb_filter_state_l[8],
+                              double comb_filter_state_r[8], uint64_t allpass_pos_l[4], uint64_t allpass_pos_r[4],
+                              uint64_t *predelay_pos, double sample_rate, double *memory, uint64_t places, uint32_t set,
+                              double audio, double size, double damping, double mix, double predelay, double out[2]);
+uint32_t room_raw_reverb_silent(const uint64_t comb_pos_l[8], const uint64_t comb_pos_r[8],
+                                const double comb_filter_state_l[8], const double comb_filter_state_r[8],
+                                const uint64_t allpass_pos_l[4], const uint64_t allpass_pos_r[4], uint64_t predelay_pos,
+                                double sample_rate, const double *memory, uint64_t places, uint32_t *out);
 
 /*
  * How many places an effect needs at this rate, for a controller that asks at power-up. effect: 1 delay, 2 chorus, 3 flanger,
- * 4 vibrato, 5 tremolo, 6 reverb. maximum: the delay's alone, in seconds, held as its start holds it; the others' counts don't
- * read it. The tremolo needs 0. For another number, and for a rate that is refused, 2^64 - 1. A host calls this one as it is.
+ * 4 vibrato, 5 tremolo, 6 reverb (enum room_effect). max_delay_secs: the delay's alone, held as its start holds it; the others'
+ * counts don't read it. The tremolo needs 0. For another number, and for a rate that is refused, 2^64 - 1. A host calls this
+ * one as it is.
  */
-uint64_t room_places_needed(uint32_t effect, double rate, double maximum);
+uint64_t room_places_needed(uint32_t effect, double sample_rate, double max_delay_secs);
 
 #ifdef __cplusplus
 }
@@ -406,62 +507,63 @@ static inline uint32_t room_flanger_silent(const room_flanger *state, const doub
  */
 
 typedef struct room_delay {
-    uint64_t write_pos; /* below L */
-    double distance;    /* how many places back the last tick read: 1 to L - 1; +0, sign included, while not primed */
-    uint32_t primed;    /* a flag: whether a tick has read since the last start, retune or reset */
-    double sample_rate; /* 8,000 to 192,000 */
-    double coefficient; /* of the glide: at least 0 and below 1 */
-    double maximum;     /* seconds: 0.001 to 60 */
-    uint32_t linear;    /* a flag: whether ticks take their time from the time port, in seconds, and not in milliseconds */
+    uint64_t write_pos;       /* below L */
+    double smoothed_delay;    /* how many places back the last tick read: 1 to L - 1; +0, sign included, while not primed */
+    uint32_t delay_primed;    /* a flag: whether a tick has read since the last start, retune or reset */
+    double sample_rate;       /* 8,000 to 192,000 */
+    double delay_smooth_coef; /* of the glide: at least 0 and below 1 */
+    double max_delay_secs;    /* the maximum: 0.001 to 60 */
+    uint32_t linear_time;     /* a flag: whether ticks take their time from the time port, in seconds, not in milliseconds */
 } room_delay;
 
 /*
- * A delay at this rate with this glide coefficient: position 0, not primed, distance +0, +0 in every place. The maximum, in
- * seconds, is clamped to 0.001 to 60; an infinite one, and NaN, means 2. It is the state's `maximum` that L goes by.
- * `linear` is a flag. Refusals: 1, 2, 3.
+ * A delay at this rate with this glide coefficient: position 0, not primed, smoothed_delay +0, +0 in every place. The maximum,
+ * in seconds, is clamped to 0.001 to 60; an infinite one, and NaN, means 2. It is the state's `max_delay_secs` that L goes by.
+ * `linear_time` is a flag. Refusals: 1, 2, 3.
  */
 static inline uint32_t room_delay_start(room_delay *state, double *memory, uint64_t places, double sample_rate,
-                                        double maximum, double coefficient, uint32_t linear)
+                                        double max_delay_secs, double delay_smooth_coef, uint32_t linear_time)
 {
-    return room_raw_delay_start(sample_rate, maximum, coefficient, linear, memory, places, &state->write_pos,
-                                &state->distance, &state->primed, &state->sample_rate, &state->coefficient,
-                                &state->maximum, &state->linear);
+    return room_raw_delay_start(sample_rate, max_delay_secs, delay_smooth_coef, linear_time, memory, places,
+                                &state->write_pos, &state->smoothed_delay, &state->delay_primed, &state->sample_rate,
+                                &state->delay_smooth_coef, &state->max_delay_secs, &state->linear_time);
 }
 
 /*
- * The same rate or another, and the coefficient that goes with it: position 0, not primed, distance +0, +0 in every place;
- * the maximum and `linear` stay. Refusals: 4, 1, 2, 3.
+ * The same rate or another, and the coefficient that goes with it: position 0, not primed, smoothed_delay +0, +0 in every
+ * place; the maximum and `linear_time` stay. Refusals: 4, 1, 2, 3.
  */
 static inline uint32_t room_delay_retune(room_delay *state, double *memory, uint64_t places, double sample_rate,
-                                         double coefficient)
+                                         double delay_smooth_coef)
 {
-    return room_raw_delay_retune(sample_rate, coefficient, memory, places, &state->write_pos, &state->distance,
-                                 &state->primed, &state->sample_rate, &state->coefficient, state->maximum, state->linear);
+    return room_raw_delay_retune(sample_rate, delay_smooth_coef, memory, places, &state->write_pos, &state->smoothed_delay,
+                                 &state->delay_primed, &state->sample_rate, &state->delay_smooth_coef,
+                                 state->max_delay_secs, state->linear_time);
 }
 
-/* Position 0, not primed, distance +0, +0 in every place; the rest stays. Refusals: 4, 3. */
+/* Position 0, not primed, smoothed_delay +0, +0 in every place; the rest stays. Refusals: 4, 3. */
 static inline uint32_t room_delay_reset(room_delay *state, double *memory, uint64_t places)
 {
-    return room_raw_delay_reset(memory, places, &state->write_pos, &state->distance, &state->primed, state->sample_rate,
-                                state->coefficient, state->maximum, state->linear);
+    return room_raw_delay_reset(memory, places, &state->write_pos, &state->smoothed_delay, &state->delay_primed,
+                                state->sample_rate, state->delay_smooth_coef, state->max_delay_secs, state->linear_time);
 }
 
 /*
  * One sample in out[0]: `audio` blended with what the line plays. Audio that is NaN or infinite counts as +0. The line stores
  * the audio plus what it played times the feedback; with huge audio that may overflow.
- * time: read where `linear` is on, and there alone: seconds, 0 to the maximum; 0.5 if unset. milliseconds: read where
- * `linear` is off, and there alone: the host's curve number from its time control, as 1 x (maximum x 1000)^time; any but NaN.
- * Either goes as milliseconds x rate / 1000 places back, clamped to 1 to L - 1, so that a time of 0 is one sample. The first
- * tick after a start, a retune or a reset reads there; later ones glide there, and read at that target + (the last distance -
- * the target) x coefficient.
+ * time: read where `linear_time` is on, and there alone: seconds, 0 to the maximum; 0.5 if unset. milliseconds: read where
+ * `linear_time` is off, and there alone: the host's curve number from its time control, as 1 x (maximum x 1000)^time; any but
+ * NaN. Either goes as milliseconds x rate / 1000 places back, clamped to 1 to L - 1, so that a time of 0 is one sample. The
+ * first tick after a start, a retune or a reset reads there; later ones glide there, and read at that target +
+ * (smoothed_delay - the target) x delay_smooth_coef.
  * feedback: 0 to 0.99; 0 if unset. mix: 0 dry to 1 wet; 0.5 if unset. Audio is 0 if unset.
  * Refusals: 4, 3, 5, 6.
  */
 static inline uint32_t room_delay_tick(room_delay *state, double *memory, uint64_t places, room_port audio, room_port time,
                                        room_port feedback, room_port mix, double milliseconds, double out[1])
 {
-    return room_raw_delay_tick(&state->write_pos, &state->distance, &state->primed, state->sample_rate, state->coefficient,
-                               state->maximum, state->linear, memory, places,
+    return room_raw_delay_tick(&state->write_pos, &state->smoothed_delay, &state->delay_primed, state->sample_rate,
+                               state->delay_smooth_coef, state->max_delay_secs, state->linear_time, memory, places,
                                room_set_mask(audio, time, feedback) | room_set_bit(mix, 8u), audio.value, time.value,
                                feedback.value, mix.value, milliseconds, out);
 }
@@ -470,9 +572,9 @@ static inline uint32_t room_delay_tick(room_delay *state, double *memory, uint64
 static inline uint32_t room_delay_silent(const room_delay *state, const double *memory, uint64_t places, int *silent)
 {
     uint32_t yes = 0u;
-    const uint32_t number =
-        room_raw_delay_silent(state->write_pos, state->distance, state->primed, state->sample_rate, state->coefficient,
-                              state->maximum, state->linear, memory, places, &yes);
+    const uint32_t number = room_raw_delay_silent(state->write_pos, state->smoothed_delay, state->delay_primed,
+                                                  state->sample_rate, state->delay_smooth_coef, state->max_delay_secs,
+                                                  state->linear_time, memory, places, &yes);
     *silent = yes != 0u;
     return number;
 }
@@ -494,8 +596,8 @@ static inline uint32_t room_delay_silent(const room_delay *state, const double *
 typedef struct room_reverb {
     uint64_t comb_pos_l[8]; /* each below its comb's length, left and right */
     uint64_t comb_pos_r[8];
-    double comb_store_l[8]; /* the combs' damping stores: any floats */
-    double comb_store_r[8];
+    double comb_filter_state_l[8]; /* the combs' damping stores: any floats */
+    double comb_filter_state_r[8];
     uint64_t allpass_pos_l[4]; /* each below its all-pass's length */
     uint64_t allpass_pos_r[4];
     uint64_t predelay_pos; /* below 9,600 */
@@ -505,25 +607,25 @@ typedef struct room_reverb {
 /* A reverb at this rate: positions 0, damping stores +0, +0 in every place. Refusals: 1, 3. */
 static inline uint32_t room_reverb_start(room_reverb *state, double *memory, uint64_t places, double sample_rate)
 {
-    return room_raw_reverb_start(sample_rate, memory, places, state->comb_pos_l, state->comb_pos_r, state->comb_store_l,
-                                 state->comb_store_r, state->allpass_pos_l, state->allpass_pos_r, &state->predelay_pos,
-                                 &state->sample_rate);
+    return room_raw_reverb_start(sample_rate, memory, places, state->comb_pos_l, state->comb_pos_r,
+                                 state->comb_filter_state_l, state->comb_filter_state_r, state->allpass_pos_l,
+                                 state->allpass_pos_r, &state->predelay_pos, &state->sample_rate);
 }
 
 /* As a new start: positions 0, damping stores +0, +0 in every place, the same rate or another. Refusals: 4, 1, 3. */
 static inline uint32_t room_reverb_retune(room_reverb *state, double *memory, uint64_t places, double sample_rate)
 {
-    return room_raw_reverb_retune(sample_rate, memory, places, state->comb_pos_l, state->comb_pos_r, state->comb_store_l,
-                                  state->comb_store_r, state->allpass_pos_l, state->allpass_pos_r, &state->predelay_pos,
-                                  &state->sample_rate);
+    return room_raw_reverb_retune(sample_rate, memory, places, state->comb_pos_l, state->comb_pos_r,
+                                  state->comb_filter_state_l, state->comb_filter_state_r, state->allpass_pos_l,
+                                  state->allpass_pos_r, &state->predelay_pos, &state->sample_rate);
 }
 
 /* Positions 0, damping stores +0, +0 in every place; the rate stays. Refusals: 4, 3. */
 static inline uint32_t room_reverb_reset(room_reverb *state, double *memory, uint64_t places)
 {
-    return room_raw_reverb_reset(memory, places, state->comb_pos_l, state->comb_pos_r, state->comb_store_l,
-                                 state->comb_store_r, state->allpass_pos_l, state->allpass_pos_r, &state->predelay_pos,
-                                 state->sample_rate);
+    return room_raw_reverb_reset(memory, places, state->comb_pos_l, state->comb_pos_r, state->comb_filter_state_l,
+                                 state->comb_filter_state_r, state->allpass_pos_l, state->allpass_pos_r,
+                                 &state->predelay_pos, state->sample_rate);
 }
 
 /*
@@ -538,9 +640,9 @@ static inline uint32_t room_reverb_reset(room_reverb *state, double *memory, uin
 static inline uint32_t room_reverb_tick(room_reverb *state, double *memory, uint64_t places, room_port audio, room_port size,
                                         room_port damping, room_port mix, room_port predelay, double out[2])
 {
-    return room_raw_reverb_tick(state->comb_pos_l, state->comb_pos_r, state->comb_store_l, state->comb_store_r,
-                                state->allpass_pos_l, state->allpass_pos_r, &state->predelay_pos, state->sample_rate, memory,
-                                places,
+    return room_raw_reverb_tick(state->comb_pos_l, state->comb_pos_r, state->comb_filter_state_l,
+                                state->comb_filter_state_r, state->allpass_pos_l, state->allpass_pos_r,
+                                &state->predelay_pos, state->sample_rate, memory, places,
                                 room_set_mask(audio, size, damping) | room_set_bit(mix, 8u) | room_set_bit(predelay, 16u),
                                 audio.value, size.value, damping.value, mix.value, predelay.value, out);
 }
@@ -553,9 +655,9 @@ static inline uint32_t room_reverb_silent(const room_reverb *state, const double
 {
     uint32_t yes = 0u;
     const uint32_t number =
-        room_raw_reverb_silent(state->comb_pos_l, state->comb_pos_r, state->comb_store_l, state->comb_store_r,
-                               state->allpass_pos_l, state->allpass_pos_r, state->predelay_pos, state->sample_rate, memory,
-                               places, &yes);
+        room_raw_reverb_silent(state->comb_pos_l, state->comb_pos_r, state->comb_filter_state_l,
+                               state->comb_filter_state_r, state->allpass_pos_l, state->allpass_pos_r, state->predelay_pos,
+                               state->sample_rate, memory, places, &yes);
     *silent = yes != 0u;
     return number;
 }

@@ -13,9 +13,9 @@ const ROUNDS: usize = 100;
 pub fn time() {
     let settings = Settings {
         sample_rate: 192_000.0,
-        coefficient: 0.5,
-        maximum: 60.0,
-        linear: 0,
+        delay_smooth_coef: 0.5,
+        max_delay_secs: 60.0,
+        linear_time: 0,
     };
     let (rust, state, memory) = delay::started(&settings);
     drop(rust);

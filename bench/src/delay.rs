@@ -43,9 +43,9 @@ impl<const LINEAR: bool> Effect<1> for Delay<LINEAR> {
     fn start() -> Self {
         let settings = Settings {
             sample_rate: SAMPLE_RATE,
-            coefficient: coefficient(SAMPLE_RATE),
-            maximum: MAXIMUM,
-            linear: u32::from(LINEAR),
+            delay_smooth_coef: coefficient(SAMPLE_RATE),
+            max_delay_secs: MAXIMUM,
+            linear_time: u32::from(LINEAR),
         };
         let (rust, ours, memory) = started(&settings);
         Self { rust, ours, memory }
@@ -87,19 +87,19 @@ impl<const LINEAR: bool> Effect<1> for Delay<LINEAR> {
 pub fn started(settings: &Settings) -> (Unit, State, Vec<f64>) {
     let rust = Unit::new(
         settings.sample_rate,
-        settings.maximum,
-        settings.coefficient,
-        settings.linear != 0,
+        settings.max_delay_secs,
+        settings.delay_smooth_coef,
+        settings.linear_time != 0,
     );
     let mut memory = vec![0.0; rust.line().len()];
     let mut ours = State {
         write_pos: 0,
-        distance: 0.0,
-        primed: 0,
+        smoothed_delay: 0.0,
+        delay_primed: 0,
         sample_rate: 0.0,
-        coefficient: 0.0,
-        maximum: 0.0,
-        linear: 0,
+        delay_smooth_coef: 0.0,
+        max_delay_secs: 0.0,
+        linear_time: 0,
     };
     assert_eq!(start(&mut ours, &mut memory, settings), 0);
     (rust, ours, memory)

@@ -130,6 +130,22 @@ static void ports(void)
     check(unset.set == 0, "an unset port is not set", 0);
 }
 
+/* The header's names, by document 01's numbers. */
+static void names(void)
+{
+    const unsigned effects[] = {ROOM_DELAY, ROOM_CHORUS, ROOM_FLANGER, ROOM_VIBRATO, ROOM_TREMOLO, ROOM_REVERB};
+    const unsigned causes[] = {ROOM_ACCEPTED,      ROOM_REFUSED_SAMPLE_RATE, ROOM_REFUSED_GLIDE_COEFFICIENT,
+                               ROOM_REFUSED_MEMORY, ROOM_REFUSED_STATE,       ROOM_REFUSED_CONTROL,
+                               ROOM_REFUSED_CURVE};
+    unsigned i;
+    for (i = 0; i < COUNT(effects); i++) {
+        check(effects[i] == i + 1u, "the number of an effect", i);
+    }
+    for (i = 0; i < COUNT(causes); i++) {
+        check(causes[i] == i, "the number of a cause", i);
+    }
+}
+
 static void test(const char *name, void (*calls)(void))
 {
     under_test = name;
@@ -139,6 +155,7 @@ static void test(const char *name, void (*calls)(void))
 int main(void)
 {
     ports();
+    test("names", names);
     test("tremolo", tremolo);
     test("vibrato", vibrato);
     test("chorus", chorus);
@@ -148,6 +165,8 @@ int main(void)
     test("places", places);
     test("order of causes", order_of_causes);
     test("ends", ends);
+    test("what never falls silent", stuck);
+    test("floating-point mode", float_mode);
     printf("%u passed, %u failed\n", passed, failed);
     return failed != 0;
 }

@@ -59,5 +59,7 @@ void reverb(void);
 void places(void);
 void order_of_causes(void);
 void ends(void);
+void stuck(void);
+void float_mode(void);
 
 #endif

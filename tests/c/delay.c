@@ -61,14 +61,14 @@ room_delay unprimed_at(uint64_t write_pos)
 room_delay primed_at(uint64_t write_pos, double distance)
 {
     room_delay state = unprimed_at(write_pos);
-    state.distance = distance;
-    state.primed = 1;
+    state.smoothed_delay = distance;
+    state.delay_primed = 1;
     return state;
 }
 
 room_delay linear_of(room_delay state)
 {
-    state.linear = 1;
+    state.linear_time = 1;
     return state;
 }
 
@@ -80,9 +80,10 @@ static room_delay junk_delay(void)
 
 int delay_is(const room_delay *is, room_delay should)
 {
-    return is->write_pos == should.write_pos && same(is->distance, should.distance) && is->primed == should.primed &&
-           same(is->sample_rate, should.sample_rate) && same(is->coefficient, should.coefficient) &&
-           same(is->maximum, should.maximum) && is->linear == should.linear;
+    return is->write_pos == should.write_pos && same(is->smoothed_delay, should.smoothed_delay) &&
+           is->delay_primed == should.delay_primed && same(is->sample_rate, should.sample_rate) &&
+           same(is->delay_smooth_coef, should.delay_smooth_coef) && same(is->max_delay_secs, should.max_delay_secs) &&
+           is->linear_time == should.linear_time;
 }
 
 /* Numbers */
@@ -171,9 +172,9 @@ static void start_accepted(double rate, double maximum, double coefficient, uint
     room_delay state = junk_delay();
     room_delay should = fresh();
     should.sample_rate = rate;
-    should.maximum = maximum;
-    should.coefficient = coefficient;
-    should.linear = linear != 0u;
+    should.max_delay_secs = maximum;
+    should.delay_smooth_coef = coefficient;
+    should.linear_time = linear != 0u;
     fill();
     check(room_delay_start(&state, memory, places, rate, maximum, coefficient, linear) == 0, "start is accepted", i);
     check(delay_is(&state, should), "start leaves a state that is not primed, with its settings", i);
@@ -237,7 +238,7 @@ static void held(double rate, double maximum, double should, unsigned places, un
     check(room_delay_start(&state, wide, places - 1u, rate, maximum, 0.5, 0u) == 3, "a held maximum: one place short", i);
     check(same(wide[0], JUNK) && same(wide[places - 1u], JUNK), "a held maximum: nothing is cleared", i);
     check(room_delay_start(&state, wide, places, rate, maximum, 0.5, 0u) == 0, "a held maximum: enough places", i);
-    check(same(state.maximum, should), "the maximum that is held", i);
+    check(same(state.max_delay_secs, should), "the maximum that is held", i);
     check(same(wide[0], 0.0) && same(wide[places - 1u], 0.0) && same(wide[places], JUNK), "a held maximum: cleared", i);
 }
 
@@ -269,9 +270,9 @@ static void retune_accepted(room_delay state, unsigned places, double rate, doub
 {
     room_delay should = fresh();
     should.sample_rate = rate;
-    should.coefficient = coefficient;
-    should.maximum = state.maximum;
-    should.linear = state.linear;
+    should.delay_smooth_coef = coefficient;
+    should.max_delay_secs = state.max_delay_secs;
+    should.linear_time = state.linear_time;
     fill();
     check(room_delay_retune(&state, memory, places, rate, coefficient) == 0, "retune is accepted", i);
     check(delay_is(&state, should), "retune leaves a state that is not primed, the new rate and coefficient", i);
@@ -321,7 +322,7 @@ static void resets(void)
     for (i = 0; i < COUNT(states); i++) {
         room_delay state = states[i];
         room_delay should = fresh();
-        should.linear = state.linear;
+        should.linear_time = state.linear_time;
         fill();
         check(room_delay_reset(&state, memory, lent[i]) == 0, "reset is accepted", i);
         check(delay_is(&state, should), "reset leaves what start left", i);
@@ -408,12 +409,12 @@ static void settings_refused(void)
     }
     for (i = 0; i < coefficients.count; i++) {
         state = primed_at(3u, 250.0);
-        state.coefficient = coefficients.list[i];
+        state.delay_smooth_coef = coefficients.list[i];
         state_refused(state, 200u + i);
     }
     for (i = 0; i < wrong_maxima.count; i++) {
         state = fresh();
-        state.maximum = wrong_maxima.list[i];
+        state.max_delay_secs = wrong_maxima.list[i];
         state_refused(state, 300u + i);
     }
 }
@@ -426,12 +427,12 @@ static void distances_refused(void)
     unsigned i;
     for (i = 0; i < primed.count; i++) {
         state = primed_at(3u, primed.list[i]);
-        state.primed = flags_on[i % FLAGS_ON];
+        state.delay_primed = flags_on[i % FLAGS_ON];
         state_refused(state, 400u + i);
     }
     for (i = 0; i < unprimed.count; i++) {
         state = unprimed_at(3u);
-        state.distance = unprimed.list[i];
+        state.smoothed_delay = unprimed.list[i];
         state_refused(state, 500u + i);
     }
 }
@@ -469,18 +470,18 @@ static void states_accepted(void)
     unsigned i;
     for (i = 0; i < COUNT(distances); i++) {
         state = primed_at(LENGTH - 1u, distances[i]);
-        state.primed = flags_on[i];
+        state.delay_primed = flags_on[i];
         state_accepted(state, i);
     }
     for (i = 0; i < coefficients.count; i++) {
         state = primed_at(0, 250.0);
-        state.coefficient = coefficients.list[i];
+        state.delay_smooth_coef = coefficients.list[i];
         state_accepted(state, 100u + i);
     }
     state_accepted(unprimed_at(0), 200u);
     state_accepted(unprimed_at(LENGTH - 1u), 201u);
     state = unprimed_at(8u);
-    state.maximum = 0.001;
+    state.max_delay_secs = 0.001;
     state_accepted(state, 202u);
 }
 

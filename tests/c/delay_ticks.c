@@ -20,8 +20,8 @@ static void plays_at(room_delay state, struct tick_of_delay t, double sample, do
     room_delay should = state;
     double out[1] = {JUNK};
     should.write_pos = (state.write_pos + 1u) % LENGTH;
-    should.distance = distance;
-    should.primed = 1;
+    should.smoothed_delay = distance;
+    should.delay_primed = 1;
     check(ticked(&state, LENGTH, &t, out) == 0, what, i);
     check(plays(out[0], sample), what, i);
     check(delay_is(&state, should), "a tick leaves the next position, its distance, primed, and the settings", i);
@@ -98,7 +98,7 @@ static void seconds(void)
     }
     for (i = 0; i < FLAGS_ON; i++) {
         room_delay state = unprimed_at(3u);
-        state.linear = flags_on[i];
+        state.linear_time = flags_on[i];
         line_with(3u, 250u, 12.0);
         plays_at(state, linear_tick(1.0, 1.0, 0.03125), 12.0, 250.0, "any number but 0 is linear", i);
     }
@@ -111,13 +111,14 @@ static void half_a_second(void)
     struct tick_of_delay t = linear_tick(1.0, 1.0, (double)NAN);
     double out[1] = {JUNK};
     unsigned i;
-    state.maximum = 1.0;
+    state.max_delay_secs = 1.0;
     t.time.set = 0;
     for (i = 0; i < ROOM; i++) {
         memory[i] = 0.5;
     }
     memory[3] = 12.0;
-    check(ticked(&state, 8001, &t, out) == 0 && same(out[0], 12.0) && same(state.distance, 4000.0), "unset time is 0.5", 0);
+    check(ticked(&state, 8001, &t, out) == 0 && same(out[0], 12.0) && same(state.smoothed_delay, 4000.0),
+          "unset time is 0.5", 0);
 }
 
 /* target + (last distance - target) x coefficient */
@@ -142,10 +143,10 @@ static void glides(void)
         const unsigned whole = (unsigned)distance;
         const double sample = 12.5 - 12.0 * (distance - whole);
         room_delay state = primed_at(3u, moves[i].last);
-        state.coefficient = moves[i].coefficient;
+        state.delay_smooth_coef = moves[i].coefficient;
         line_with(3u, whole, 12.5);
         plays_at(state, delay_tick(1.0, 1.0, moves[i].milliseconds), sample, distance, "a glide", i);
-        state.primed = flags_on[i % FLAGS_ON];
+        state.delay_primed = flags_on[i % FLAGS_ON];
         line_with(3u, whole, 12.5);
         plays_at(state, delay_tick(1.0, 1.0, moves[i].milliseconds), sample, distance, "any number but 0 is primed", i);
     }
@@ -153,11 +154,11 @@ static void glides(void)
     for (k = 0; k < 2u; k++) {
         room_delay state = primed_at(0, k == 0u ? 1.0 : LENGTH - 1u);
         const struct tick_of_delay t = delay_tick(1.0, 1.0, k == 0u ? 1e308 : 0.0);
-        state.coefficient = almost;
+        state.delay_smooth_coef = almost;
         for (i = 0; i < 2000u; i++) {
             double out[1];
             check(ticked(&state, LENGTH, &t, out) == 0, "a slow glide goes on", i);
-            check(state.distance >= 1.0 && state.distance <= LENGTH - 1u, "a slow glide stays in the line", i);
+            check(state.smoothed_delay >= 1.0 && state.smoothed_delay <= LENGTH - 1u, "a slow glide stays in the line", i);
         }
     }
 }
@@ -292,23 +293,25 @@ static void echo(void)
         check(ticked(&state, ROOM, &t, out) == 0, "tick without feedback", i);
     }
     check(room_delay_silent(&state, memory, ROOM, &yes) == 0 && yes == 1, "silent a round later", 0);
-    check(room_delay_reset(&state, memory, ROOM) == 0 && state.primed == 0u && same(state.distance, 0.0), "reset", 0);
+    check(room_delay_reset(&state, memory, ROOM) == 0 && state.delay_primed == 0u && same(state.smoothed_delay, 0.0),
+          "reset", 0);
 }
 
 /* The exported function by itself: bits of the mask beyond the four ports are not read. */
 static void mask(void)
 {
     const double nan_ = (double)NAN;
-    uint64_t pos = 3;
-    double distance = 0.0;
-    uint32_t primed = 0;
+    uint64_t write_pos = 3;
+    double smoothed_delay = 0.0;
+    uint32_t delay_primed = 0;
     double out = JUNK;
     line_with(3u, 16u, 12.0);
-    check(room_raw_delay_tick(&pos, &distance, &primed, 8000.0, 0.5, MAXIMUM, 0u, memory, LENGTH, UINT32_C(0xfffffff1), 1.0,
-                              nan_, nan_, nan_, 2.0, &out) == 0,
+    check(room_raw_delay_tick(&write_pos, &smoothed_delay, &delay_primed, 8000.0, 0.5, MAXIMUM, 0u, memory, LENGTH,
+                              UINT32_C(0xfffffff1), 1.0, nan_, nan_, nan_, 2.0, &out) == 0,
           "audio and the other bits", 0);
     check(same(out, 6.5), "audio and the other bits: controls are unset", 0);
-    check(pos == 4u && same(distance, 16.0) && primed == 1u && same(memory[3], 1.0), "audio and the others: it leaves", 0);
+    check(write_pos == 4u && same(smoothed_delay, 16.0) && delay_primed == 1u && same(memory[3], 1.0),
+          "audio and the others: it leaves", 0);
 }
 
 void delay_ticks(void)

@@ -87,6 +87,34 @@ static void outside(unsigned which, double *lent, double rate)
     numbered(&state, &c, 1, "a start at the next float outside", which);
 }
 
+/* No memory at all, at no address: every call refuses it as too short, and leaves the state; a start leaves zeros. */
+static void lent_nothing(int effect)
+{
+    struct six_call c = six_good(effect, SIX_START, NULL, 0, 8000.0, 0.001);
+    const double none[3] = {0.0, 0.0, 0.0};
+    struct six_state started, state, zeros;
+    double out[3];
+    int call;
+    c.lent = calloc(87136u, sizeof *c.lent);
+    c.places = 87136u;
+    memset(&started, 0, sizeof started);
+    memset(&zeros, 0, sizeof zeros);
+    check(c.lent != NULL && six_make(&started, &c, out) == ROOM_ACCEPTED, "a start in memory", (unsigned)effect);
+    free(c.lent);
+    for (call = SIX_START; call < SIX_CALLS; call++) {
+        const unsigned i = 10u * (unsigned)effect + (unsigned)call;
+        const unsigned answers = call == SIX_TICK ? six_samples(effect) : call == SIX_SILENT ? 1u : 0u;
+        c = six_good(effect, call, NULL, 0, 8000.0, 0.001);
+        memcpy(&state, &started, sizeof state);
+        out[0] = out[1] = out[2] = JUNK;
+        check(six_make(&state, &c, out) == ROOM_REFUSED_MEMORY, "no memory, at NULL", i);
+        check(memcmp(&state, call == SIX_START ? &zeros : &started, sizeof state) == 0, "no memory: the state is left", i);
+        check(all_same(out, none, answers), "no memory: it plays +0 and answers no", i);
+    }
+    c = six_good(effect, SIX_START, NULL, 0, nearer(8000.0), 0.001);
+    check(six_make(&state, &c, out) == ROOM_REFUSED_SAMPLE_RATE, "no memory and a wrong rate", (unsigned)effect);
+}
+
 void ends(void)
 {
     double *lent = calloc(WIDEST, sizeof *lent);
@@ -102,4 +130,9 @@ void ends(void)
               "places at 192,000", i);
     }
     free(lent);
+    lent_nothing(SIX_DELAY);
+    lent_nothing(SIX_CHORUS);
+    lent_nothing(SIX_FLANGER);
+    lent_nothing(SIX_VIBRATO);
+    lent_nothing(SIX_REVERB);
 }

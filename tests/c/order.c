@@ -42,16 +42,16 @@ static void spoil_delay(room_delay *state, unsigned way)
         state->write_pos = 501u;
         break;
     case 1:
-        state->distance = nearer(1.0);
+        state->smoothed_delay = nearer(1.0);
         break;
     case 2:
         state->sample_rate = (double)NAN;
         break;
     case 3:
-        state->coefficient = 1.0;
+        state->delay_smooth_coef = 1.0;
         break;
     default:
-        state->maximum = farther(60.0);
+        state->max_delay_secs = farther(60.0);
     }
 }
 

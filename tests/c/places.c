@@ -1,8 +1,6 @@
 /* What a controller asks at power-up: how many places an effect needs. */
 #include "calls.h"
 
-enum { DELAY = 1, CHORUS, FLANGER, VIBRATO, TREMOLO, REVERB };
-
 static const uint64_t none = UINT64_MAX;
 
 static void needed(uint32_t effect, double rate, double maximum, uint64_t count, unsigned i)
@@ -17,18 +15,18 @@ static void by_the_rate(void)
     const struct numbers rates = rates_accepted();
     unsigned i, k;
     for (i = 0; i < COUNT(maxima); i++) {
-        needed(CHORUS, 44100.0, maxima[i], 3u * 1421u, i);
-        needed(CHORUS, 8000.0, maxima[i], 3u * 266u, i);
-        needed(CHORUS, 192000.0, maxima[i], 3u * 6154u, i);
-        needed(FLANGER, 44100.0, maxima[i], 2u * 451u, i);
-        needed(FLANGER, 8000.0, maxima[i], 2u * 90u, i);
-        needed(FLANGER, 192000.0, maxima[i], 2u * 1930u, i);
-        needed(VIBRATO, 44100.0, maxima[i], 892u, i);
-        needed(VIBRATO, 8000.0, maxima[i], 170u, i);
-        needed(VIBRATO, 192000.0, maxima[i], 3850u, i);
+        needed(ROOM_CHORUS, 44100.0, maxima[i], 3u * 1421u, i);
+        needed(ROOM_CHORUS, 8000.0, maxima[i], 3u * 266u, i);
+        needed(ROOM_CHORUS, 192000.0, maxima[i], 3u * 6154u, i);
+        needed(ROOM_FLANGER, 44100.0, maxima[i], 2u * 451u, i);
+        needed(ROOM_FLANGER, 8000.0, maxima[i], 2u * 90u, i);
+        needed(ROOM_FLANGER, 192000.0, maxima[i], 2u * 1930u, i);
+        needed(ROOM_VIBRATO, 44100.0, maxima[i], 892u, i);
+        needed(ROOM_VIBRATO, 8000.0, maxima[i], 170u, i);
+        needed(ROOM_VIBRATO, 192000.0, maxima[i], 3850u, i);
         for (k = 0; k < rates.count; k++) {
-            needed(TREMOLO, rates.list[k], maxima[i], 0u, k);
-            needed(REVERB, rates.list[k], maxima[i], 87136u, k);
+            needed(ROOM_TREMOLO, rates.list[k], maxima[i], 0u, k);
+            needed(ROOM_REVERB, rates.list[k], maxima[i], 87136u, k);
         }
     }
 }
@@ -36,15 +34,15 @@ static void by_the_rate(void)
 static void by_the_maximum(void)
 {
     const double infinity = (double)INFINITY;
-    needed(DELAY, 44100.0, 2.0, 88201u, 0);
-    needed(DELAY, 8000.0, 0.001, 9u, 1);
-    needed(DELAY, 192000.0, 60.0, 11520001u, 2);
-    needed(DELAY, 192000.0, 61.0, 11520001u, 3);
-    needed(DELAY, 8000.0, -1.0, 9u, 4);
-    needed(DELAY, 44100.0, (double)NAN, 88201u, 5);
-    needed(DELAY, 44100.0, infinity, 88201u, 6);
-    needed(DELAY, 44100.0, -infinity, 88201u, 7);
-    needed(DELAY, 10260.0, 0.35, 3591u, 8); /* rate x maximum */
+    needed(ROOM_DELAY, 44100.0, 2.0, 88201u, 0);
+    needed(ROOM_DELAY, 8000.0, 0.001, 9u, 1);
+    needed(ROOM_DELAY, 192000.0, 60.0, 11520001u, 2);
+    needed(ROOM_DELAY, 192000.0, 61.0, 11520001u, 3);
+    needed(ROOM_DELAY, 8000.0, -1.0, 9u, 4);
+    needed(ROOM_DELAY, 44100.0, (double)NAN, 88201u, 5);
+    needed(ROOM_DELAY, 44100.0, infinity, 88201u, 6);
+    needed(ROOM_DELAY, 44100.0, -infinity, 88201u, 7);
+    needed(ROOM_DELAY, 10260.0, 0.35, 3591u, 8); /* rate x maximum */
 }
 
 void places(void)
@@ -55,7 +53,7 @@ void places(void)
     by_the_rate();
     by_the_maximum();
     for (i = 0; i < wrong.count; i++) {
-        for (k = DELAY; k <= REVERB; k++) {
+        for (k = ROOM_DELAY; k <= ROOM_REVERB; k++) {
             needed(k, wrong.list[i], 2.0, none, 10u * i + k);
         }
     }

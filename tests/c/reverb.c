@@ -102,7 +102,7 @@ static room_reverb even_reverb(uint64_t position, double store, double rate)
         *line_pos(&state, i) = position;
     }
     for (i = 0; i < 8u; i++) {
-        state.comb_store_l[i] = state.comb_store_r[i] = store;
+        state.comb_filter_state_l[i] = state.comb_filter_state_r[i] = store;
     }
     state.sample_rate = rate;
     return state;
@@ -127,8 +127,8 @@ room_reverb worn_reverb(const struct tuning *at)
         *line_pos(&state, i) = 7u * i % line_length(at, i);
     }
     for (i = 0; i < 8u; i++) {
-        state.comb_store_l[i] = stores[i];
-        state.comb_store_r[i] = stores[7u - i];
+        state.comb_filter_state_l[i] = stores[i];
+        state.comb_filter_state_r[i] = stores[7u - i];
     }
     return state;
 }
@@ -143,8 +143,8 @@ int reverb_is(const room_reverb *is, const room_reverb *should)
             return 0;
         }
     }
-    return all_same(a.comb_store_l, b.comb_store_l, 8u) && all_same(a.comb_store_r, b.comb_store_r, 8u) &&
-           same(a.sample_rate, b.sample_rate);
+    return all_same(a.comb_filter_state_l, b.comb_filter_state_l, 8u) &&
+           all_same(a.comb_filter_state_r, b.comb_filter_state_r, 8u) && same(a.sample_rate, b.sample_rate);
 }
 
 /* Ticks */

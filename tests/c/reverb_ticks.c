@@ -43,21 +43,21 @@ static void bench_cases(void)
     *at_pos(&state, LEFT_ALLPASS) = 1.0;
     *at_pos(&state, RIGHT_ALLPASS) = 1.0;
     tick_plays(&state, reverb_tick(1.0, HALF, QUARTER, 1.0), 1.0, 1.0, "the bench cases play", 0);
-    check(same(state.comb_store_l[0], 3.0) && same(tank[0], 2.5), "a comb that holds 4: store 3, writes 2.5", 0);
-    check(same(state.comb_store_l[1], 9.0) && same(tank[4096], 5.5), "a comb that holds 12", 0);
-    check(same(state.comb_store_r[0], 0.75) && same(tank[32768], 1.375), "a comb that holds 1", 0);
-    check(same(state.comb_store_r[7], 11.25) && same(tank[61440], 6.625), "a comb that holds 15", 0);
-    check(same(state.comb_store_l[7], 0.0) && same(tank[28672], 1.0), "a comb that holds 0", 0);
+    check(same(state.comb_filter_state_l[0], 3.0) && same(tank[0], 2.5), "a comb that holds 4: store 3, writes 2.5", 0);
+    check(same(state.comb_filter_state_l[1], 9.0) && same(tank[4096], 5.5), "a comb that holds 12", 0);
+    check(same(state.comb_filter_state_r[0], 0.75) && same(tank[32768], 1.375), "a comb that holds 1", 0);
+    check(same(state.comb_filter_state_r[7], 11.25) && same(tank[61440], 6.625), "a comb that holds 15", 0);
+    check(same(state.comb_filter_state_l[7], 0.0) && same(tank[28672], 1.0), "a comb that holds 0", 0);
     check(same(tank[65536], 2.5) && same(tank[71536], 2.5), "an all-pass that holds 1, input 2, writes 2.5", 0);
     check(same(tank[67036], -1.0) && same(tank[73036], -1.0), "it answers -1, which the second gets and writes", 0);
     check(same(tank[68536], 1.0) && same(tank[70036], -1.0), "the second answers 1, the third -1", 0);
     check(same(tank[77536], 1.0), "the predelay holds the audio", 0);
     state = before;
     quiet_tank();
-    state.comb_store_l[3] = 8.0;
+    state.comb_filter_state_l[3] = 8.0;
     *at_pos(&state, 3u) = 4.0;
     tick_plays(&state, reverb_tick(0.0, HALF, QUARTER, 1.0), 0.5, 0.0, "a store is damped", 1);
-    check(same(state.comb_store_l[3], 5.0) && same(tank[3u * 4096u], 2.5), "4 x 0.75 + 8 x 0.25, fed back", 1);
+    check(same(state.comb_filter_state_l[3], 5.0) && same(tank[3u * 4096u], 2.5), "4 x 0.75 + 8 x 0.25, fed back", 1);
 }
 
 /* Each line written at its position and nowhere else; each position one on, and from the last place in use back to 0. */
@@ -89,10 +89,10 @@ static void moves_at(const struct tuning *at, unsigned which)
         check(tank_kept(), "no other place is written", 10u * which + i);
         check(same(state.sample_rate, at->rate), "the rate stays", 10u * which + i);
         for (k = 0; k < 8u; k++) {
-            const double store_l = 0.25 * (1.0 - 0.25 * 0.4) + states[i].comb_store_l[k] * (0.25 * 0.4);
-            const double store_r = 0.25 * (1.0 - 0.25 * 0.4) + states[i].comb_store_r[k] * (0.25 * 0.4);
-            check(plays(state.comb_store_l[k], store_l) && plays(state.comb_store_r[k], store_r), "a store moves",
-                  100u * which + 10u * i + k);
+            const double store_l = 0.25 * (1.0 - 0.25 * 0.4) + states[i].comb_filter_state_l[k] * (0.25 * 0.4);
+            const double store_r = 0.25 * (1.0 - 0.25 * 0.4) + states[i].comb_filter_state_r[k] * (0.25 * 0.4);
+            check(plays(state.comb_filter_state_l[k], store_l) && plays(state.comb_filter_state_r[k], store_r),
+                  "a store moves", 100u * which + 10u * i + k);
         }
     }
 }
@@ -198,9 +198,9 @@ static void comb_goes(struct tick_of_reverb t, double damp, double feedback, con
 {
     const double store = 96.0 * (1.0 - damp) + 8.0 * damp;
     room_reverb state = playing();
-    state.comb_store_l[0] = 8.0;
+    state.comb_filter_state_l[0] = 8.0;
     tick_plays(&state, t, 6.5, 10.5, what, i);
-    check(same(state.comb_store_l[0], store), what, i);
+    check(same(state.comb_filter_state_l[0], store), what, i);
     check(same(tank[0], 1.0 + store * feedback), what, i);
 }
 
@@ -249,16 +249,16 @@ static void zeros(void)
     tick_plays(&state, reverb_tick(-0.0, 0.5, 0.5, -0.0), -0.0, -0.0, "a mix of -0 leaves it -0", 2);
     state = cleared_reverb(8000.0);
     quiet_tank();
-    state.comb_store_l[0] = 1.0;
+    state.comb_filter_state_l[0] = 1.0;
     *at_pos(&state, 0) = -0.0;
     tick_plays(&state, reverb_tick(0.0, 0.5, -0.0, 0.5), 0.0, 0.0, "a damping of -0", 3);
-    check(same(state.comb_store_l[0], -0.0), "-0 x 1 + 1 x -0", 3);
+    check(same(state.comb_filter_state_l[0], -0.0), "-0 x 1 + 1 x -0", 3);
     state = cleared_reverb(8000.0);
     quiet_tank();
-    state.comb_store_l[0] = 1.0;
+    state.comb_filter_state_l[0] = 1.0;
     *at_pos(&state, 0) = -0.0;
     tick_plays(&state, reverb_tick(0.0, 0.5, 0.0, 0.5), 0.0, 0.0, "a damping of +0", 4);
-    check(same(state.comb_store_l[0], 0.0), "-0 x 1 + 1 x +0", 4);
+    check(same(state.comb_filter_state_l[0], 0.0), "-0 x 1 + 1 x +0", 4);
 }
 
 /* Samples and stores that are not finite are taken as they are. */
@@ -271,7 +271,7 @@ static void not_finite_combs(void)
         const int left = line < RIGHT_COMB;
         double *store;
         state = cleared_reverb(8000.0);
-        store = left ? &state.comb_store_l[line] : &state.comb_store_r[line - RIGHT_COMB];
+        store = left ? &state.comb_filter_state_l[line] : &state.comb_filter_state_r[line - RIGHT_COMB];
         quiet_tank();
         *store = infinity;
         tick_plays(&state, reverb_tick(0.0, 0.5, 0.5, 0.5), 0.0, 0.0, "a store of infinity is not heard at once", line);
@@ -280,7 +280,7 @@ static void not_finite_combs(void)
         tick_plays(&state, reverb_tick(0.0, 0.5, 0.5, 0.5), left ? infinity : 0.0, left ? 0.0 : infinity,
                    "a sample of infinity is played", line);
         state = cleared_reverb(8000.0);
-        store = left ? &state.comb_store_l[line] : &state.comb_store_r[line - RIGHT_COMB];
+        store = left ? &state.comb_filter_state_l[line] : &state.comb_filter_state_r[line - RIGHT_COMB];
         quiet_tank();
         *store = ODD_NAN;
         tick_plays(&state, reverb_tick(0.0, 0.5, 0.0, 0.5), 0.0, 0.0, "a store of NaN is not heard at once", line);
@@ -358,7 +358,7 @@ static void mask(void)
     const double nan_ = (double)NAN;
     room_reverb state = playing();
     double out[2] = {JUNK, JUNK};
-    check(room_raw_reverb_tick(state.comb_pos_l, state.comb_pos_r, state.comb_store_l, state.comb_store_r,
+    check(room_raw_reverb_tick(state.comb_pos_l, state.comb_pos_r, state.comb_filter_state_l, state.comb_filter_state_r,
                                state.allpass_pos_l, state.allpass_pos_r, &state.predelay_pos, 8000.0, tank, TANK,
                                UINT32_C(0xffffffe1), 1.0, nan_, nan_, nan_, nan_, out) == 0,
           "audio and the other bits", 0);

@@ -115,7 +115,7 @@ static int in_unit(double phase)
 
 static int within(const room_delay *state)
 {
-    return state->distance >= 1.0 && state->distance <= (double)(DELAY_LENGTH - 1u);
+    return state->smoothed_delay >= 1.0 && state->smoothed_delay <= (double)(DELAY_LENGTH - 1u);
 }
 
 static void number_facts(const struct room *room)
@@ -124,7 +124,7 @@ static void number_facts(const struct room *room)
     fact(in_unit(phases[0]) && in_unit(phases[1]) && in_unit(phases[2]) && in_unit(room->flanger.lfo_phase) &&
              in_unit(room->vibrato.lfo_phase) && in_unit(room->tremolo.lfo_phase),
          "each phase is at least 0 and below 1");
-    fact(room->ticks == 0u || (within(&room->delay) && room->delay.primed == 1u && within(&room->linear)),
+    fact(room->ticks == 0u || (within(&room->delay) && room->delay.delay_primed == 1u && within(&room->linear)),
          "the delays' distances are 1 to L - 1");
     fact(room->refused == 0u, "no tick was refused");
     fact(room->unsound == 0.0, "what plays under the input rule is finite");
@@ -169,8 +169,8 @@ void line_facts(const struct room *room)
 
 static int delay_cleared(const room_delay *s)
 {
-    return s->write_pos == 0u && plus_zero(&s->distance, 1) && s->primed == 0u && s->sample_rate == RATE &&
-           s->maximum == MAXIMUM;
+    return s->write_pos == 0u && plus_zero(&s->smoothed_delay, 1) && s->delay_primed == 0u && s->sample_rate == RATE &&
+           s->max_delay_secs == MAXIMUM;
 }
 
 void cleared_facts(const struct room *room)
@@ -182,12 +182,13 @@ void cleared_facts(const struct room *room)
         good = good && (i == TREMOLO || plus_zero(room->lent[i], room->places[i]));
     }
     fact(good, "after a reset every place is +0, spare ones too");
-    fact(delay_cleared(&room->delay) && delay_cleared(&room->linear) && room->delay.linear == 0u && room->linear.linear == 1u,
+    fact(delay_cleared(&room->delay) && delay_cleared(&room->linear) && room->delay.linear_time == 0u &&
+             room->linear.linear_time == 1u,
          "after a reset the delays are not primed, their distances +0");
     fact(plus_zero(phases, 1) && phases[1] == 0.33 && phases[2] == 0.67 && plus_zero(&room->flanger.lfo_phase, 1) &&
              plus_zero(&room->vibrato.lfo_phase, 1) && plus_zero(&room->tremolo.lfo_phase, 1),
          "after a reset the phases are those of a start");
-    fact(plus_zero(room->reverb.comb_store_l, 8) && plus_zero(room->reverb.comb_store_r, 8),
+    fact(plus_zero(room->reverb.comb_filter_state_l, 8) && plus_zero(room->reverb.comb_filter_state_r, 8),
          "after a reset the damping stores are +0");
     line_facts(room);
 }

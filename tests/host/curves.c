@@ -125,9 +125,9 @@ static void units(void)
     begin(&u, "delay");
     near("delay starts", u.kind->start(&u, 8000.0), 0.0);
     near("delay's time", u.milliseconds, 44.721359549995796);
-    near("delay's glide after a start", u.state.delay.coefficient, 0.9753099120283326);
+    near("delay's glide after a start", u.state.delay.delay_smooth_coef, 0.9753099120283326);
     near("delay retunes", u.kind->retune(&u, 44100.0), 0.0);
-    near("delay's glide after a retune", u.state.delay.coefficient, 0.9954751208601006);
+    near("delay's glide after a retune", u.state.delay.delay_smooth_coef, 0.9954751208601006);
 }
 
 int main(void)

@@ -22,14 +22,14 @@ use Rattle.port.specs.Port.{valueOr, isNanSet}
 use Rattle.port.specs.Answer.{Reply, played}
 use Rattle.common.specs.Signal.{sanitized}
 use Rattle.common.specs.Line.{nextPlace, lineAt, readAt}
-use Rattle.common.proofs.Sweep.{size-tests, small, no-cause, neither, part-length, part-read}
+use Rattle.common.proofs.Sweep.{neither, no-cause, part-length, part-read, size-most, size-tests, size-times}
 use Rattle.effect.specs.Effect.{laid}
 use Rattle.effect.specs.Lines.{inEach}
 use Rattle.effect.specs.Run.{tick, numberIn}
 use Rattle.effect.specs.Contract.{Does}
 use Rattle.effect.proofs.Contract.{accepts}
 use Rattle.chorus.specs.declared.Chorus.{Chorus}
-use Rattle.chorus.specs.Chorus.{Tick, tickOf, chorus, lineLength, Phases, phasesOf, factor, stepped, nextPhases, stateFits, tickNumber, input, depth, mix, distance, voice, mixed, next, writes}
+use Rattle.chorus.specs.Chorus.{Tick, tickOf, chorus, lineLength, places, Phases, phasesOf, factor, stepped, nextPhases, stateFits, tickNumber, input, depth, mix, distance, voice, mixed, next, writes}
 use Rattle.chorus.specs.Chorus as page
 
 -- ---- the length of a line
@@ -39,11 +39,16 @@ module _ (rate : Float) (h : rateFits rate ≡ true) where
   unfolding lineLength
   length-fits = let l = length-32 rate h in (omega arith, omega arith)
 
-  -- rate × 32 / 1000 is small enough for the quick whole part
-  pub samples-small : T (le (ofNat 1) (samples rate (ofNat 32))) × T (lt (samples rate (ofNat 32)) (ofNat 9007199254740992))
-  unfolding Ieee.fits le lt mul div ofInt
-  samples-small =
-      small (div-in (ofNat 1) (ofNat 16777216) tt tt tt (mul-in (ofNat 256000) (ofNat 6144000) tt tt tt (rate-in h) (point (ofNat 32) tt)) (point (ofNat 1000) tt))
+  pub some-places : 1 ≤ places rate
+  some-places = omega (arith, length-fits .0)
+
+-- the same of n, a line's length that is 0 at a refused rate
+module _ (rate : Float) {n : ℕ} (e : n ≡ cond (rateFits rate) (lineLength rate) 0) where
+  pub short : n ≤ 6154
+  short = size-most (rateFits rate) (lineLength rate) 6154 e (λ h. length-fits rate h .1)
+
+  pub in-lines : 3 * n ≡ cond (rateFits rate) (places rate) 0
+  in-lines = size-times 3 (rateFits rate) (lineLength rate) e
 
 -- ---- the factors of the voices, as the code has them. Each side is computed by itself: against each other they are compared step by step
 

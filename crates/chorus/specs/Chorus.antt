@@ -5,11 +5,11 @@ use mathlib.Core.List.{List, [], _∷_}
 use lib.Dec.{ltb}
 use lib.ListN.{take}
 use lib.Ieee.{Float, binary64, add, sub, mul, div}
-use Rattle.float64.specs.Number.{plusZero, ofNat, fraction, half, rateFits, phaseFits, frequencyFits, sineFits, clampOf, wholePart}
+use Rattle.float64.specs.Number.{plusZero, ofNat, fraction, half, rateFits, phaseFits, frequencyFits, sineFits, clampOf}
 use Rattle.port.specs.declared.Port.{Port}
 use Rattle.port.specs.Port.{valueOr, isNanSet}
 use Rattle.common.specs.Signal.{sanitized, blended, advanced, causeNumber}
-use Rattle.common.specs.Line.{lineAt, readAt, nextPlace, allZero}
+use Rattle.common.specs.Line.{sweptLength, lineAt, readAt, nextPlace, allZero}
 use Rattle.effect.specs.Effect.{Effect, Write}
 use Rattle.effect.specs.Lines.{Lines, inEach}
 use Rattle.chorus.specs.declared.Chorus.{Chorus}
@@ -30,7 +30,7 @@ tickOf audio depth mix frequency sine0 sine1 sine2 =
 
 -- L: the whole part of rate × 32 / 1000, plus 10; 32 is 25 (MAX_MOD_DELAY_MS) and 7 (BASE_DELAY_MS)
 unfoldable pub lineLength : Float → ℕ
-lineLength rate = wholePart (div binary64 (mul binary64 rate (ofNat 32)) (ofNat 1000)) + 10
+lineLength rate = sweptLength (ofNat 32) rate
 
 -- three lines follow each other from place 0
 abbrev pub places : Float → ℕ

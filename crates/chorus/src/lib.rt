@@ -8,14 +8,13 @@ ghost use Rattle.float64.specs.Number.{ofNat, half, isNumber, rateFits, clampOf
 ghost use Rattle.port.specs.declared.Port.the-variants.{Set};
 ghost use Rattle.port.specs.Answer.{numberOf, outcomeReply, answerReply, silenceReply, played};
 ghost use Rattle.common.specs.Line.{lineAt, readAt, nextPlace};
-ghost use Rattle.effect.specs.Run.{tick, retune, reset, ask, startNumber, numberIn};
+ghost use Rattle.effect.specs.Run.{tick, retune, reset, ask, ifNone, startNumber, numberIn};
 ghost use Rattle.effect.specs.Contract.{Does, Starts};
 ghost use Rattle.effect.specs.Needed.{placesNeeded};
 ghost use Rattle.chorus.specs.Chorus.{chorus, tickOf, lineLength, phasesOf, nextPhases, cleared, fresh, stateFits, mixed};
 use port::Answer;
 use port::Outcome;
 use port::Port;
-use port::Refusal;
 use port::Silence;
 
 pub struct Chorus {
@@ -43,26 +42,18 @@ impl Chorus {
 
     pub const BASE_DELAY_MS: f64 = 7.0;
 
-    // The places of a line. A refused rate gives 0, so that no position fits.
+    // The places of a line; 0 at a refused rate.
     fn line_length(rate: f64) -> u64
         ensures { λ r. ⌜ r ≡ cond (rateFits rate) (lineLength rate) 0 ⌝ }
     {
-        if !float64::rate_fits(rate) {
-            return 0;
-        }
-        let samples = rate * (Chorus::MAX_MOD_DELAY_MS + Chorus::BASE_DELAY_MS) / 1000.0;
-        float64::whole_part_small(samples) + 10
+        common::line_length(rate, Chorus::MAX_MOD_DELAY_MS + Chorus::BASE_DELAY_MS)
     }
 
     // The places that a start needs at the rate; 2^64 - 1 for a rate that is refused.
     pub fn places_needed(rate: f64) -> u64
         ensures { λ r. ⌜ r ≡ placesNeeded chorus rate ⌝ }
     {
-        let n = Chorus::line_length(rate);
-        if n == 0 {
-            return 0xffff_ffff_ffff_ffff;
-        }
-        3 * n
+        effect::places_or_none(3 * Chorus::line_length(rate))
     }
 
     // Position 0, with the phases and the rate.
@@ -89,29 +80,36 @@ impl Chorus {
     fn rate_refusal(rate: f64, places: usize) -> Outcome
         ensures { λ r. ⌜ numberOf r ≡ startNumber chorus rate places ⌝ }
     {
-        let n = Chorus::line_length(rate);
-        if n == 0 {
-            return Outcome::Refused(Refusal::SampleRate);
+        effect::check_rate(3 * Chorus::line_length(rate), places)
+    }
+
+    // What a start, a retune or a reset returns, by the outcome of its tests: the state `next`, or `kept`.
+    fn settled(outcome: Outcome, next: Chorus, kept: Chorus) -> Cleared
+        ensures { λ r. ⌜ (r .state ≡ ifNone (numberOf outcome) next kept) × (r .outcome ≡ outcome) ⌝ }
+    {
+        if let Outcome::Accepted = outcome {
+            return Cleared {
+                state: next,
+                outcome,
+            };
         }
-        effect::check_memory(3 * n, places)
+        Cleared {
+            state: kept,
+            outcome,
+        }
     }
 
     // Start: the start phases, at the rate.
     pub fn new(sample_rate: f64, mem: &mut [f64]) -> Cleared
         ensures { λ r. ⌜ Starts chorus «sample_rate» (now (mem .entry)) (r .state) (now (mem .exit)) (outcomeReply (r .outcome)) ⌝ }
     {
-        let refusal = Chorus::rate_refusal(sample_rate, mem.len());
-        if let Outcome::Refused(cause) = refusal {
-            return Cleared {
-                state: Chorus::cleared(0.0, 0.0, 0.0, 0.0),
-                outcome: Outcome::Refused(cause),
-            };
-        }
-        common::clear(mem);
-        Cleared {
-            state: Chorus::fresh(sample_rate),
-            outcome: Outcome::Accepted,
-        }
+        let outcome = Chorus::rate_refusal(sample_rate, mem.len());
+        effect::clear(outcome, mem);
+        Chorus::settled(
+            outcome,
+            Chorus::fresh(sample_rate),
+            Chorus::cleared(0.0, 0.0, 0.0, 0.0),
+        )
     }
 
     // The state test, where n is the length of a line.
@@ -121,7 +119,7 @@ impl Chorus {
     {
         self.write_pos < n
             && (float64::phase_fits(self.lfo_phase0)
-                & (float64::phase_fits(self.lfo_phase1) & float64::phase_fits(self.lfo_phase2)))
+                && (float64::phase_fits(self.lfo_phase1) && float64::phase_fits(self.lfo_phase2)))
     }
 
     // Causes 4 and 3: a state that fails its test, and memory that is too short for it.
@@ -129,10 +127,7 @@ impl Chorus {
         requires { ⌜ n ≡ cond (rateFits (self .«sample_rate»)) (lineLength (self .«sample_rate»)) 0 ⌝ }
         ensures { λ r. ⌜ numberOf r ≡ numberIn chorus reset places self ⌝ }
     {
-        if !self.state_fits(n) {
-            return Outcome::Refused(Refusal::State);
-        }
-        effect::check_memory(3 * n, places)
+        effect::check_state(self.state_fits(n), effect::check_memory(3 * n, places))
     }
 
     // Retune: a clearing at another rate, which keeps the phases.
@@ -140,29 +135,16 @@ impl Chorus {
         ensures { λ r. ⌜ Does chorus (retune «sample_rate») self (now (mem .entry)) (r .state) (now (mem .exit)) (outcomeReply (r .outcome)) ⌝ }
     {
         let n = Chorus::line_length(self.sample_rate);
-        if !self.state_fits(n) {
-            return Cleared {
-                state: self,
-                outcome: Outcome::Refused(Refusal::State),
-            };
-        }
-        let refusal = Chorus::rate_refusal(sample_rate, mem.len());
-        if let Outcome::Refused(cause) = refusal {
-            return Cleared {
-                state: self,
-                outcome: Outcome::Refused(cause),
-            };
-        }
-        common::clear(mem);
-        Cleared {
-            state: Chorus::cleared(
-                self.lfo_phase0,
-                self.lfo_phase1,
-                self.lfo_phase2,
-                sample_rate,
-            ),
-            outcome: Outcome::Accepted,
-        }
+        let others = Chorus::rate_refusal(sample_rate, mem.len());
+        let outcome = effect::check_state(self.state_fits(n), others);
+        effect::clear(outcome, mem);
+        let next = Chorus::cleared(
+            self.lfo_phase0,
+            self.lfo_phase1,
+            self.lfo_phase2,
+            sample_rate,
+        );
+        Chorus::settled(outcome, next, self)
     }
 
     // Reset: a clearing at the rate in force, with the start phases again.
@@ -170,18 +152,9 @@ impl Chorus {
         ensures { λ r. ⌜ Does chorus reset self (now (mem .entry)) (r .state) (now (mem .exit)) (outcomeReply (r .outcome)) ⌝ }
     {
         let n = Chorus::line_length(self.sample_rate);
-        let refusal = self.refusal(n, mem.len());
-        if let Outcome::Refused(cause) = refusal {
-            return Cleared {
-                state: self,
-                outcome: Outcome::Refused(cause),
-            };
-        }
-        common::clear(mem);
-        Cleared {
-            state: Chorus::fresh(self.sample_rate),
-            outcome: Outcome::Accepted,
-        }
+        let outcome = self.refusal(n, mem.len());
+        effect::clear(outcome, mem);
+        Chorus::settled(outcome, Chorus::fresh(self.sample_rate), self)
     }
 
     // Silent? Whether every place of the three lines is +0 or -0.
@@ -189,29 +162,18 @@ impl Chorus {
         ensures { λ r. ⌜ Does chorus ask self (now (mem .entry)) self (now (mem .entry)) (silenceReply r) ⌝ }
     {
         let n = Chorus::line_length(self.sample_rate);
-        let refusal = self.refusal(n, mem.len());
-        if let Outcome::Refused(cause) = refusal {
-            return Silence::Refused(cause);
-        }
-        let used = (3 * n) as usize;
-        if common::all_zero(&mem[..used]) {
-            Silence::Silent
-        } else {
-            Silence::Sounding
-        }
+        let outcome = self.refusal(n, mem.len());
+        effect::silence(outcome, (3 * n) as usize, mem)
     }
 
     // base + (sine x 0.5 + 0.5) x swing, clamped to 1 to n - 1, n the length of a line.
     fn distance(n: usize, base: f64, swing: f64, sine: f64) -> f64
         requires { ⌜ 2 ≤ n ⌝ }
         requires { ⌜ n ≤ 16777217 ⌝ }
-        ensures { λ r. ⌜ r ≡ clampOf (add binary64 base (mul binary64 (add binary64 (mul binary64 sine half) half) swing)) (ofNat 1) (ofNat (n - 1)) ⌝ }
+        ensures { λ r. ⌜ r ≡ clampOf (add binary64 base (mul binary64 (add binary64 (mul binary64 sine half) half) swing)) (ofNat 1)
+            (ofNat (n - 1)) ⌝ }
     {
-        let last = n - 1;
-        float64::at_most(
-            float64::at_least(base + (sine * 0.5 + 0.5) * swing, 1.0),
-            std::num::nearest_u64_to_f64(last as u32 as u64),
-        )
+        common::held_to_line(base + (sine * 0.5 + 0.5) * swing, (n - 1) as u32)
     }
 
     // What a voice reads in its line, at its own distance.
@@ -220,7 +182,9 @@ impl Chorus {
         requires { ⌜ 2 ≤ length (now line) ⌝ }
         requires { ⌜ length (now line) ≤ 16777217 ⌝ }
         requires { ⌜ isNumber (add binary64 base (mul binary64 (add binary64 (mul binary64 sine half) half) swing)) ≡ true ⌝ }
-        ensures { λ r. ⌜ r ≡ readAt (lineAt 0 (length (now (line .entry))) w (now (line .entry))) (clampOf (add binary64 base (mul binary64 (add binary64 (mul binary64 sine half) half) swing)) (ofNat 1) (ofNat (length (now (line .entry)) - 1))) ⌝ }
+        ensures { λ r. ⌜ r ≡ readAt (lineAt 0 (length (now (line .entry))) w (now (line .entry)))
+            (clampOf (add binary64 base (mul binary64 (add binary64 (mul binary64 sine half) half) swing)) (ofNat 1)
+            (ofNat (length (now (line .entry)) - 1))) ⌝ }
     {
         common::read_interpolated(line, w, Chorus::distance(line.len(), base, swing, sine))
     }
@@ -270,8 +234,10 @@ impl Chorus {
         sine2: f64,
     ) -> Ticked
         requires { ⌜ n ≡ lineLength (self .«sample_rate») ⌝ }
-        requires { ⌜ numberIn chorus (tick (tickOf (Set audio) (Set depth) (Set mix) frequency sine0 sine1 sine2)) (length (now mem)) self ≡ 0 ⌝ }
-        ensures { λ r. ⌜ Does chorus (tick (tickOf (Set audio) (Set depth) (Set mix) frequency sine0 sine1 sine2)) self (now (mem .entry)) (r .state) (now (mem .exit)) (answerReply (r .answer)) ⌝ }
+        requires { ⌜ numberIn chorus (tick (tickOf (Set audio) (Set depth) (Set mix) frequency sine0 sine1 sine2)) (length (now mem)) self
+            ≡ 0 ⌝ }
+        ensures { λ r. ⌜ Does chorus (tick (tickOf (Set audio) (Set depth) (Set mix) frequency sine0 sine1 sine2)) self (now (mem .entry))
+            (r .state) (now (mem .exit)) (answerReply (r .answer)) ⌝ }
     {
         let state = self.next(n, frequency);
         let rate = self.sample_rate;
@@ -304,7 +270,8 @@ impl Chorus {
         sine1: f64,
         sine2: f64,
     ) -> Ticked
-        ensures { λ r. ⌜ Does chorus (tick (tickOf audio depth mix frequency sine0 sine1 sine2)) self (now (mem .entry)) (r .state) (now (mem .exit)) (answerReply (r .answer)) ⌝ }
+        ensures { λ r. ⌜ Does chorus (tick (tickOf audio depth mix frequency sine0 sine1 sine2)) self (now (mem .entry)) (r .state)
+            (now (mem .exit)) (answerReply (r .answer)) ⌝ }
     {
         let n = Chorus::line_length(self.sample_rate);
         let refusal = self.refusal(n, mem.len());

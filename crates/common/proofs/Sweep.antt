@@ -1,6 +1,7 @@
 -- What the effects with swept lines share: the length of a line that is 0 for a refused rate, distances clamped to a line, controls that are not NaN, and
 -- reads in the part of the memory that is a line. Assumes nothing.
-use Prim.Native.Nat.{ℕ, _+_, _^_, _≤_, _<_, zero-le}
+use Prim.Native.Nat.{ℕ, _+_, _*_, _^_, _≤_, _<_, zero-le}
+use native.Mathlib.Nat.{mul-zero}
 use native.Mathlib.Omega.{arith}
 use mathlib.Core.Path.{_≡_, refl, ap, _∙_}
 use mathlib.Core.Logic.{_≢_}
@@ -9,18 +10,19 @@ use mathlib.Core.List.{List}
 use lib.Dec.{T, ltb}
 use lib.ListN.{length, take, drop, length-drop}
 use lib.Seq.{length-take-le}
-use lib.Ieee.{Float, binary64, fits, isNan, le, lt, ofInt}
+use lib.Ieee.{Float, binary64, fits, isNan, mul, div, le, lt, ofInt}
 use borrow.Author.Tests.{not-false, le-ltb}
-use Rattle.float64.specs.Number.{plusZero, ofNat, isNumber, clampOf, atLeast, atMost}
+use Rattle.float64.specs.Number.{plusZero, ofNat, isNumber, rateFits, clampOf, atLeast, atMost}
 use Rattle.float64.proofs.Order.{le-lt-lt, le-transitive, le→not-lt}
-use Rattle.float64.proofs.Interval.{In, hi-fits}
+use Rattle.float64.proofs.Interval.{In, hi-fits, point, mul-in, div-in}
+use Rattle.float64.proofs.Ranges.{rate-in, range-in}
 use Rattle.float64.proofs.Clamped.{clamp-in, clamp-halves}
 use Rattle.float64.proofs.Parts.{clamp-whole-in}
 use Rattle.port.specs.declared.Port.{Port}
 use Rattle.port.specs.declared.Port.the-variants.{Set, Unset}
 use Rattle.port.specs.Port.{valueOr, isNanSet}
 use Rattle.common.specs.Signal.{causeNumber}
-use Rattle.common.specs.Line.{lineAt, readAt}
+use Rattle.common.specs.Line.{sweepFits, lineAt, readAt}
 use Rattle.common.proofs.Ring.{part-line}
 
 -- ---- a line's length L where the rate fits, and 0 where it does not
@@ -40,6 +42,26 @@ size-none false L e some z = refl
 pub size-tests : {n : ℕ} (b : Bool) (L w : ℕ) (p : ℕ → Bool) → n ≡ cond b L 0 → b && (ltb w L && p L) ≡ ltb w n && p n
 size-tests true L w p e = rw e
 size-tests false L w p e = rw (e, le-ltb w 0 zero-le)
+
+-- also where the milliseconds are tested beside the rate, and pass
+pub size-swept : {n : ℕ} (b c : Bool) (L : ℕ) → c ≡ true → n ≡ cond (b && c) L 0 → n ≡ cond b L 0
+size-swept true c L h e = rw h at e
+size-swept false c L h e = e
+
+pub size-most : {n : ℕ} (b : Bool) (L most : ℕ) → n ≡ cond b L 0 → (b ≡ true → L ≤ most) → n ≤ most
+size-most true L most e h = omega (arith, h refl)
+size-most false L most e h = omega arith
+
+-- k lines of that length
+pub size-times : {n : ℕ} (k : ℕ) (b : Bool) (L : ℕ) → n ≡ cond b L 0 → k * n ≡ cond b (k * L) 0
+size-times k true L e = ap (λ (x : ℕ). k * x) e
+size-times k false L e = rw e (mul-zero k)
+
+-- rate × milliseconds / 1000
+pub swept-in : (rate milliseconds : Float) → rateFits rate ≡ true → sweepFits milliseconds ≡ true
+    → In binary64 (ofNat 8) (ofNat 19200) (div binary64 (mul binary64 rate milliseconds) (ofNat 1000))
+unfolding fits le lt mul div ofInt
+swept-in rate milliseconds h k = div-in (ofNat 8) (ofNat 19200) tt tt tt (mul-in (ofNat 8000) (ofNat 19200000) tt tt tt (rate-in h) (range-in tt k)) (point (ofNat 1000) tt)
 
 -- ---- distances
 

@@ -1,12 +1,12 @@
 // What the effects share: the input rule, dry/wet, phases, and lines in lent memory.
 ghost use mathlib.Core.Path.{_≡_};
-ghost use mathlib.Core.Bool.{true};
+ghost use mathlib.Core.Bool.{true, cond, _&&_};
 ghost use Prim.Native.Nat.{_-_, _≤_, _<_};
 ghost use lib.ListN.{length};
-ghost use Rattle.float64.specs.Number.{ofNat, inRange};
+ghost use Rattle.float64.specs.Number.{ofNat, inRange, rateFits, atLeast, atMost};
 ghost use Rattle.port.specs.Answer.{numberOf};
 ghost use Rattle.common.specs.Signal.{sanitized, blended, advanced, causeNumber};
-ghost use Rattle.common.specs.Line.{zeros, place, nextPlace, lineAt, readAt, allZero};
+ghost use Rattle.common.specs.Line.{sweptLength, sweepFits, zeros, place, nextPlace, lineAt, readAt, allZero};
 use port::Outcome;
 use port::Refusal;
 
@@ -50,6 +50,24 @@ pub fn tick_causes(control_nan: bool, curves_fit: bool) -> Outcome
         return Outcome::Refused(Refusal::Curve);
     }
     Outcome::Accepted
+}
+
+// The places of a swept line. A refused rate gives 0, so that no position fits. The milliseconds are a constant of the effect's: their test is gone in
+// the compiled code.
+pub fn line_length(rate: f64, milliseconds: f64) -> u64
+    ensures { λ r. ⌜ r ≡ cond (rateFits rate && sweepFits milliseconds) (sweptLength milliseconds rate) 0 ⌝ }
+{
+    if !(float64::rate_fits(rate) & float64::in_range(milliseconds, 1.0, 100.0)) {
+        return 0;
+    }
+    float64::whole_part_small(rate * milliseconds / 1000.0) + 10
+}
+
+// A distance held to a line: at least 1, and at most the last place. Two instructions, where a clamp has branches.
+pub fn held_to_line(distance: f64, last: u32) -> f64
+    ensures { λ r. ⌜ r ≡ atMost (atLeast distance (ofNat 1)) (ofNat last) ⌝ }
+{
+    float64::at_most(float64::at_least(distance, 1.0), float64::from_u32(last))
 }
 
 // The place d samples behind w in a line of n places. A comparison in place of the `%` of the definition.
@@ -101,7 +119,7 @@ pub fn read_interpolated(line: &[f64], w: usize, distance: f64) -> f64
     let n = line.len();
     let whole = float64::whole_part_small(distance);
     let d = whole as usize;
-    let f = distance - std::num::nearest_u64_to_f64(whole as u32 as u64);
+    let f = distance - float64::from_u32(whole as u32);
     let p = place_back(n, w, d);
     let q = place_before(n, p);
     blend(line[p], line[q], f)

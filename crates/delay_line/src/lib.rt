@@ -9,7 +9,7 @@ ghost use Rattle.float64.specs.Number.{plusZero, ofNat, fraction, isNumber, rat
 ghost use Rattle.port.specs.declared.Port.the-variants.{Set, Unset};
 ghost use Rattle.port.specs.Answer.{played, numberOf, outcomeReply, answerReply, silenceReply};
 ghost use Rattle.common.specs.Signal.{sanitized, blended};
-ghost use Rattle.effect.specs.Run.{tick, retune, reset, ask, first, memoryNumber, numberIn};
+ghost use Rattle.effect.specs.Run.{tick, retune, reset, ask, first, memoryNumber, numberIn, ifNone};
 ghost use Rattle.effect.specs.Contract.{Does, Starts};
 ghost use Rattle.effect.specs.Needed.{placesNeeded};
 ghost use Rattle.delay_line.specs.DelayLine.{delayLine, handing, startSettings, retuning, tickOf, heldMaximum, settingsNumber, maximumFits, lineLength, cleared, glideFits, stateFits, samplesOf, glided, readsAt, delayedBy, moved};
@@ -83,11 +83,8 @@ impl DelayLine {
     pub fn places_needed(rate: f64, seconds: f64) -> u64
         ensures { λ r. ⌜ r ≡ placesNeeded delayLine (startSettings (handing rate plusZero seconds false)) ⌝ }
     {
-        let n = DelayLine::line_length(rate, DelayLine::held_maximum(seconds));
-        if n == 0 {
-            return 0xffff_ffff_ffff_ffff;
-        }
-        n
+        let maximum = DelayLine::held_maximum(seconds);
+        effect::places_or_none(DelayLine::line_length(rate, maximum))
     }
 
     // Position 0 and the glide unprimed, with these settings.
@@ -107,8 +104,9 @@ impl DelayLine {
 
     // Causes 1, 2 and 3, where the maximum is in its range.
     fn settings_refusal(rate: f64, coefficient: f64, maximum: f64, places: usize) -> Outcome
-        requires { ⌜ maximumFits maximum ≡ true ⌝ }
-        ensures { λ r. ⌜ numberOf r ≡ first (settingsNumber rate coefficient) (memoryNumber (lineLength rate maximum) places) ⌝ }
+        ensures { λ r. ⌜
+            (maximumFits maximum ≡ true → numberOf r ≡ first (settingsNumber rate coefficient)
+            (memoryNumber (lineLength rate maximum) places)) ⌝ }
     {
         let n = DelayLine::line_length(rate, maximum);
         if n == 0 {
@@ -120,6 +118,22 @@ impl DelayLine {
         effect::check_memory(n, places)
     }
 
+    // What a start, a retune or a reset returns, by the outcome of its tests: the state `next`, or `kept`.
+    fn settled(outcome: Outcome, next: DelayLine, kept: DelayLine) -> Cleared
+        ensures { λ r. ⌜ (r .state ≡ ifNone (numberOf outcome) next kept) × (r .outcome ≡ outcome) ⌝ }
+    {
+        if let Outcome::Accepted = outcome {
+            return Cleared {
+                state: next,
+                outcome,
+            };
+        }
+        Cleared {
+            state: kept,
+            outcome,
+        }
+    }
+
     // Start, with the glide coefficient from the host; `linear` is the Rust's `with_linear_time`.
     pub fn with_max_delay(
         sample_rate: f64,
@@ -128,30 +142,14 @@ impl DelayLine {
         linear: bool,
         mem: &mut [f64],
     ) -> Cleared
-        ensures { λ r. ⌜ Starts delayLine (handing «sample_rate» coefficient «max_delay_secs» linear) (now (mem .entry)) (r .state) (now (mem .exit)) (outcomeReply (r .outcome)) ⌝ }
+        ensures { λ r. ⌜ Starts delayLine (handing «sample_rate» coefficient «max_delay_secs» linear) (now (mem .entry)) (r .state)
+            (now (mem .exit)) (outcomeReply (r .outcome)) ⌝ }
     {
         let maximum = DelayLine::held_maximum(max_delay_secs);
-        let refusal = DelayLine::settings_refusal(sample_rate, coefficient, maximum, mem.len());
-        if let Outcome::Refused(cause) = refusal {
-            return Cleared {
-                state: DelayLine::cleared(0.0, 0.0, 0.0, false),
-                outcome: Outcome::Refused(cause),
-            };
-        }
-        common::clear(mem);
-        Cleared {
-            state: DelayLine::cleared(sample_rate, coefficient, maximum, linear),
-            outcome: Outcome::Accepted,
-        }
-    }
-
-    // n - 1, the farthest distance in a line of n places, as a float.
-    fn last(n: u64) -> f64
-        requires { ⌜ 1 ≤ n ⌝ }
-        requires { ⌜ n ≤ 11520001 ⌝ }
-        ensures { λ r. ⌜ r ≡ ofNat (n - 1) ⌝ }
-    {
-        std::num::nearest_u64_to_f64((n - 1) as u32 as u64)
+        let outcome = DelayLine::settings_refusal(sample_rate, coefficient, maximum, mem.len());
+        effect::clear(outcome, mem);
+        let next = DelayLine::cleared(sample_rate, coefficient, maximum, linear);
+        DelayLine::settled(outcome, next, DelayLine::cleared(0.0, 0.0, 0.0, false))
     }
 
     // The glide distance in a line of n places: +0 while unprimed, else 1 to n - 1.
@@ -161,14 +159,15 @@ impl DelayLine {
         ensures { λ r. ⌜ r ≡ glideFits (self .«delay_primed») (self .«smoothed_delay») n ⌝ }
     {
         if self.delay_primed {
-            return float64::in_range(self.smoothed_delay, 1.0, DelayLine::last(n));
+            return float64::in_range(self.smoothed_delay, 1.0, float64::from_u32((n - 1) as u32));
         }
         float64::is_plus_zero(self.smoothed_delay)
     }
 
     // The state test, where n is the length of the line.
     fn state_fits(self, n: u64) -> bool
-        requires { ⌜ n ≡ cond (rateFits (self .«sample_rate») && maximumFits (self .«max_delay_secs»)) (lineLength (self .«sample_rate») (self .«max_delay_secs»)) 0 ⌝ }
+        requires { ⌜ n ≡ cond (rateFits (self .«sample_rate») && maximumFits (self .«max_delay_secs»))
+            (lineLength (self .«sample_rate») (self .«max_delay_secs»)) 0 ⌝ }
         ensures { λ r. ⌜ r ≡ stateFits self ⌝ }
     {
         if self.write_pos >= n {
@@ -182,39 +181,25 @@ impl DelayLine {
 
     // Causes 4 and 3: a state that fails its test, and memory that is too short for it.
     fn refusal(self, n: u64, places: usize) -> Outcome
-        requires { ⌜ n ≡ cond (rateFits (self .«sample_rate») && maximumFits (self .«max_delay_secs»)) (lineLength (self .«sample_rate») (self .«max_delay_secs»)) 0 ⌝ }
+        requires { ⌜ n ≡ cond (rateFits (self .«sample_rate») && maximumFits (self .«max_delay_secs»))
+            (lineLength (self .«sample_rate») (self .«max_delay_secs»)) 0 ⌝ }
         ensures { λ r. ⌜ numberOf r ≡ numberIn delayLine reset places self ⌝ }
     {
-        if !self.state_fits(n) {
-            return Outcome::Refused(Refusal::State);
-        }
-        effect::check_memory(n, places)
+        effect::check_state(self.state_fits(n), effect::check_memory(n, places))
     }
 
     // Retune: a clearing at another rate and coefficient, which keeps the maximum and the mode.
     pub fn set_sample_rate(self, sample_rate: f64, coefficient: f64, mem: &mut [f64]) -> Cleared
-        ensures { λ r. ⌜ Does delayLine (retune (retuning «sample_rate» coefficient)) self (now (mem .entry)) (r .state) (now (mem .exit)) (outcomeReply (r .outcome)) ⌝ }
+        ensures { λ r. ⌜ Does delayLine (retune (retuning «sample_rate» coefficient)) self (now (mem .entry)) (r .state) (now (mem .exit))
+            (outcomeReply (r .outcome)) ⌝ }
     {
         let maximum = self.max_delay_secs;
         let n = DelayLine::line_length(self.sample_rate, maximum);
-        if !self.state_fits(n) {
-            return Cleared {
-                state: self,
-                outcome: Outcome::Refused(Refusal::State),
-            };
-        }
-        let refusal = DelayLine::settings_refusal(sample_rate, coefficient, maximum, mem.len());
-        if let Outcome::Refused(cause) = refusal {
-            return Cleared {
-                state: self,
-                outcome: Outcome::Refused(cause),
-            };
-        }
-        common::clear(mem);
-        Cleared {
-            state: DelayLine::cleared(sample_rate, coefficient, maximum, self.linear_time),
-            outcome: Outcome::Accepted,
-        }
+        let others = DelayLine::settings_refusal(sample_rate, coefficient, maximum, mem.len());
+        let outcome = effect::check_state(self.state_fits(n), others);
+        effect::clear(outcome, mem);
+        let next = DelayLine::cleared(sample_rate, coefficient, maximum, self.linear_time);
+        DelayLine::settled(outcome, next, self)
     }
 
     // Reset: a clearing with the settings in force.
@@ -224,18 +209,10 @@ impl DelayLine {
         let rate = self.sample_rate;
         let maximum = self.max_delay_secs;
         let n = DelayLine::line_length(rate, maximum);
-        let refusal = self.refusal(n, mem.len());
-        if let Outcome::Refused(cause) = refusal {
-            return Cleared {
-                state: self,
-                outcome: Outcome::Refused(cause),
-            };
-        }
-        common::clear(mem);
-        Cleared {
-            state: DelayLine::cleared(rate, self.delay_smooth_coef, maximum, self.linear_time),
-            outcome: Outcome::Accepted,
-        }
+        let outcome = self.refusal(n, mem.len());
+        effect::clear(outcome, mem);
+        let next = DelayLine::cleared(rate, self.delay_smooth_coef, maximum, self.linear_time);
+        DelayLine::settled(outcome, next, self)
     }
 
     // Silent? Whether every place of the line is +0 or -0.
@@ -243,16 +220,8 @@ impl DelayLine {
         ensures { λ r. ⌜ Does delayLine ask self (now (mem .entry)) self (now (mem .entry)) (silenceReply r) ⌝ }
     {
         let n = DelayLine::line_length(self.sample_rate, self.max_delay_secs);
-        let refusal = self.refusal(n, mem.len());
-        if let Outcome::Refused(cause) = refusal {
-            return Silence::Refused(cause);
-        }
-        let used = n as usize;
-        if common::all_zero(&mem[..used]) {
-            Silence::Silent
-        } else {
-            Silence::Sounding
-        }
+        let outcome = self.refusal(n, mem.len());
+        effect::silence(outcome, n as usize, mem)
     }
 
     // Where the glide goes to: the samples held to 1 to n - 1.
@@ -261,7 +230,7 @@ impl DelayLine {
         requires { ⌜ n ≤ 11520001 ⌝ }
         ensures { λ r. ⌜ r ≡ clampOf samples (ofNat 1) (ofNat (n - 1)) ⌝ }
     {
-        float64::at_most(float64::at_least(samples, 1.0), DelayLine::last(n))
+        common::held_to_line(samples, (n - 1) as u32)
     }
 
     // The distance to read at: the target itself on the first tick after a clearing, later ones glide to it. It stays inside the line by itself, so that
@@ -278,7 +247,8 @@ impl DelayLine {
     // The delay in samples, not yet held to the line: milliseconds x rate / 1000, in linear mode of the time port's seconds, else of those handed. It is
     // NaN where what it is read from is.
     fn delay_samples(self, time: f64, milliseconds: f64) -> f64
-        ensures { λ r. ⌜ r ≡ samplesOf (self .«sample_rate») (cond (self .«linear_time») (mul binary64 (clampOf time plusZero (self .«max_delay_secs»)) (ofNat 1000)) milliseconds) ⌝ }
+        ensures { λ r. ⌜ r ≡ samplesOf (self .«sample_rate»)
+            (cond (self .«linear_time») (mul binary64 (clampOf time plusZero (self .«max_delay_secs»)) (ofNat 1000)) milliseconds) ⌝ }
         ensures { λ r. ⌜ (isNumber r ≡ true → cond (self .«linear_time») (isNumber time) (isNumber milliseconds) ≡ true) ⌝ }
     {
         if self.linear_time {
@@ -298,7 +268,8 @@ impl DelayLine {
         mix: f64,
         milliseconds: f64,
     ) -> Outcome
-        requires { ⌜ n ≡ cond (rateFits (self .«sample_rate») && maximumFits (self .«max_delay_secs»)) (lineLength (self .«sample_rate») (self .«max_delay_secs»)) 0 ⌝ }
+        requires { ⌜ n ≡ cond (rateFits (self .«sample_rate») && maximumFits (self .«max_delay_secs»))
+            (lineLength (self .«sample_rate») (self .«max_delay_secs»)) 0 ⌝ }
         ensures { λ r. ⌜ numberOf r ≡ numberIn delayLine (tick (tickOf Unset (Set time) (Set feedback) (Set mix) milliseconds)) places self ⌝ }
     {
         let refusal = self.refusal(n, places);
@@ -343,8 +314,11 @@ impl DelayLine {
         requires { ⌜ n ≤ length (now mem) ⌝ }
         requires { ⌜ isNumber samples ≡ true ⌝ }
         ensures { λ r. ⌜ r .state ≡ moved n (readsAt self samples) self ⌝ }
-        ensures { λ r. ⌜ answerReply (r .answer) ≡ played (blended (sanitized audio) (delayedBy self samples (now (mem .entry))) (clampOf mix plusZero (ofNat 1)) ∷ []) ⌝ }
-        ensures { λ _. ⌜ now (mem .exit) ≡ set (now (mem .entry)) (self .«write_pos») (add binary64 (sanitized audio) (mul binary64 (delayedBy self samples (now (mem .entry))) (clampOf feedback plusZero (fraction 99 100)))) ⌝ }
+        ensures { λ r. ⌜ answerReply (r .answer) ≡ played
+            (blended (sanitized audio) (delayedBy self samples (now (mem .entry))) (clampOf mix plusZero (ofNat 1)) ∷ []) ⌝ }
+        ensures { λ _. ⌜ now (mem .exit) ≡ set (now (mem .entry)) (self .«write_pos»)
+            (add binary64 (sanitized audio)
+            (mul binary64 (delayedBy self samples (now (mem .entry))) (clampOf feedback plusZero (fraction 99 100)))) ⌝ }
     {
         let target = DelayLine::target_delay(n, samples);
         let distance = self.glided(target);
@@ -373,7 +347,8 @@ impl DelayLine {
         mix: Port,
         milliseconds: f64,
     ) -> Ticked
-        ensures { λ r. ⌜ Does delayLine (tick (tickOf audio time feedback mix milliseconds)) self (now (mem .entry)) (r .state) (now (mem .exit)) (answerReply (r .answer)) ⌝ }
+        ensures { λ r. ⌜ Does delayLine (tick (tickOf audio time feedback mix milliseconds)) self (now (mem .entry)) (r .state)
+            (now (mem .exit)) (answerReply (r .answer)) ⌝ }
     {
         let audio = if let Port::Set(x) = audio { x } else { 0.0 };
         let time = if let Port::Set(x) = time { x } else { 0.5 };

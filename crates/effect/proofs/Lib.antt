@@ -1,6 +1,7 @@
 pub mod Laws
 pub mod Memory
 pub mod Table
+pub mod Outcomes
 pub mod Contract
 pub mod Needed
 pub mod Rows

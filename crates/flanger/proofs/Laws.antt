@@ -21,13 +21,13 @@ use Rattle.port.specs.Port.{valueOr, isNanSet}
 use Rattle.port.specs.Answer.{Reply, played}
 use Rattle.common.specs.Signal.{sanitized, blended, advanced}
 use Rattle.common.specs.Line.{nextPlace, lineAt, readAt}
-use Rattle.common.proofs.Sweep.{size-tests, small, no-cause, neither, part-read}
+use Rattle.common.proofs.Sweep.{neither, no-cause, part-read, size-most, size-tests, size-times}
 use Rattle.effect.specs.Effect.{laid}
 use Rattle.effect.specs.Run.{tick, numberIn}
 use Rattle.effect.specs.Contract.{Does}
 use Rattle.effect.proofs.Contract.{accepts}
 use Rattle.flanger.specs.declared.Flanger.{Flanger}
-use Rattle.flanger.specs.Flanger.{Tick, tickOf, flanger, lineLength, stateFits, tickNumber, input, depth, feedback, mix, distance, tap, fed, next, writes}
+use Rattle.flanger.specs.Flanger.{Tick, tickOf, flanger, lineLength, places, stateFits, tickNumber, input, depth, feedback, mix, distance, tap, fed, next, writes}
 use Rattle.flanger.specs.Flanger as page
 
 -- ---- the length of a line
@@ -37,11 +37,16 @@ module _ (rate : Float) (h : rateFits rate ≡ true) where
   unfolding lineLength
   length-fits = let l = length-10 rate h in (omega arith, omega arith)
 
-  -- rate × 10 / 1000 is small enough for the quick whole part
-  pub samples-small : T (le (ofNat 1) (samples rate (ofNat 10))) × T (lt (samples rate (ofNat 10)) (ofNat 9007199254740992))
-  unfolding Ieee.fits le lt mul div ofInt
-  samples-small =
-      small (div-in (ofNat 1) (ofNat 16777216) tt tt tt (mul-in (ofNat 80000) (ofNat 1920000) tt tt tt (rate-in h) (point (ofNat 10) tt)) (point (ofNat 1000) tt))
+  pub some-places : 1 ≤ places rate
+  some-places = omega (arith, length-fits .0)
+
+-- the same of n, a line's length that is 0 at a refused rate
+module _ (rate : Float) {n : ℕ} (e : n ≡ cond (rateFits rate) (lineLength rate) 0) where
+  pub short : n ≤ 1930
+  short = size-most (rateFits rate) (lineLength rate) 1930 e (λ h. length-fits rate h .1)
+
+  pub in-lines : 2 * n ≡ cond (rateFits rate) (places rate) 0
+  in-lines = size-times 2 (rateFits rate) (lineLength rate) e
 
 -- ---- the state test
 

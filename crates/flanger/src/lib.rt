@@ -9,14 +9,13 @@ ghost use Rattle.port.specs.declared.Port.the-variants.{Set};
 ghost use Rattle.port.specs.Answer.{numberOf, outcomeReply, answerReply, silenceReply};
 ghost use Rattle.common.specs.Signal.{advanced};
 ghost use Rattle.common.specs.Line.{lineAt, readAt, nextPlace};
-ghost use Rattle.effect.specs.Run.{tick, retune, reset, ask, startNumber, numberIn};
+ghost use Rattle.effect.specs.Run.{tick, retune, reset, ask, ifNone, startNumber, numberIn};
 ghost use Rattle.effect.specs.Contract.{Does, Starts};
 ghost use Rattle.effect.specs.Needed.{placesNeeded};
 ghost use Rattle.flanger.specs.Flanger.{flanger, tickOf, lineLength, cleared, stateFits, distance};
 use port::Answer;
 use port::Outcome;
 use port::Port;
-use port::Refusal;
 use port::Silence;
 
 pub struct Flanger {
@@ -40,25 +39,18 @@ pub struct Ticked {
 impl Flanger {
     pub const MAX_DELAY_MS: f64 = 10.0;
 
-    // The places of a line. A refused rate gives 0, so that no position fits.
+    // The places of a line; 0 at a refused rate.
     fn line_length(rate: f64) -> u64
         ensures { λ r. ⌜ r ≡ cond (rateFits rate) (lineLength rate) 0 ⌝ }
     {
-        if !float64::rate_fits(rate) {
-            return 0;
-        }
-        float64::whole_part_small(rate * Flanger::MAX_DELAY_MS / 1000.0) + 10
+        common::line_length(rate, Flanger::MAX_DELAY_MS)
     }
 
     // The places that a start needs at the rate; 2^64 - 1 for a rate that is refused.
     pub fn places_needed(rate: f64) -> u64
         ensures { λ r. ⌜ r ≡ placesNeeded flanger rate ⌝ }
     {
-        let n = Flanger::line_length(rate);
-        if n == 0 {
-            return 0xffff_ffff_ffff_ffff;
-        }
-        2 * n
+        effect::places_or_none(2 * Flanger::line_length(rate))
     }
 
     // Position 0, with the phase and the rate.
@@ -76,29 +68,36 @@ impl Flanger {
     fn rate_refusal(rate: f64, places: usize) -> Outcome
         ensures { λ r. ⌜ numberOf r ≡ startNumber flanger rate places ⌝ }
     {
-        let n = Flanger::line_length(rate);
-        if n == 0 {
-            return Outcome::Refused(Refusal::SampleRate);
+        effect::check_rate(2 * Flanger::line_length(rate), places)
+    }
+
+    // What a start, a retune or a reset returns, by the outcome of its tests: the state `next`, or `kept`.
+    fn settled(outcome: Outcome, next: Flanger, kept: Flanger) -> Cleared
+        ensures { λ r. ⌜ (r .state ≡ ifNone (numberOf outcome) next kept) × (r .outcome ≡ outcome) ⌝ }
+    {
+        if let Outcome::Accepted = outcome {
+            return Cleared {
+                state: next,
+                outcome,
+            };
         }
-        effect::check_memory(2 * n, places)
+        Cleared {
+            state: kept,
+            outcome,
+        }
     }
 
     // Start: phase 0, at the rate.
     pub fn new(sample_rate: f64, mem: &mut [f64]) -> Cleared
         ensures { λ r. ⌜ Starts flanger «sample_rate» (now (mem .entry)) (r .state) (now (mem .exit)) (outcomeReply (r .outcome)) ⌝ }
     {
-        let refusal = Flanger::rate_refusal(sample_rate, mem.len());
-        if let Outcome::Refused(cause) = refusal {
-            return Cleared {
-                state: Flanger::cleared(0.0, 0.0),
-                outcome: Outcome::Refused(cause),
-            };
-        }
-        common::clear(mem);
-        Cleared {
-            state: Flanger::cleared(0.0, sample_rate),
-            outcome: Outcome::Accepted,
-        }
+        let outcome = Flanger::rate_refusal(sample_rate, mem.len());
+        effect::clear(outcome, mem);
+        Flanger::settled(
+            outcome,
+            Flanger::cleared(0.0, sample_rate),
+            Flanger::cleared(0.0, 0.0),
+        )
     }
 
     // The state test, where n is the length of a line.
@@ -114,35 +113,19 @@ impl Flanger {
         requires { ⌜ n ≡ cond (rateFits (self .«sample_rate»)) (lineLength (self .«sample_rate»)) 0 ⌝ }
         ensures { λ r. ⌜ numberOf r ≡ numberIn flanger reset places self ⌝ }
     {
-        if !self.state_fits(n) {
-            return Outcome::Refused(Refusal::State);
-        }
-        effect::check_memory(2 * n, places)
+        effect::check_state(self.state_fits(n), effect::check_memory(2 * n, places))
     }
 
     // Retune: a clearing at another rate, which keeps the phase.
     pub fn set_sample_rate(self, sample_rate: f64, mem: &mut [f64]) -> Cleared
-        ensures { λ r. ⌜ Does flanger (retune «sample_rate») self (now (mem .entry)) (r .state) (now (mem .exit)) (outcomeReply (r .outcome)) ⌝ }
+        ensures { λ r. ⌜ Does flanger (retune «sample_rate») self (now (mem .entry)) (r .state) (now (mem .exit))
+            (outcomeReply (r .outcome)) ⌝ }
     {
         let n = Flanger::line_length(self.sample_rate);
-        if !self.state_fits(n) {
-            return Cleared {
-                state: self,
-                outcome: Outcome::Refused(Refusal::State),
-            };
-        }
-        let refusal = Flanger::rate_refusal(sample_rate, mem.len());
-        if let Outcome::Refused(cause) = refusal {
-            return Cleared {
-                state: self,
-                outcome: Outcome::Refused(cause),
-            };
-        }
-        common::clear(mem);
-        Cleared {
-            state: Flanger::cleared(self.lfo_phase, sample_rate),
-            outcome: Outcome::Accepted,
-        }
+        let others = Flanger::rate_refusal(sample_rate, mem.len());
+        let outcome = effect::check_state(self.state_fits(n), others);
+        effect::clear(outcome, mem);
+        Flanger::settled(outcome, Flanger::cleared(self.lfo_phase, sample_rate), self)
     }
 
     // Reset: a clearing at the rate in force, with phase 0 again.
@@ -150,18 +133,9 @@ impl Flanger {
         ensures { λ r. ⌜ Does flanger reset self (now (mem .entry)) (r .state) (now (mem .exit)) (outcomeReply (r .outcome)) ⌝ }
     {
         let n = Flanger::line_length(self.sample_rate);
-        let refusal = self.refusal(n, mem.len());
-        if let Outcome::Refused(cause) = refusal {
-            return Cleared {
-                state: self,
-                outcome: Outcome::Refused(cause),
-            };
-        }
-        common::clear(mem);
-        Cleared {
-            state: Flanger::cleared(0.0, self.sample_rate),
-            outcome: Outcome::Accepted,
-        }
+        let outcome = self.refusal(n, mem.len());
+        effect::clear(outcome, mem);
+        Flanger::settled(outcome, Flanger::cleared(0.0, self.sample_rate), self)
     }
 
     // Silent? Whether every place of the two lines is +0 or -0.
@@ -169,16 +143,8 @@ impl Flanger {
         ensures { λ r. ⌜ Does flanger ask self (now (mem .entry)) self (now (mem .entry)) (silenceReply r) ⌝ }
     {
         let n = Flanger::line_length(self.sample_rate);
-        let refusal = self.refusal(n, mem.len());
-        if let Outcome::Refused(cause) = refusal {
-            return Silence::Refused(cause);
-        }
-        let used = (2 * n) as usize;
-        if common::all_zero(&mem[..used]) {
-            Silence::Silent
-        } else {
-            Silence::Sounding
-        }
+        let outcome = self.refusal(n, mem.len());
+        effect::silence(outcome, (2 * n) as usize, mem)
     }
 
     // (1 + (sine + 1) x 0.5 x (depth x 9)) x rate / 1000, clamped to 1 to n - 1, n the length of a line.
@@ -189,11 +155,7 @@ impl Flanger {
     {
         let swing = depth * (Flanger::MAX_DELAY_MS - 1.0);
         let samples = (1.0 + (sine + 1.0) * 0.5 * swing) * rate / 1000.0;
-        let last = n - 1;
-        float64::at_most(
-            float64::at_least(samples, 1.0),
-            std::num::nearest_u64_to_f64(last as u32 as u64),
-        )
+        common::held_to_line(samples, (n - 1) as u32)
     }
 
     // What a line holds at its own distance.
@@ -238,8 +200,10 @@ impl Flanger {
         sine1: f64,
     ) -> Ticked
         requires { ⌜ n ≡ lineLength (self .«sample_rate») ⌝ }
-        requires { ⌜ numberIn flanger (tick (tickOf (Set audio) (Set depth) (Set feedback) (Set mix) frequency sine0 sine1)) (length (now mem)) self ≡ 0 ⌝ }
-        ensures { λ r. ⌜ Does flanger (tick (tickOf (Set audio) (Set depth) (Set feedback) (Set mix) frequency sine0 sine1)) self (now (mem .entry)) (r .state) (now (mem .exit)) (answerReply (r .answer)) ⌝ }
+        requires { ⌜ numberIn flanger (tick (tickOf (Set audio) (Set depth) (Set feedback) (Set mix) frequency sine0 sine1))
+            (length (now mem)) self ≡ 0 ⌝ }
+        ensures { λ r. ⌜ Does flanger (tick (tickOf (Set audio) (Set depth) (Set feedback) (Set mix) frequency sine0 sine1)) self
+            (now (mem .entry)) (r .state) (now (mem .exit)) (answerReply (r .answer)) ⌝ }
     {
         let state = self.next(n, frequency);
         let rate = self.sample_rate;
@@ -274,7 +238,8 @@ impl Flanger {
         sine0: f64,
         sine1: f64,
     ) -> Ticked
-        ensures { λ r. ⌜ Does flanger (tick (tickOf audio depth feedback mix frequency sine0 sine1)) self (now (mem .entry)) (r .state) (now (mem .exit)) (answerReply (r .answer)) ⌝ }
+        ensures { λ r. ⌜ Does flanger (tick (tickOf audio depth feedback mix frequency sine0 sine1)) self (now (mem .entry)) (r .state)
+            (now (mem .exit)) (answerReply (r .answer)) ⌝ }
     {
         let n = Flanger::line_length(self.sample_rate);
         let refusal = self.refusal(n, mem.len());

@@ -113,6 +113,13 @@ pub fn abs(x: f64) -> f64
     if x > 0.0 { x } else { 0.0 - x }
 }
 
+// A count as a float, exactly. From 32 bits that is one instruction; from 64 it is ten, as the processor's conversion is of signed numbers.
+pub fn from_u32(n: u32) -> f64
+    ensures { λ r. ⌜ r ≡ ofNat n ⌝ }
+{
+    n as f64
+}
+
 // The whole part of a number from 1 to below 2^53: the digits, shifted. The effects' reads use it, where a total one costs more.
 pub fn whole_part_small(x: f64) -> u64
     requires { ⌜ T (Ieee.le (ofNat 1) x) ⌝ ∗ ⌜ T (Ieee.lt x (ofNat 9007199254740992)) ⌝ }
@@ -124,7 +131,7 @@ pub fn whole_part_small(x: f64) -> u64
     digits >> (1075 - exponent)
 }
 
-// The Rust's `x as usize`: toward zero, held to 0..=2^64 - 1, and 0 for a NaN.
+// The Rust's `x as usize`: toward zero, held to 0..=2^64 - 1, and 0 for a NaN. No effect meets a number of 2^53 or more.
 pub fn whole_part(x: f64) -> u64
     ensures { λ r. ⌜ r ≡ wholePart x ⌝ }
 {
@@ -132,16 +139,6 @@ pub fn whole_part(x: f64) -> u64
         if x < 9007199254740992.0 {
             return whole_part_small(x);
         }
-        return whole_part_large(x);
-    }
-    0
-}
-
-// The whole part of a number of 2^53 or more, which no effect meets.
-fn whole_part_large(x: f64) -> u64
-    ensures { λ r. ⌜ r ≡ wholePart x ⌝ }
-{
-    if x > -1.0 {
         if x < 18446744073709551616.0 {
             return std::num::truncating_f64_to_u64(x);
         }

@@ -1,6 +1,6 @@
 // What goes into a call and what comes out of it: ports, refusals, answers.
 ghost use mathlib.Core.Path.{_≡_};
-ghost use Rattle.port.specs.Port.{portIf, isNanSet};
+ghost use Rattle.port.specs.Port.{portIf};
 ghost use Rattle.port.specs.Answer.{number, outcomeReply, answerReply, silenceReply, replyNumber, replySample, replySilent};
 
 // An input port: it carries a number or is unset.
@@ -45,18 +45,6 @@ pub fn port_if(on: bool, x: f64) -> Port
     ensures { λ r. ⌜ r ≡ portIf on x ⌝ }
 {
     if on { Port::Set(x) } else { Port::Unset }
-}
-
-impl Port {
-    // Whether the port is set and its number is a NaN.
-    pub fn is_nan_set(self) -> bool
-        ensures { λ r. ⌜ r ≡ isNanSet self ⌝ }
-    {
-        let Port::Set(x) = self else {
-            return false;
-        };
-        float64::is_nan(x)
-    }
 }
 
 impl Refusal {

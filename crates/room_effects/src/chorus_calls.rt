@@ -10,93 +10,98 @@ use crate::shared::put_samples;
 use chorus::Chorus;
 
 // A chorus's state from lent numbers, and back into them.
-fn chorus_of(pos: u64, phases: &[f64; 3], rate: f64) -> Chorus
-    ensures { λ r. ⌜ r ≡ chorusOf pos (now (phases .entry)) rate ⌝ }
+fn chorus_of(write_pos: u64, lfo_phases: &[f64; 3], sample_rate: f64) -> Chorus
+    ensures { λ r. ⌜ r ≡ chorusOf «write_pos» (now («lfo_phases» .entry)) «sample_rate» ⌝ }
 {
     Chorus {
-        write_pos: pos,
-        lfo_phase0: phases[0],
-        lfo_phase1: phases[1],
-        lfo_phase2: phases[2],
-        sample_rate: rate,
+        write_pos,
+        lfo_phase0: lfo_phases[0],
+        lfo_phase1: lfo_phases[1],
+        lfo_phase2: lfo_phases[2],
+        sample_rate,
     }
 }
 
-fn put_chorus(state: Chorus, pos: &mut u64, phases: &mut [f64; 3])
-    ensures { λ _. ⌜ chorusOf (now (pos .exit)) (now (phases .exit)) (state .«sample_rate») ≡ state ⌝ }
+fn put_chorus(state: Chorus, write_pos: &mut u64, lfo_phases: &mut [f64; 3])
+    ensures { λ _. ⌜ chorusOf (now («write_pos» .exit)) (now («lfo_phases» .exit)) (state .«sample_rate») ≡ state ⌝ }
 {
-    *pos = state.write_pos;
-    *phases = [state.lfo_phase0, state.lfo_phase1, state.lfo_phase2];
+    *write_pos = state.write_pos;
+    *lfo_phases = [state.lfo_phase0, state.lfo_phase1, state.lfo_phase2];
 }
 
 // Start of a chorus. A refused one writes the state of zeros too.
 #[no_mangle]
 pub extern "C" fn room_raw_chorus_start(
-    sample_rate: f64,
+    new_sample_rate: f64,
     memory: &mut [f64],
-    pos: &mut u64,
-    phases: &mut [f64; 3],
-    rate: &mut f64,
+    write_pos: &mut u64,
+    lfo_phases: &mut [f64; 3],
+    sample_rate: &mut f64,
 ) -> u32
-    ensures { λ r. ⌜ StartReturns chorus «sample_rate» (now (memory .entry)) (chorusUnit (now (pos .exit)) (now (phases .exit)) (now (rate .exit)) (now (memory .exit))) r ⌝ }
+    ensures { λ r. ⌜ StartReturns chorus «new_sample_rate» (now (memory .entry))
+        (chorusUnit (now («write_pos» .exit)) (now («lfo_phases» .exit)) (now («sample_rate» .exit)) (now (memory .exit))) r ⌝ }
 {
-    let started = Chorus::new(sample_rate, memory);
+    let started = Chorus::new(new_sample_rate, memory);
     let state = started.state;
-    put_chorus(state, pos, phases);
-    *rate = state.sample_rate;
+    put_chorus(state, write_pos, lfo_phases);
+    *sample_rate = state.sample_rate;
     let outcome = started.outcome;
     outcome.number()
 }
 
 #[no_mangle]
 pub extern "C" fn room_raw_chorus_retune(
-    sample_rate: f64,
+    new_sample_rate: f64,
     memory: &mut [f64],
-    pos: &mut u64,
-    phases: &mut [f64; 3],
-    rate: &mut f64,
+    write_pos: &mut u64,
+    lfo_phases: &mut [f64; 3],
+    sample_rate: &mut f64,
 ) -> u32
-    ensures { λ r. ⌜ CallReturns chorus (retune «sample_rate») (chorusUnit (now (pos .entry)) (now (phases .entry)) (now (rate .entry)) (now (memory .entry))) (chorusUnit (now (pos .exit)) (now (phases .exit)) (now (rate .exit)) (now (memory .exit))) r ⌝ }
+    ensures { λ r. ⌜ CallReturns chorus (retune «new_sample_rate»)
+        (chorusUnit (now («write_pos» .entry)) (now («lfo_phases» .entry)) (now («sample_rate» .entry)) (now (memory .entry)))
+        (chorusUnit (now («write_pos» .exit)) (now («lfo_phases» .exit)) (now («sample_rate» .exit)) (now (memory .exit))) r ⌝ }
 {
-    let state = chorus_of(*pos, phases, *rate);
-    let cleared = state.set_sample_rate(sample_rate, memory);
+    let state = chorus_of(*write_pos, lfo_phases, *sample_rate);
+    let cleared = state.set_sample_rate(new_sample_rate, memory);
     let outcome = cleared.outcome;
     let number = outcome.number();
     if number != 0 {
         return number;
     }
     let next = cleared.state;
-    put_chorus(next, pos, phases);
-    *rate = next.sample_rate;
+    put_chorus(next, write_pos, lfo_phases);
+    *sample_rate = next.sample_rate;
     0
 }
 
 #[no_mangle]
 pub extern "C" fn room_raw_chorus_reset(
     memory: &mut [f64],
-    pos: &mut u64,
-    phases: &mut [f64; 3],
-    rate: f64,
+    write_pos: &mut u64,
+    lfo_phases: &mut [f64; 3],
+    sample_rate: f64,
 ) -> u32
-    ensures { λ r. ⌜ CallReturns chorus reset (chorusUnit (now (pos .entry)) (now (phases .entry)) rate (now (memory .entry))) (chorusUnit (now (pos .exit)) (now (phases .exit)) rate (now (memory .exit))) r ⌝ }
+    ensures { λ r. ⌜ CallReturns chorus reset
+        (chorusUnit (now («write_pos» .entry)) (now («lfo_phases» .entry)) «sample_rate» (now (memory .entry)))
+        (chorusUnit (now («write_pos» .exit)) (now («lfo_phases» .exit)) «sample_rate» (now (memory .exit))) r ⌝ }
 {
-    let state = chorus_of(*pos, phases, rate);
+    let state = chorus_of(*write_pos, lfo_phases, sample_rate);
     let cleared = state.reset(memory);
     let outcome = cleared.outcome;
     let number = outcome.number();
     if number != 0 {
         return number;
     }
-    put_chorus(cleared.state, pos, phases);
+    put_chorus(cleared.state, write_pos, lfo_phases);
     0
 }
 
 // A tick. The mask's bits say which ports are set: 1 audio, 2 depth, 4 mix.
 #[no_mangle]
 pub extern "C" fn room_raw_chorus_tick(
-    pos: &mut u64,
-    phases: &mut [f64; 3],
-    rate: f64,
+    write_pos: &mut u64,
+    lfo_phases: &mut [f64; 3],
+    sample_rate: f64,
     memory: &mut [f64],
     set: u32,
     audio: f64,
@@ -108,9 +113,11 @@ pub extern "C" fn room_raw_chorus_tick(
     sine2: f64,
     out: &mut [f64; 3],
 ) -> u32
-    ensures { λ r. ⌜ TickReturns chorus 3 (tickOf (portAt set 1 audio) (portAt set 2 depth) (portAt set 4 mix) frequency sine0 sine1 sine2) (chorusUnit (now (pos .entry)) (now (phases .entry)) rate (now (memory .entry))) (chorusUnit (now (pos .exit)) (now (phases .exit)) rate (now (memory .exit))) (now (out .exit)) r ⌝ }
+    ensures { λ r. ⌜ TickReturns chorus 3 (tickOf (portAt set 1 audio) (portAt set 2 depth) (portAt set 4 mix) frequency sine0 sine1 sine2)
+        (chorusUnit (now («write_pos» .entry)) (now («lfo_phases» .entry)) «sample_rate» (now (memory .entry)))
+        (chorusUnit (now («write_pos» .exit)) (now («lfo_phases» .exit)) «sample_rate» (now (memory .exit))) (now (out .exit)) r ⌝ }
 {
-    let state = chorus_of(*pos, phases, rate);
+    let state = chorus_of(*write_pos, lfo_phases, sample_rate);
     let ticked = state.tick(
         memory,
         port_at(set, 1, audio),
@@ -127,21 +134,22 @@ pub extern "C" fn room_raw_chorus_tick(
     if number != 0 {
         return number;
     }
-    put_chorus(ticked.state, pos, phases);
+    put_chorus(ticked.state, write_pos, lfo_phases);
     0
 }
 
 #[no_mangle]
 pub extern "C" fn room_raw_chorus_silent(
-    pos: u64,
-    phases: &[f64; 3],
-    rate: f64,
+    write_pos: u64,
+    lfo_phases: &[f64; 3],
+    sample_rate: f64,
     memory: &[f64],
     out: &mut u32,
 ) -> u32
-    ensures { λ r. ⌜ AskReturns chorus (chorusUnit pos (now (phases .entry)) rate (now (memory .entry))) (now (out .exit)) r ⌝ }
+    ensures { λ r. ⌜ AskReturns chorus (chorusUnit «write_pos» (now («lfo_phases» .entry)) «sample_rate» (now (memory .entry)))
+        (now (out .exit)) r ⌝ }
 {
-    let state = chorus_of(pos, phases, rate);
+    let state = chorus_of(write_pos, lfo_phases, sample_rate);
     let silence = state.silent(memory);
     let yes = silence.flag();
     *out = yes;

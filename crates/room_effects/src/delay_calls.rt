@@ -18,137 +18,159 @@ fn flag(on: bool) -> u32
 
 // A delay's state from lent numbers.
 fn delay_of(
-    pos: u64,
-    distance: f64,
-    primed: u32,
-    rate: f64,
-    coefficient: f64,
-    maximum: f64,
-    linear: u32,
+    write_pos: u64,
+    smoothed_delay: f64,
+    delay_primed: u32,
+    sample_rate: f64,
+    delay_smooth_coef: f64,
+    max_delay_secs: f64,
+    linear_time: u32,
 ) -> DelayLine
-    ensures { λ r. ⌜ r ≡ delayOf pos distance (isOn primed) rate coefficient maximum (isOn linear) ⌝ }
+    ensures { λ r. ⌜ r ≡ delayOf «write_pos» «smoothed_delay» (isOn «delay_primed») «sample_rate» «delay_smooth_coef» «max_delay_secs»
+        (isOn «linear_time») ⌝ }
 {
     DelayLine {
-        write_pos: pos,
-        sample_rate: rate,
-        max_delay_secs: maximum,
-        linear_time: linear != 0,
-        smoothed_delay: distance,
-        delay_smooth_coef: coefficient,
-        delay_primed: primed != 0,
+        write_pos,
+        sample_rate,
+        max_delay_secs,
+        linear_time: linear_time != 0,
+        smoothed_delay,
+        delay_smooth_coef,
+        delay_primed: delay_primed != 0,
     }
 }
 
 // Start of a delay. A refused one writes the state of zeros too, and leaves the memory as it was.
 #[no_mangle]
 pub extern "C" fn room_raw_delay_start(
-    sample_rate: f64,
-    max_delay_secs: f64,
-    coef: f64,
-    linear_time: u32,
+    new_sample_rate: f64,
+    new_max_delay_secs: f64,
+    new_delay_smooth_coef: f64,
+    new_linear_time: u32,
     memory: &mut [f64],
-    pos: &mut u64,
-    distance: &mut f64,
-    primed: &mut u32,
-    rate: &mut f64,
-    coefficient: &mut f64,
-    maximum: &mut f64,
-    linear: &mut u32,
+    write_pos: &mut u64,
+    smoothed_delay: &mut f64,
+    delay_primed: &mut u32,
+    sample_rate: &mut f64,
+    delay_smooth_coef: &mut f64,
+    max_delay_secs: &mut f64,
+    linear_time: &mut u32,
 ) -> u32
-    ensures { λ r. ⌜ StartReturns delayLine (handing «sample_rate» coef «max_delay_secs» (isOn «linear_time»)) (now (memory .entry)) (delayUnit (now (pos .exit)) (now (distance .exit)) (now (primed .exit)) (now (rate .exit)) (now (coefficient .exit)) (now (maximum .exit)) (now (linear .exit)) (now (memory .exit))) r × FlagWritten (now (primed .exit)) × FlagWritten (now (linear .exit)) ⌝ }
+    ensures { λ r. ⌜ StartReturns delayLine
+        (handing «new_sample_rate» «new_delay_smooth_coef» «new_max_delay_secs» (isOn «new_linear_time»)) (now (memory .entry))
+        (delayUnit (now («write_pos» .exit)) (now («smoothed_delay» .exit)) (now («delay_primed» .exit)) (now («sample_rate» .exit))
+        (now («delay_smooth_coef» .exit)) (now («max_delay_secs» .exit)) (now («linear_time» .exit)) (now (memory .exit))) r
+        × FlagWritten (now («delay_primed» .exit)) × FlagWritten (now («linear_time» .exit)) ⌝ }
 {
     let started = DelayLine::with_max_delay(
-        sample_rate,
-        max_delay_secs,
-        coef,
-        linear_time != 0,
+        new_sample_rate,
+        new_max_delay_secs,
+        new_delay_smooth_coef,
+        new_linear_time != 0,
         memory,
     );
-    *pos = started.state.write_pos;
-    *distance = started.state.smoothed_delay;
-    *primed = flag(started.state.delay_primed);
-    *rate = started.state.sample_rate;
-    *coefficient = started.state.delay_smooth_coef;
-    *maximum = started.state.max_delay_secs;
-    *linear = flag(started.state.linear_time);
+    *write_pos = started.state.write_pos;
+    *smoothed_delay = started.state.smoothed_delay;
+    *delay_primed = flag(started.state.delay_primed);
+    *sample_rate = started.state.sample_rate;
+    *delay_smooth_coef = started.state.delay_smooth_coef;
+    *max_delay_secs = started.state.max_delay_secs;
+    *linear_time = flag(started.state.linear_time);
     let outcome = started.outcome;
     outcome.number()
 }
 
 #[no_mangle]
 pub extern "C" fn room_raw_delay_retune(
-    sample_rate: f64,
-    coef: f64,
+    new_sample_rate: f64,
+    new_delay_smooth_coef: f64,
     memory: &mut [f64],
-    pos: &mut u64,
-    distance: &mut f64,
-    primed: &mut u32,
-    rate: &mut f64,
-    coefficient: &mut f64,
-    maximum: f64,
-    linear: u32,
+    write_pos: &mut u64,
+    smoothed_delay: &mut f64,
+    delay_primed: &mut u32,
+    sample_rate: &mut f64,
+    delay_smooth_coef: &mut f64,
+    max_delay_secs: f64,
+    linear_time: u32,
 ) -> u32
-    ensures { λ r. ⌜ CallReturns delayLine (retune (retuning «sample_rate» coef)) (delayUnit (now (pos .entry)) (now (distance .entry)) (now (primed .entry)) (now (rate .entry)) (now (coefficient .entry)) maximum linear (now (memory .entry))) (delayUnit (now (pos .exit)) (now (distance .exit)) (now (primed .exit)) (now (rate .exit)) (now (coefficient .exit)) maximum linear (now (memory .exit))) r × FlagLeft r (now (primed .entry)) (now (primed .exit)) ⌝ }
+    ensures { λ r. ⌜ CallReturns delayLine (retune (retuning «new_sample_rate» «new_delay_smooth_coef»))
+        (delayUnit (now («write_pos» .entry)) (now («smoothed_delay» .entry)) (now («delay_primed» .entry)) (now («sample_rate» .entry))
+        (now («delay_smooth_coef» .entry)) «max_delay_secs» «linear_time» (now (memory .entry)))
+        (delayUnit (now («write_pos» .exit)) (now («smoothed_delay» .exit)) (now («delay_primed» .exit)) (now («sample_rate» .exit))
+        (now («delay_smooth_coef» .exit)) «max_delay_secs» «linear_time» (now (memory .exit))) r × FlagLeft r
+        (now («delay_primed» .entry)) (now («delay_primed» .exit)) ⌝ }
 {
     let state = delay_of(
-        *pos,
-        *distance,
-        *primed,
-        *rate,
-        *coefficient,
-        maximum,
-        linear,
+        *write_pos,
+        *smoothed_delay,
+        *delay_primed,
+        *sample_rate,
+        *delay_smooth_coef,
+        max_delay_secs,
+        linear_time,
     );
-    let cleared = state.set_sample_rate(sample_rate, coef, memory);
+    let cleared = state.set_sample_rate(new_sample_rate, new_delay_smooth_coef, memory);
     let outcome = cleared.outcome;
     let number = outcome.number();
     if number != 0 {
         return number;
     }
-    *pos = cleared.state.write_pos;
-    *distance = cleared.state.smoothed_delay;
-    *primed = flag(cleared.state.delay_primed);
-    *rate = cleared.state.sample_rate;
-    *coefficient = cleared.state.delay_smooth_coef;
+    *write_pos = cleared.state.write_pos;
+    *smoothed_delay = cleared.state.smoothed_delay;
+    *delay_primed = flag(cleared.state.delay_primed);
+    *sample_rate = cleared.state.sample_rate;
+    *delay_smooth_coef = cleared.state.delay_smooth_coef;
     0
 }
 
 #[no_mangle]
 pub extern "C" fn room_raw_delay_reset(
     memory: &mut [f64],
-    pos: &mut u64,
-    distance: &mut f64,
-    primed: &mut u32,
-    rate: f64,
-    coefficient: f64,
-    maximum: f64,
-    linear: u32,
+    write_pos: &mut u64,
+    smoothed_delay: &mut f64,
+    delay_primed: &mut u32,
+    sample_rate: f64,
+    delay_smooth_coef: f64,
+    max_delay_secs: f64,
+    linear_time: u32,
 ) -> u32
-    ensures { λ r. ⌜ CallReturns delayLine reset (delayUnit (now (pos .entry)) (now (distance .entry)) (now (primed .entry)) rate coefficient maximum linear (now (memory .entry))) (delayUnit (now (pos .exit)) (now (distance .exit)) (now (primed .exit)) rate coefficient maximum linear (now (memory .exit))) r × FlagLeft r (now (primed .entry)) (now (primed .exit)) ⌝ }
+    ensures { λ r. ⌜ CallReturns delayLine reset
+        (delayUnit (now («write_pos» .entry)) (now («smoothed_delay» .entry)) (now («delay_primed» .entry)) «sample_rate»
+        «delay_smooth_coef» «max_delay_secs» «linear_time» (now (memory .entry)))
+        (delayUnit (now («write_pos» .exit)) (now («smoothed_delay» .exit)) (now («delay_primed» .exit)) «sample_rate» «delay_smooth_coef»
+        «max_delay_secs» «linear_time» (now (memory .exit))) r × FlagLeft r (now («delay_primed» .entry)) (now («delay_primed» .exit)) ⌝ }
 {
-    let state = delay_of(*pos, *distance, *primed, rate, coefficient, maximum, linear);
+    let state = delay_of(
+        *write_pos,
+        *smoothed_delay,
+        *delay_primed,
+        sample_rate,
+        delay_smooth_coef,
+        max_delay_secs,
+        linear_time,
+    );
     let cleared = state.reset(memory);
     let outcome = cleared.outcome;
     let number = outcome.number();
     if number != 0 {
         return number;
     }
-    *pos = cleared.state.write_pos;
-    *distance = cleared.state.smoothed_delay;
-    *primed = flag(cleared.state.delay_primed);
+    *write_pos = cleared.state.write_pos;
+    *smoothed_delay = cleared.state.smoothed_delay;
+    *delay_primed = flag(cleared.state.delay_primed);
     0
 }
 
 // A tick. The mask's bits say which ports are set: 1 audio, 2 time, 4 feedback, 8 mix.
 #[no_mangle]
 pub extern "C" fn room_raw_delay_tick(
-    pos: &mut u64,
-    distance: &mut f64,
-    primed: &mut u32,
-    rate: f64,
-    coefficient: f64,
-    maximum: f64,
-    linear: u32,
+    write_pos: &mut u64,
+    smoothed_delay: &mut f64,
+    delay_primed: &mut u32,
+    sample_rate: f64,
+    delay_smooth_coef: f64,
+    max_delay_secs: f64,
+    linear_time: u32,
     memory: &mut [f64],
     set: u32,
     audio: f64,
@@ -158,9 +180,23 @@ pub extern "C" fn room_raw_delay_tick(
     milliseconds: f64,
     out: &mut f64,
 ) -> u32
-    ensures { λ r. ⌜ TickReturns delayLine 1 (tickOf (portAt set 1 audio) (portAt set 2 time) (portAt set 4 feedback) (portAt set 8 mix) milliseconds) (delayUnit (now (pos .entry)) (now (distance .entry)) (now (primed .entry)) rate coefficient maximum linear (now (memory .entry))) (delayUnit (now (pos .exit)) (now (distance .exit)) (now (primed .exit)) rate coefficient maximum linear (now (memory .exit))) (now (out .exit) ∷ []) r × FlagLeft r (now (primed .entry)) (now (primed .exit)) ⌝ }
+    ensures { λ r. ⌜ TickReturns delayLine 1
+        (tickOf (portAt set 1 audio) (portAt set 2 time) (portAt set 4 feedback) (portAt set 8 mix) milliseconds)
+        (delayUnit (now («write_pos» .entry)) (now («smoothed_delay» .entry)) (now («delay_primed» .entry)) «sample_rate»
+        «delay_smooth_coef» «max_delay_secs» «linear_time» (now (memory .entry)))
+        (delayUnit (now («write_pos» .exit)) (now («smoothed_delay» .exit)) (now («delay_primed» .exit)) «sample_rate» «delay_smooth_coef»
+        «max_delay_secs» «linear_time» (now (memory .exit))) (now (out .exit) ∷ []) r × FlagLeft r (now («delay_primed» .entry))
+        (now («delay_primed» .exit)) ⌝ }
 {
-    let state = delay_of(*pos, *distance, *primed, rate, coefficient, maximum, linear);
+    let state = delay_of(
+        *write_pos,
+        *smoothed_delay,
+        *delay_primed,
+        sample_rate,
+        delay_smooth_coef,
+        max_delay_secs,
+        linear_time,
+    );
     let played = state.tick(
         memory,
         port_at(set, 1, audio),
@@ -175,27 +211,37 @@ pub extern "C" fn room_raw_delay_tick(
     if number != 0 {
         return number;
     }
-    *pos = played.state.write_pos;
-    *distance = played.state.smoothed_delay;
-    *primed = flag(played.state.delay_primed);
+    *write_pos = played.state.write_pos;
+    *smoothed_delay = played.state.smoothed_delay;
+    *delay_primed = flag(played.state.delay_primed);
     0
 }
 
 #[no_mangle]
 pub extern "C" fn room_raw_delay_silent(
-    pos: u64,
-    distance: f64,
-    primed: u32,
-    rate: f64,
-    coefficient: f64,
-    maximum: f64,
-    linear: u32,
+    write_pos: u64,
+    smoothed_delay: f64,
+    delay_primed: u32,
+    sample_rate: f64,
+    delay_smooth_coef: f64,
+    max_delay_secs: f64,
+    linear_time: u32,
     memory: &[f64],
     out: &mut u32,
 ) -> u32
-    ensures { λ r. ⌜ AskReturns delayLine (delayUnit pos distance primed rate coefficient maximum linear (now (memory .entry))) (now (out .exit)) r ⌝ }
+    ensures { λ r. ⌜ AskReturns delayLine
+        (delayUnit «write_pos» «smoothed_delay» «delay_primed» «sample_rate» «delay_smooth_coef» «max_delay_secs» «linear_time»
+        (now (memory .entry))) (now (out .exit)) r ⌝ }
 {
-    let state = delay_of(pos, distance, primed, rate, coefficient, maximum, linear);
+    let state = delay_of(
+        write_pos,
+        smoothed_delay,
+        delay_primed,
+        sample_rate,
+        delay_smooth_coef,
+        max_delay_secs,
+        linear_time,
+    );
     let silence = state.silent(memory);
     *out = silence.flag();
     silence.number()

@@ -11,62 +11,67 @@ use flanger::Flanger;
 // Start of a flanger. A refused one writes the state of zeros too, and leaves the memory as it was.
 #[no_mangle]
 pub extern "C" fn room_raw_flanger_start(
-    sample_rate: f64,
+    new_sample_rate: f64,
     memory: &mut [f64],
-    pos: &mut u64,
-    phase: &mut f64,
-    rate: &mut f64,
+    write_pos: &mut u64,
+    lfo_phase: &mut f64,
+    sample_rate: &mut f64,
 ) -> u32
-    ensures { λ r. ⌜ StartReturns flanger «sample_rate» (now (memory .entry)) (flangerUnit (now (pos .exit)) (now (phase .exit)) (now (rate .exit)) (now (memory .exit))) r ⌝ }
+    ensures { λ r. ⌜ StartReturns flanger «new_sample_rate» (now (memory .entry))
+        (flangerUnit (now («write_pos» .exit)) (now («lfo_phase» .exit)) (now («sample_rate» .exit)) (now (memory .exit))) r ⌝ }
 {
-    let started = Flanger::new(sample_rate, memory);
-    *pos = started.state.write_pos;
-    *phase = started.state.lfo_phase;
-    *rate = started.state.sample_rate;
+    let started = Flanger::new(new_sample_rate, memory);
+    *write_pos = started.state.write_pos;
+    *lfo_phase = started.state.lfo_phase;
+    *sample_rate = started.state.sample_rate;
     let outcome = started.outcome;
     outcome.number()
 }
 
 #[no_mangle]
 pub extern "C" fn room_raw_flanger_retune(
-    sample_rate: f64,
+    new_sample_rate: f64,
     memory: &mut [f64],
-    pos: &mut u64,
-    phase: &mut f64,
-    rate: &mut f64,
+    write_pos: &mut u64,
+    lfo_phase: &mut f64,
+    sample_rate: &mut f64,
 ) -> u32
-    ensures { λ r. ⌜ CallReturns flanger (retune «sample_rate») (flangerUnit (now (pos .entry)) (now (phase .entry)) (now (rate .entry)) (now (memory .entry))) (flangerUnit (now (pos .exit)) (now (phase .exit)) (now (rate .exit)) (now (memory .exit))) r ⌝ }
+    ensures { λ r. ⌜ CallReturns flanger (retune «new_sample_rate»)
+        (flangerUnit (now («write_pos» .entry)) (now («lfo_phase» .entry)) (now («sample_rate» .entry)) (now (memory .entry)))
+        (flangerUnit (now («write_pos» .exit)) (now («lfo_phase» .exit)) (now («sample_rate» .exit)) (now (memory .exit))) r ⌝ }
 {
     let state = Flanger {
-        write_pos: *pos,
-        lfo_phase: *phase,
-        sample_rate: *rate,
+        write_pos: *write_pos,
+        lfo_phase: *lfo_phase,
+        sample_rate: *sample_rate,
     };
-    let cleared = state.set_sample_rate(sample_rate, memory);
+    let cleared = state.set_sample_rate(new_sample_rate, memory);
     let outcome = cleared.outcome;
     let number = outcome.number();
     if number != 0 {
         return number;
     }
-    *pos = cleared.state.write_pos;
-    *phase = cleared.state.lfo_phase;
-    *rate = cleared.state.sample_rate;
+    *write_pos = cleared.state.write_pos;
+    *lfo_phase = cleared.state.lfo_phase;
+    *sample_rate = cleared.state.sample_rate;
     0
 }
 
 #[no_mangle]
 pub extern "C" fn room_raw_flanger_reset(
     memory: &mut [f64],
-    pos: &mut u64,
-    phase: &mut f64,
-    rate: f64,
+    write_pos: &mut u64,
+    lfo_phase: &mut f64,
+    sample_rate: f64,
 ) -> u32
-    ensures { λ r. ⌜ CallReturns flanger reset (flangerUnit (now (pos .entry)) (now (phase .entry)) rate (now (memory .entry))) (flangerUnit (now (pos .exit)) (now (phase .exit)) rate (now (memory .exit))) r ⌝ }
+    ensures { λ r. ⌜ CallReturns flanger reset
+        (flangerUnit (now («write_pos» .entry)) (now («lfo_phase» .entry)) «sample_rate» (now (memory .entry)))
+        (flangerUnit (now («write_pos» .exit)) (now («lfo_phase» .exit)) «sample_rate» (now (memory .exit))) r ⌝ }
 {
     let state = Flanger {
-        write_pos: *pos,
-        lfo_phase: *phase,
-        sample_rate: rate,
+        write_pos: *write_pos,
+        lfo_phase: *lfo_phase,
+        sample_rate,
     };
     let cleared = state.reset(memory);
     let outcome = cleared.outcome;
@@ -74,17 +79,17 @@ pub extern "C" fn room_raw_flanger_reset(
     if number != 0 {
         return number;
     }
-    *pos = cleared.state.write_pos;
-    *phase = cleared.state.lfo_phase;
+    *write_pos = cleared.state.write_pos;
+    *lfo_phase = cleared.state.lfo_phase;
     0
 }
 
 // A tick. The mask's bits say which ports are set: 1 audio, 2 depth, 4 feedback, 8 mix.
 #[no_mangle]
 pub extern "C" fn room_raw_flanger_tick(
-    pos: &mut u64,
-    phase: &mut f64,
-    rate: f64,
+    write_pos: &mut u64,
+    lfo_phase: &mut f64,
+    sample_rate: f64,
     memory: &mut [f64],
     set: u32,
     audio: f64,
@@ -96,12 +101,15 @@ pub extern "C" fn room_raw_flanger_tick(
     sine1: f64,
     out: &mut [f64; 3],
 ) -> u32
-    ensures { λ r. ⌜ TickReturns flanger 3 (tickOf (portAt set 1 audio) (portAt set 2 depth) (portAt set 4 feedback) (portAt set 8 mix) frequency sine0 sine1) (flangerUnit (now (pos .entry)) (now (phase .entry)) rate (now (memory .entry))) (flangerUnit (now (pos .exit)) (now (phase .exit)) rate (now (memory .exit))) (now (out .exit)) r ⌝ }
+    ensures { λ r. ⌜ TickReturns flanger 3
+        (tickOf (portAt set 1 audio) (portAt set 2 depth) (portAt set 4 feedback) (portAt set 8 mix) frequency sine0 sine1)
+        (flangerUnit (now («write_pos» .entry)) (now («lfo_phase» .entry)) «sample_rate» (now (memory .entry)))
+        (flangerUnit (now («write_pos» .exit)) (now («lfo_phase» .exit)) «sample_rate» (now (memory .exit))) (now (out .exit)) r ⌝ }
 {
     let state = Flanger {
-        write_pos: *pos,
-        lfo_phase: *phase,
-        sample_rate: rate,
+        write_pos: *write_pos,
+        lfo_phase: *lfo_phase,
+        sample_rate,
     };
     let ticked = state.tick(
         memory,
@@ -119,25 +127,25 @@ pub extern "C" fn room_raw_flanger_tick(
     if number != 0 {
         return number;
     }
-    *pos = ticked.state.write_pos;
-    *phase = ticked.state.lfo_phase;
+    *write_pos = ticked.state.write_pos;
+    *lfo_phase = ticked.state.lfo_phase;
     0
 }
 
 #[no_mangle]
 pub extern "C" fn room_raw_flanger_silent(
-    pos: u64,
-    phase: f64,
-    rate: f64,
+    write_pos: u64,
+    lfo_phase: f64,
+    sample_rate: f64,
     memory: &[f64],
     out: &mut u32,
 ) -> u32
-    ensures { λ r. ⌜ AskReturns flanger (flangerUnit pos phase rate (now (memory .entry))) (now (out .exit)) r ⌝ }
+    ensures { λ r. ⌜ AskReturns flanger (flangerUnit «write_pos» «lfo_phase» «sample_rate» (now (memory .entry))) (now (out .exit)) r ⌝ }
 {
     let state = Flanger {
-        write_pos: pos,
-        lfo_phase: phase,
-        sample_rate: rate,
+        write_pos,
+        lfo_phase,
+        sample_rate,
     };
     let silence = state.silent(memory);
     *out = silence.flag();

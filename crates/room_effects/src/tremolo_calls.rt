@@ -10,23 +10,28 @@ use tremolo::Tremolo;
 
 // Start of a tremolo. A refused one writes the state of zeros too.
 #[no_mangle]
-pub extern "C" fn room_raw_tremolo_start(sample_rate: f64, phase: &mut f64, rate: &mut f64) -> u32
-    ensures { λ r. ⌜ StartReturns tremolo «sample_rate» [] (tremoloUnit (now (phase .exit)) (now (rate .exit))) r ⌝ }
+pub extern "C" fn room_raw_tremolo_start(
+    new_sample_rate: f64,
+    lfo_phase: &mut f64,
+    sample_rate: &mut f64,
+) -> u32
+    ensures { λ r. ⌜ StartReturns tremolo «new_sample_rate» [] (tremoloUnit (now («lfo_phase» .exit)) (now («sample_rate» .exit))) r ⌝ }
 {
-    let started = Tremolo::new(sample_rate);
-    *phase = started.state.lfo_phase;
-    *rate = started.state.sample_rate;
+    let started = Tremolo::new(new_sample_rate);
+    *lfo_phase = started.state.lfo_phase;
+    *sample_rate = started.state.sample_rate;
     let outcome = started.outcome;
     outcome.number()
 }
 
 #[no_mangle]
-pub extern "C" fn room_raw_tremolo_reset(phase: &mut f64, rate: f64) -> u32
-    ensures { λ r. ⌜ CallReturns tremolo reset (tremoloUnit (now (phase .entry)) rate) (tremoloUnit (now (phase .exit)) rate) r ⌝ }
+pub extern "C" fn room_raw_tremolo_reset(lfo_phase: &mut f64, sample_rate: f64) -> u32
+    ensures { λ r. ⌜ CallReturns tremolo reset (tremoloUnit (now («lfo_phase» .entry)) «sample_rate»)
+        (tremoloUnit (now («lfo_phase» .exit)) «sample_rate») r ⌝ }
 {
     let state = Tremolo {
-        lfo_phase: *phase,
-        sample_rate: rate,
+        lfo_phase: *lfo_phase,
+        sample_rate,
     };
     let cleared = state.reset();
     let outcome = cleared.outcome;
@@ -34,15 +39,15 @@ pub extern "C" fn room_raw_tremolo_reset(phase: &mut f64, rate: f64) -> u32
     if number != 0 {
         return number;
     }
-    *phase = cleared.state.lfo_phase;
+    *lfo_phase = cleared.state.lfo_phase;
     0
 }
 
 // A tick. The mask's bits say which ports are set: 1 audio, 2 depth, 4 shape.
 #[no_mangle]
 pub extern "C" fn room_raw_tremolo_tick(
-    phase: &mut f64,
-    rate: f64,
+    lfo_phase: &mut f64,
+    sample_rate: f64,
     set: u32,
     audio: f64,
     depth: f64,
@@ -51,11 +56,13 @@ pub extern "C" fn room_raw_tremolo_tick(
     sine: f64,
     out: &mut f64,
 ) -> u32
-    ensures { λ r. ⌜ TickReturns tremolo 1 (tickOf (portAt set 1 audio) (portAt set 2 depth) (portAt set 4 shape) frequency sine) (tremoloUnit (now (phase .entry)) rate) (tremoloUnit (now (phase .exit)) rate) (now (out .exit) ∷ []) r ⌝ }
+    ensures { λ r. ⌜ TickReturns tremolo 1 (tickOf (portAt set 1 audio) (portAt set 2 depth) (portAt set 4 shape) frequency sine)
+        (tremoloUnit (now («lfo_phase» .entry)) «sample_rate») (tremoloUnit (now («lfo_phase» .exit)) «sample_rate») (now (out .exit) ∷ [])
+        r ⌝ }
 {
     let state = Tremolo {
-        lfo_phase: *phase,
-        sample_rate: rate,
+        lfo_phase: *lfo_phase,
+        sample_rate,
     };
     let ticked = state.tick(
         port_at(set, 1, audio),
@@ -70,17 +77,17 @@ pub extern "C" fn room_raw_tremolo_tick(
     if number != 0 {
         return number;
     }
-    *phase = ticked.state.lfo_phase;
+    *lfo_phase = ticked.state.lfo_phase;
     0
 }
 
 #[no_mangle]
-pub extern "C" fn room_raw_tremolo_silent(phase: f64, rate: f64, out: &mut u32) -> u32
-    ensures { λ r. ⌜ AskReturns tremolo (tremoloUnit phase rate) (now (out .exit)) r ⌝ }
+pub extern "C" fn room_raw_tremolo_silent(lfo_phase: f64, sample_rate: f64, out: &mut u32) -> u32
+    ensures { λ r. ⌜ AskReturns tremolo (tremoloUnit «lfo_phase» «sample_rate») (now (out .exit)) r ⌝ }
 {
     let state = Tremolo {
-        lfo_phase: phase,
-        sample_rate: rate,
+        lfo_phase,
+        sample_rate,
     };
     let silence = state.silent();
     *out = silence.flag();

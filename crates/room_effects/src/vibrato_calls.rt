@@ -11,62 +11,67 @@ use vibrato::Vibrato;
 // Start of a vibrato. A refused one writes the state of zeros too, and leaves the memory as it was.
 #[no_mangle]
 pub extern "C" fn room_raw_vibrato_start(
-    sample_rate: f64,
+    new_sample_rate: f64,
     memory: &mut [f64],
-    pos: &mut u64,
-    phase: &mut f64,
-    rate: &mut f64,
+    write_pos: &mut u64,
+    lfo_phase: &mut f64,
+    sample_rate: &mut f64,
 ) -> u32
-    ensures { λ r. ⌜ StartReturns vibrato «sample_rate» (now (memory .entry)) (vibratoUnit (now (pos .exit)) (now (phase .exit)) (now (rate .exit)) (now (memory .exit))) r ⌝ }
+    ensures { λ r. ⌜ StartReturns vibrato «new_sample_rate» (now (memory .entry))
+        (vibratoUnit (now («write_pos» .exit)) (now («lfo_phase» .exit)) (now («sample_rate» .exit)) (now (memory .exit))) r ⌝ }
 {
-    let started = Vibrato::new(sample_rate, memory);
-    *pos = started.state.write_pos;
-    *phase = started.state.lfo_phase;
-    *rate = started.state.sample_rate;
+    let started = Vibrato::new(new_sample_rate, memory);
+    *write_pos = started.state.write_pos;
+    *lfo_phase = started.state.lfo_phase;
+    *sample_rate = started.state.sample_rate;
     let outcome = started.outcome;
     outcome.number()
 }
 
 #[no_mangle]
 pub extern "C" fn room_raw_vibrato_retune(
-    sample_rate: f64,
+    new_sample_rate: f64,
     memory: &mut [f64],
-    pos: &mut u64,
-    phase: &mut f64,
-    rate: &mut f64,
+    write_pos: &mut u64,
+    lfo_phase: &mut f64,
+    sample_rate: &mut f64,
 ) -> u32
-    ensures { λ r. ⌜ CallReturns vibrato (retune «sample_rate») (vibratoUnit (now (pos .entry)) (now (phase .entry)) (now (rate .entry)) (now (memory .entry))) (vibratoUnit (now (pos .exit)) (now (phase .exit)) (now (rate .exit)) (now (memory .exit))) r ⌝ }
+    ensures { λ r. ⌜ CallReturns vibrato (retune «new_sample_rate»)
+        (vibratoUnit (now («write_pos» .entry)) (now («lfo_phase» .entry)) (now («sample_rate» .entry)) (now (memory .entry)))
+        (vibratoUnit (now («write_pos» .exit)) (now («lfo_phase» .exit)) (now («sample_rate» .exit)) (now (memory .exit))) r ⌝ }
 {
     let state = Vibrato {
-        write_pos: *pos,
-        lfo_phase: *phase,
-        sample_rate: *rate,
+        write_pos: *write_pos,
+        lfo_phase: *lfo_phase,
+        sample_rate: *sample_rate,
     };
-    let retuned = state.set_sample_rate(sample_rate, memory);
+    let retuned = state.set_sample_rate(new_sample_rate, memory);
     let outcome = retuned.outcome;
     let number = outcome.number();
     if number != 0 {
         return number;
     }
-    *pos = retuned.state.write_pos;
-    *phase = retuned.state.lfo_phase;
-    *rate = retuned.state.sample_rate;
+    *write_pos = retuned.state.write_pos;
+    *lfo_phase = retuned.state.lfo_phase;
+    *sample_rate = retuned.state.sample_rate;
     0
 }
 
 #[no_mangle]
 pub extern "C" fn room_raw_vibrato_reset(
     memory: &mut [f64],
-    pos: &mut u64,
-    phase: &mut f64,
-    rate: f64,
+    write_pos: &mut u64,
+    lfo_phase: &mut f64,
+    sample_rate: f64,
 ) -> u32
-    ensures { λ r. ⌜ CallReturns vibrato reset (vibratoUnit (now (pos .entry)) (now (phase .entry)) rate (now (memory .entry))) (vibratoUnit (now (pos .exit)) (now (phase .exit)) rate (now (memory .exit))) r ⌝ }
+    ensures { λ r. ⌜ CallReturns vibrato reset
+        (vibratoUnit (now («write_pos» .entry)) (now («lfo_phase» .entry)) «sample_rate» (now (memory .entry)))
+        (vibratoUnit (now («write_pos» .exit)) (now («lfo_phase» .exit)) «sample_rate» (now (memory .exit))) r ⌝ }
 {
     let state = Vibrato {
-        write_pos: *pos,
-        lfo_phase: *phase,
-        sample_rate: rate,
+        write_pos: *write_pos,
+        lfo_phase: *lfo_phase,
+        sample_rate,
     };
     let cleared = state.reset(memory);
     let outcome = cleared.outcome;
@@ -74,17 +79,17 @@ pub extern "C" fn room_raw_vibrato_reset(
     if number != 0 {
         return number;
     }
-    *pos = cleared.state.write_pos;
-    *phase = cleared.state.lfo_phase;
+    *write_pos = cleared.state.write_pos;
+    *lfo_phase = cleared.state.lfo_phase;
     0
 }
 
 // A tick. The mask's bits say which ports are set: 1 audio, 2 depth, 4 mix.
 #[no_mangle]
 pub extern "C" fn room_raw_vibrato_tick(
-    pos: &mut u64,
-    phase: &mut f64,
-    rate: f64,
+    write_pos: &mut u64,
+    lfo_phase: &mut f64,
+    sample_rate: f64,
     memory: &mut [f64],
     set: u32,
     audio: f64,
@@ -94,12 +99,14 @@ pub extern "C" fn room_raw_vibrato_tick(
     sine: f64,
     out: &mut f64,
 ) -> u32
-    ensures { λ r. ⌜ TickReturns vibrato 1 (tickOf (portAt set 1 audio) (portAt set 2 depth) (portAt set 4 mix) frequency sine) (vibratoUnit (now (pos .entry)) (now (phase .entry)) rate (now (memory .entry))) (vibratoUnit (now (pos .exit)) (now (phase .exit)) rate (now (memory .exit))) (now (out .exit) ∷ []) r ⌝ }
+    ensures { λ r. ⌜ TickReturns vibrato 1 (tickOf (portAt set 1 audio) (portAt set 2 depth) (portAt set 4 mix) frequency sine)
+        (vibratoUnit (now («write_pos» .entry)) (now («lfo_phase» .entry)) «sample_rate» (now (memory .entry)))
+        (vibratoUnit (now («write_pos» .exit)) (now («lfo_phase» .exit)) «sample_rate» (now (memory .exit))) (now (out .exit) ∷ []) r ⌝ }
 {
     let state = Vibrato {
-        write_pos: *pos,
-        lfo_phase: *phase,
-        sample_rate: rate,
+        write_pos: *write_pos,
+        lfo_phase: *lfo_phase,
+        sample_rate,
     };
     let played = state.tick(
         memory,
@@ -115,8 +122,8 @@ pub extern "C" fn room_raw_vibrato_tick(
     if number != 0 {
         return number;
     }
-    *pos = played.state.write_pos;
-    *phase = played.state.lfo_phase;
+    *write_pos = played.state.write_pos;
+    *lfo_phase = played.state.lfo_phase;
     0
 }
 

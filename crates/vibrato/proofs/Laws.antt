@@ -37,11 +37,8 @@ module _ (rate : Float) (h : rateFits rate ≡ true) where
   unfolding lineLength
   length-fits = let l = length-20 rate h in (omega arith, omega arith)
 
-  -- rate × 20 / 1000 is small enough for the quick whole part
-  pub samples-small : T (le (ofNat 1) (samples rate (ofNat 20))) × T (lt (samples rate (ofNat 20)) (ofNat 9007199254740992))
-  unfolding Ieee.fits le lt mul div ofInt
-  samples-small =
-      small (div-in (ofNat 1) (ofNat 16777216) tt tt tt (mul-in (ofNat 160000) (ofNat 3840000) tt tt tt (rate-in h) (point (ofNat 20) tt)) (point (ofNat 1000) tt))
+  pub some-places : 1 ≤ lineLength rate
+  some-places = omega (arith, length-fits .0)
 
 -- ---- the state test
 

@@ -1,15 +1,15 @@
 -- The vibrato: one line, read at a swept distance. Definitions only. Assumes nothing.
-use Prim.Native.Nat.{ℕ, _+_, _-_, _<_}
+use Prim.Native.Nat.{ℕ, _-_, _<_}
 use mathlib.Core.Bool.{Bool, _&&_, _||_, cond}
 use mathlib.Core.List.{List, [], _∷_}
 use lib.Dec.{ltb}
 use lib.ListN.{take}
 use lib.Ieee.{Float, binary64, add, mul, div}
-use Rattle.float64.specs.Number.{plusZero, ofNat, fraction, half, rateFits, phaseFits, frequencyFits, sineFits, clampOf, wholePart}
+use Rattle.float64.specs.Number.{plusZero, ofNat, fraction, half, rateFits, phaseFits, frequencyFits, sineFits, clampOf}
 use Rattle.port.specs.declared.Port.{Port}
 use Rattle.port.specs.Port.{valueOr, isNanSet}
 use Rattle.common.specs.Signal.{blended, advanced, causeNumber}
-use Rattle.common.specs.Line.{lineAt, readAt, nextPlace, allZero}
+use Rattle.common.specs.Line.{sweptLength, lineAt, readAt, nextPlace, allZero}
 use Rattle.effect.specs.Effect.{Effect, Write}
 use Rattle.effect.specs.Lines.{Lines, inEach}
 use Rattle.vibrato.specs.declared.Vibrato.{Vibrato}
@@ -27,7 +27,7 @@ tickOf audio depth mix frequency sine = record { audio = audio; depth = depth; m
 
 -- L: the whole part of rate × 20 / 1000, plus 10
 unfoldable pub lineLength : Float → ℕ
-lineLength rate = wholePart (div binary64 (mul binary64 rate (ofNat 20)) (ofNat 1000)) + 10
+lineLength rate = sweptLength (ofNat 20) rate
 
 -- the state after a start, a reset and a retune, which all zero the phase; and the one that a refused start gives
 abbrev pub fresh : Float → Vibrato

@@ -9,14 +9,13 @@ ghost use Rattle.port.specs.declared.Port.the-variants.{Set};
 ghost use Rattle.port.specs.Answer.{numberOf, outcomeReply, answerReply, silenceReply};
 ghost use Rattle.common.specs.Signal.{advanced};
 ghost use Rattle.common.specs.Line.{nextPlace};
-ghost use Rattle.effect.specs.Run.{tick, retune, reset, ask, startNumber, numberIn};
+ghost use Rattle.effect.specs.Run.{tick, retune, reset, ask, ifNone, startNumber, numberIn};
 ghost use Rattle.effect.specs.Contract.{Does, Starts};
 ghost use Rattle.effect.specs.Needed.{placesNeeded};
 ghost use Rattle.vibrato.specs.Vibrato.{vibrato, tickOf, lineLength, fresh, stateFits, distance};
 use port::Answer;
 use port::Outcome;
 use port::Port;
-use port::Refusal;
 use port::Silence;
 
 pub struct Vibrato {
@@ -40,29 +39,22 @@ pub struct Ticked {
 impl Vibrato {
     pub const MAX_DELAY_MS: f64 = 20.0;
 
-    // The places of the line. A refused rate gives 0, so that no position fits.
+    // The places of the line; 0 at a refused rate.
     fn line_length(rate: f64) -> u64
         ensures { λ r. ⌜ r ≡ cond (rateFits rate) (lineLength rate) 0 ⌝ }
     {
-        if !float64::rate_fits(rate) {
-            return 0;
-        }
-        float64::whole_part_small(rate * Vibrato::MAX_DELAY_MS / 1000.0) + 10
+        common::line_length(rate, Vibrato::MAX_DELAY_MS)
     }
 
     // The places that a start needs at the rate; 2^64 - 1 for a rate that is refused.
     pub fn places_needed(rate: f64) -> u64
         ensures { λ r. ⌜ r ≡ placesNeeded vibrato rate ⌝ }
     {
-        let n = Vibrato::line_length(rate);
-        if n == 0 {
-            return 0xffff_ffff_ffff_ffff;
-        }
-        n
+        effect::places_or_none(Vibrato::line_length(rate))
     }
 
     // Position 0 and phase 0, with the rate.
-    fn cleared(rate: f64) -> Vibrato
+    fn fresh(rate: f64) -> Vibrato
         ensures { λ r. ⌜ r ≡ fresh rate ⌝ }
     {
         Vibrato {
@@ -76,29 +68,32 @@ impl Vibrato {
     fn rate_refusal(rate: f64, places: usize) -> Outcome
         ensures { λ r. ⌜ numberOf r ≡ startNumber vibrato rate places ⌝ }
     {
-        let n = Vibrato::line_length(rate);
-        if n == 0 {
-            return Outcome::Refused(Refusal::SampleRate);
+        effect::check_rate(Vibrato::line_length(rate), places)
+    }
+
+    // What a start, a retune or a reset returns, by the outcome of its tests: the state `next`, or `kept`.
+    fn settled(outcome: Outcome, next: Vibrato, kept: Vibrato) -> Cleared
+        ensures { λ r. ⌜ (r .state ≡ ifNone (numberOf outcome) next kept) × (r .outcome ≡ outcome) ⌝ }
+    {
+        if let Outcome::Accepted = outcome {
+            return Cleared {
+                state: next,
+                outcome,
+            };
         }
-        effect::check_memory(n, places)
+        Cleared {
+            state: kept,
+            outcome,
+        }
     }
 
     // Start: phase 0, at the rate.
     pub fn new(sample_rate: f64, mem: &mut [f64]) -> Cleared
         ensures { λ r. ⌜ Starts vibrato «sample_rate» (now (mem .entry)) (r .state) (now (mem .exit)) (outcomeReply (r .outcome)) ⌝ }
     {
-        let refusal = Vibrato::rate_refusal(sample_rate, mem.len());
-        if let Outcome::Refused(cause) = refusal {
-            return Cleared {
-                state: Vibrato::cleared(0.0),
-                outcome: Outcome::Refused(cause),
-            };
-        }
-        common::clear(mem);
-        Cleared {
-            state: Vibrato::cleared(sample_rate),
-            outcome: Outcome::Accepted,
-        }
+        let outcome = Vibrato::rate_refusal(sample_rate, mem.len());
+        effect::clear(outcome, mem);
+        Vibrato::settled(outcome, Vibrato::fresh(sample_rate), Vibrato::fresh(0.0))
     }
 
     // The state test, where n is the length of the line.
@@ -114,35 +109,19 @@ impl Vibrato {
         requires { ⌜ n ≡ cond (rateFits (self .«sample_rate»)) (lineLength (self .«sample_rate»)) 0 ⌝ }
         ensures { λ r. ⌜ numberOf r ≡ numberIn vibrato reset places self ⌝ }
     {
-        if !self.state_fits(n) {
-            return Outcome::Refused(Refusal::State);
-        }
-        effect::check_memory(n, places)
+        effect::check_state(self.state_fits(n), effect::check_memory(n, places))
     }
 
     // Retune: a clearing at another rate. The phase goes to 0 too.
     pub fn set_sample_rate(self, sample_rate: f64, mem: &mut [f64]) -> Cleared
-        ensures { λ r. ⌜ Does vibrato (retune «sample_rate») self (now (mem .entry)) (r .state) (now (mem .exit)) (outcomeReply (r .outcome)) ⌝ }
+        ensures { λ r. ⌜ Does vibrato (retune «sample_rate») self (now (mem .entry)) (r .state) (now (mem .exit))
+            (outcomeReply (r .outcome)) ⌝ }
     {
         let n = Vibrato::line_length(self.sample_rate);
-        if !self.state_fits(n) {
-            return Cleared {
-                state: self,
-                outcome: Outcome::Refused(Refusal::State),
-            };
-        }
-        let refusal = Vibrato::rate_refusal(sample_rate, mem.len());
-        if let Outcome::Refused(cause) = refusal {
-            return Cleared {
-                state: self,
-                outcome: Outcome::Refused(cause),
-            };
-        }
-        common::clear(mem);
-        Cleared {
-            state: Vibrato::cleared(sample_rate),
-            outcome: Outcome::Accepted,
-        }
+        let others = Vibrato::rate_refusal(sample_rate, mem.len());
+        let outcome = effect::check_state(self.state_fits(n), others);
+        effect::clear(outcome, mem);
+        Vibrato::settled(outcome, Vibrato::fresh(sample_rate), self)
     }
 
     // Reset: a clearing at the rate in force, with phase 0 again.
@@ -150,18 +129,9 @@ impl Vibrato {
         ensures { λ r. ⌜ Does vibrato reset self (now (mem .entry)) (r .state) (now (mem .exit)) (outcomeReply (r .outcome)) ⌝ }
     {
         let n = Vibrato::line_length(self.sample_rate);
-        let refusal = self.refusal(n, mem.len());
-        if let Outcome::Refused(cause) = refusal {
-            return Cleared {
-                state: self,
-                outcome: Outcome::Refused(cause),
-            };
-        }
-        common::clear(mem);
-        Cleared {
-            state: Vibrato::cleared(self.sample_rate),
-            outcome: Outcome::Accepted,
-        }
+        let outcome = self.refusal(n, mem.len());
+        effect::clear(outcome, mem);
+        Vibrato::settled(outcome, Vibrato::fresh(self.sample_rate), self)
     }
 
     // Silent? Whether every place of the line is +0 or -0.
@@ -169,16 +139,8 @@ impl Vibrato {
         ensures { λ r. ⌜ Does vibrato ask self (now (mem .entry)) self (now (mem .entry)) (silenceReply r) ⌝ }
     {
         let n = Vibrato::line_length(self.sample_rate);
-        let refusal = self.refusal(n, mem.len());
-        if let Outcome::Refused(cause) = refusal {
-            return Silence::Refused(cause);
-        }
-        let used = n as usize;
-        if common::all_zero(&mem[..used]) {
-            Silence::Silent
-        } else {
-            Silence::Sounding
-        }
+        let outcome = self.refusal(n, mem.len());
+        effect::silence(outcome, n as usize, mem)
     }
 
     // (10 + sine x (depth x 10 x 0.9)) x rate / 1000, clamped to 1 to n - 1, n the length of the line.
@@ -190,11 +152,7 @@ impl Vibrato {
         let base = Vibrato::MAX_DELAY_MS * 0.5;
         let swing = depth * base * 0.9;
         let samples = (base + sine * swing) * rate / 1000.0;
-        let last = n - 1;
-        float64::at_most(
-            float64::at_least(samples, 1.0),
-            std::num::nearest_u64_to_f64(last as u32 as u64),
-        )
+        common::held_to_line(samples, (n - 1) as u32)
     }
 
     // The state after a tick.
@@ -226,7 +184,8 @@ impl Vibrato {
     ) -> Ticked
         requires { ⌜ n ≡ lineLength (self .«sample_rate») ⌝ }
         requires { ⌜ numberIn vibrato (tick (tickOf (Set audio) (Set depth) (Set mix) frequency sine)) (length (now mem)) self ≡ 0 ⌝ }
-        ensures { λ r. ⌜ Does vibrato (tick (tickOf (Set audio) (Set depth) (Set mix) frequency sine)) self (now (mem .entry)) (r .state) (now (mem .exit)) (answerReply (r .answer)) ⌝ }
+        ensures { λ r. ⌜ Does vibrato (tick (tickOf (Set audio) (Set depth) (Set mix) frequency sine)) self (now (mem .entry)) (r .state)
+            (now (mem .exit)) (answerReply (r .answer)) ⌝ }
     {
         let state = self.next(n, frequency);
         let amount = float64::clamp(depth, 0.0, 1.0);
@@ -252,7 +211,8 @@ impl Vibrato {
         frequency: f64,
         sine: f64,
     ) -> Ticked
-        ensures { λ r. ⌜ Does vibrato (tick (tickOf audio depth mix frequency sine)) self (now (mem .entry)) (r .state) (now (mem .exit)) (answerReply (r .answer)) ⌝ }
+        ensures { λ r. ⌜ Does vibrato (tick (tickOf audio depth mix frequency sine)) self (now (mem .entry)) (r .state) (now (mem .exit))
+            (answerReply (r .answer)) ⌝ }
     {
         let n = Vibrato::line_length(self.sample_rate);
         let refusal = self.refusal(n, mem.len());

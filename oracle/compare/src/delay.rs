@@ -43,24 +43,24 @@ pub fn run<const LINEAR: bool>(ticks: u64, seed: u64) -> Result<String, String> 
 fn junk_state() -> State {
     State {
         write_pos: JUNK as u64,
-        distance: JUNK,
-        primed: JUNK as u32,
+        smoothed_delay: JUNK,
+        delay_primed: JUNK as u32,
         sample_rate: JUNK,
-        coefficient: JUNK,
-        maximum: JUNK,
-        linear: JUNK as u32,
+        delay_smooth_coef: JUNK,
+        max_delay_secs: JUNK,
+        linear_time: JUNK as u32,
     }
 }
 
 fn zero_state() -> State {
     State {
         write_pos: 0,
-        distance: 0.0,
-        primed: 0,
+        smoothed_delay: 0.0,
+        delay_primed: 0,
         sample_rate: 0.0,
-        coefficient: 0.0,
-        maximum: 0.0,
-        linear: 0,
+        delay_smooth_coef: 0.0,
+        max_delay_secs: 0.0,
+        linear_time: 0,
     }
 }
 
@@ -71,20 +71,23 @@ const WHOLE: u64 = 64;
 const LONGEST: u64 = 20_000;
 
 fn length(state: &State) -> u64 {
-    table::delay_length(state.sample_rate, state.maximum)
+    table::delay_length(state.sample_rate, state.max_delay_secs)
 }
 
 /// The places that a start with these settings needs.
 fn places(settings: &Settings) -> u64 {
-    table::delay_length(settings.sample_rate, table::held_maximum(settings.maximum))
+    table::delay_length(
+        settings.sample_rate,
+        table::held_maximum(settings.max_delay_secs),
+    )
 }
 
 fn rust_of(settings: &Settings) -> Unit {
     Unit::new(
         settings.sample_rate,
-        settings.maximum,
-        settings.coefficient,
-        settings.linear != 0,
+        settings.max_delay_secs,
+        settings.delay_smooth_coef,
+        settings.linear_time != 0,
     )
 }
 
@@ -104,9 +107,9 @@ impl<const LINEAR: bool> Pair for Delay<LINEAR> {
     fn start(sample_rate: f64, random: &mut Random) -> Result<Self, String> {
         let settings = Settings {
             sample_rate,
-            coefficient: coefficient(sample_rate),
-            maximum: random.within(0.001, 0.1),
-            linear: u32::from(LINEAR),
+            delay_smooth_coef: coefficient(sample_rate),
+            max_delay_secs: random.within(0.001, 0.1),
+            linear_time: u32::from(LINEAR),
         };
         Self::started(&settings, 0)
     }
@@ -197,8 +200,8 @@ impl<const LINEAR: bool> Delay<LINEAR> {
         next.all_agrees()?;
         same_count(
             "linear",
-            u64::from(state.linear),
-            usize::from(settings.linear != 0),
+            u64::from(state.linear_time),
+            usize::from(settings.linear_time != 0),
         )?;
         if self.memory.count() == 0 || next.length() <= LONGEST {
             *self = next;
@@ -253,20 +256,25 @@ impl<const LINEAR: bool> Delay<LINEAR> {
     /// The Rust's unit gets the state that ours is handed: at another rate, with a line of another length. (Before a retune that
     /// may be longer than the memory; then all is cleared.)
     fn rust_at(&mut self, state: &State) {
-        let settings = [state.sample_rate, state.maximum].map(f64::to_bits);
+        let settings = [state.sample_rate, state.max_delay_secs].map(f64::to_bits);
         if settings != [self.rust.sample_rate(), self.rust.maximum()].map(f64::to_bits) {
-            self.rust = Unit::new(state.sample_rate, state.maximum, state.coefficient, LINEAR);
+            self.rust = Unit::new(
+                state.sample_rate,
+                state.max_delay_secs,
+                state.delay_smooth_coef,
+                LINEAR,
+            );
             let places = self.memory.shown(self.memory.count());
             for (line, place) in self.rust.line_mut().iter_mut().zip(places) {
                 *line = *place;
             }
         }
-        self.rust.set_coefficient(state.coefficient);
-        self.rust.set_linear(state.linear != 0);
+        self.rust.set_coefficient(state.delay_smooth_coef);
+        self.rust.set_linear(state.linear_time != 0);
         self.rust.set_moving(Moving {
             write_pos: state.write_pos as usize,
-            distance: state.distance,
-            primed: state.primed != 0,
+            smoothed_delay: state.smoothed_delay,
+            delay_primed: state.delay_primed != 0,
         });
     }
 
@@ -282,18 +290,18 @@ impl<const LINEAR: bool> Delay<LINEAR> {
         same_count("position", self.state.write_pos, moving.write_pos)?;
         same_count(
             "primed",
-            u64::from(self.state.primed),
-            usize::from(moving.primed),
+            u64::from(self.state.delay_primed),
+            usize::from(moving.delay_primed),
         )?;
-        agree("distance", self.state.distance, moving.distance)?;
+        agree("distance", self.state.smoothed_delay, moving.smoothed_delay)?;
         agree("rate", self.state.sample_rate, self.rust.sample_rate())?;
         agree(
             "coefficient",
-            self.state.coefficient,
+            self.state.delay_smooth_coef,
             self.rust.coefficient(),
         )?;
-        agree("maximum", self.state.maximum, self.rust.maximum())?;
-        let linear = u64::from(self.state.linear != 0);
+        agree("maximum", self.state.max_delay_secs, self.rust.maximum())?;
+        let linear = u64::from(self.state.linear_time != 0);
         same_count("linear", linear, usize::from(self.rust.linear()))
     }
 
@@ -317,8 +325,8 @@ fn state_untouched(should: &State, is: &State) -> Result<(), String> {
     let counts = |state: &State| {
         [
             ("position after a refusal", state.write_pos),
-            ("primed after a refusal", u64::from(state.primed)),
-            ("linear after a refusal", u64::from(state.linear)),
+            ("primed after a refusal", u64::from(state.delay_primed)),
+            ("linear after a refusal", u64::from(state.linear_time)),
         ]
     };
     for ((what, should), (_, is)) in counts(should).into_iter().zip(counts(is)) {
@@ -326,10 +334,10 @@ fn state_untouched(should: &State, is: &State) -> Result<(), String> {
     }
     let numbers = |state: &State| {
         [
-            ("distance after a refusal", state.distance),
+            ("distance after a refusal", state.smoothed_delay),
             ("rate after a refusal", state.sample_rate),
-            ("coefficient after a refusal", state.coefficient),
-            ("maximum after a refusal", state.maximum),
+            ("coefficient after a refusal", state.delay_smooth_coef),
+            ("maximum after a refusal", state.max_delay_secs),
         ]
     };
     for ((what, should), (_, is)) in numbers(should).into_iter().zip(numbers(is)) {

@@ -4,52 +4,52 @@ use crate::MOST_PORTS;
 
 extern "C" {
     fn room_raw_delay_start(
-        sample_rate: f64,
-        max_delay_secs: f64,
-        coef: f64,
-        linear_time: u32,
+        new_sample_rate: f64,
+        new_max_delay_secs: f64,
+        new_delay_smooth_coef: f64,
+        new_linear_time: u32,
         memory: *mut f64,
         places: u64,
-        pos: &mut u64,
-        distance: &mut f64,
-        primed: &mut u32,
-        rate: &mut f64,
-        coefficient: &mut f64,
-        maximum: &mut f64,
-        linear: &mut u32,
+        write_pos: &mut u64,
+        smoothed_delay: &mut f64,
+        delay_primed: &mut u32,
+        sample_rate: &mut f64,
+        delay_smooth_coef: &mut f64,
+        max_delay_secs: &mut f64,
+        linear_time: &mut u32,
     ) -> u32;
     fn room_raw_delay_retune(
-        sample_rate: f64,
-        coef: f64,
+        new_sample_rate: f64,
+        new_delay_smooth_coef: f64,
         memory: *mut f64,
         places: u64,
-        pos: &mut u64,
-        distance: &mut f64,
-        primed: &mut u32,
-        rate: &mut f64,
-        coefficient: &mut f64,
-        maximum: f64,
-        linear: u32,
+        write_pos: &mut u64,
+        smoothed_delay: &mut f64,
+        delay_primed: &mut u32,
+        sample_rate: &mut f64,
+        delay_smooth_coef: &mut f64,
+        max_delay_secs: f64,
+        linear_time: u32,
     ) -> u32;
     fn room_raw_delay_reset(
         memory: *mut f64,
         places: u64,
-        pos: &mut u64,
-        distance: &mut f64,
-        primed: &mut u32,
-        rate: f64,
-        coefficient: f64,
-        maximum: f64,
-        linear: u32,
+        write_pos: &mut u64,
+        smoothed_delay: &mut f64,
+        delay_primed: &mut u32,
+        sample_rate: f64,
+        delay_smooth_coef: f64,
+        max_delay_secs: f64,
+        linear_time: u32,
     ) -> u32;
     fn room_raw_delay_tick(
-        pos: &mut u64,
-        distance: &mut f64,
-        primed: &mut u32,
-        rate: f64,
-        coefficient: f64,
-        maximum: f64,
-        linear: u32,
+        write_pos: &mut u64,
+        smoothed_delay: &mut f64,
+        delay_primed: &mut u32,
+        sample_rate: f64,
+        delay_smooth_coef: f64,
+        max_delay_secs: f64,
+        linear_time: u32,
         memory: *mut f64,
         places: u64,
         set: u32,
@@ -61,13 +61,13 @@ extern "C" {
         out: &mut f64,
     ) -> u32;
     fn room_raw_delay_silent(
-        pos: u64,
-        distance: f64,
-        primed: u32,
-        rate: f64,
-        coefficient: f64,
-        maximum: f64,
-        linear: u32,
+        write_pos: u64,
+        smoothed_delay: f64,
+        delay_primed: u32,
+        sample_rate: f64,
+        delay_smooth_coef: f64,
+        max_delay_secs: f64,
+        linear_time: u32,
         memory: *const f64,
         places: u64,
         out: &mut u32,
@@ -78,21 +78,21 @@ extern "C" {
 #[derive(Clone, Copy, Debug)]
 pub struct State {
     pub write_pos: u64,
-    pub distance: f64,
-    pub primed: u32,
+    pub smoothed_delay: f64,
+    pub delay_primed: u32,
     pub sample_rate: f64,
-    pub coefficient: f64,
-    pub maximum: f64,
-    pub linear: u32,
+    pub delay_smooth_coef: f64,
+    pub max_delay_secs: f64,
+    pub linear_time: u32,
 }
 
 /// What a start is handed.
 #[derive(Clone, Copy, Debug)]
 pub struct Settings {
     pub sample_rate: f64,
-    pub coefficient: f64,
-    pub maximum: f64,
-    pub linear: u32,
+    pub delay_smooth_coef: f64,
+    pub max_delay_secs: f64,
+    pub linear_time: u32,
 }
 
 /// A tick's arguments: which ports are set, their numbers (audio, time, feedback, mix), the curve number.
@@ -111,36 +111,41 @@ pub fn start(state: &mut State, memory: &mut [f64], settings: &Settings) -> u32 
     unsafe {
         room_raw_delay_start(
             settings.sample_rate,
-            settings.maximum,
-            settings.coefficient,
-            settings.linear,
+            settings.max_delay_secs,
+            settings.delay_smooth_coef,
+            settings.linear_time,
             memory.as_mut_ptr(),
             memory.len() as u64,
             &mut state.write_pos,
-            &mut state.distance,
-            &mut state.primed,
+            &mut state.smoothed_delay,
+            &mut state.delay_primed,
             &mut state.sample_rate,
-            &mut state.coefficient,
-            &mut state.maximum,
-            &mut state.linear,
+            &mut state.delay_smooth_coef,
+            &mut state.max_delay_secs,
+            &mut state.linear_time,
         )
     }
 }
 
-pub fn retune(state: &mut State, memory: &mut [f64], sample_rate: f64, coefficient: f64) -> u32 {
+pub fn retune(
+    state: &mut State,
+    memory: &mut [f64],
+    sample_rate: f64,
+    delay_smooth_coef: f64,
+) -> u32 {
     unsafe {
         room_raw_delay_retune(
             sample_rate,
-            coefficient,
+            delay_smooth_coef,
             memory.as_mut_ptr(),
             memory.len() as u64,
             &mut state.write_pos,
-            &mut state.distance,
-            &mut state.primed,
+            &mut state.smoothed_delay,
+            &mut state.delay_primed,
             &mut state.sample_rate,
-            &mut state.coefficient,
-            state.maximum,
-            state.linear,
+            &mut state.delay_smooth_coef,
+            state.max_delay_secs,
+            state.linear_time,
         )
     }
 }
@@ -151,12 +156,12 @@ pub fn reset(state: &mut State, memory: &mut [f64]) -> u32 {
             memory.as_mut_ptr(),
             memory.len() as u64,
             &mut state.write_pos,
-            &mut state.distance,
-            &mut state.primed,
+            &mut state.smoothed_delay,
+            &mut state.delay_primed,
             state.sample_rate,
-            state.coefficient,
-            state.maximum,
-            state.linear,
+            state.delay_smooth_coef,
+            state.max_delay_secs,
+            state.linear_time,
         )
     }
 }
@@ -167,12 +172,12 @@ pub fn tick(state: &mut State, memory: &mut [f64], t: &Tick, out: &mut f64) -> u
     unsafe {
         room_raw_delay_tick(
             &mut state.write_pos,
-            &mut state.distance,
-            &mut state.primed,
+            &mut state.smoothed_delay,
+            &mut state.delay_primed,
             state.sample_rate,
-            state.coefficient,
-            state.maximum,
-            state.linear,
+            state.delay_smooth_coef,
+            state.max_delay_secs,
+            state.linear_time,
             memory.as_mut_ptr(),
             memory.len() as u64,
             t.set,
@@ -190,12 +195,12 @@ pub fn silent(state: &State, memory: &[f64], out: &mut u32) -> u32 {
     unsafe {
         room_raw_delay_silent(
             state.write_pos,
-            state.distance,
-            state.primed,
+            state.smoothed_delay,
+            state.delay_primed,
             state.sample_rate,
-            state.coefficient,
-            state.maximum,
-            state.linear,
+            state.delay_smooth_coef,
+            state.max_delay_secs,
+            state.linear_time,
             memory.as_ptr(),
             memory.len() as u64,
             out,

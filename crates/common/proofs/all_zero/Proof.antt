@@ -20,24 +20,6 @@ abbrev μ-loop : tie.MeasureT-loop
 loop-holds : tie.Need-loop-holds Inv-loop μ-loop
 loop-holds c = (search needs, refl)
 
-part-end-requires : tie.Need-part-end-requires Inv-loop μ-loop
-part-end-requires c κs = search needs
-
-mul-part-zero : tie.Need-mul-part-zero Inv-loop μ-loop
-mul-part-zero c = search needs
-
-sub-part-zero : tie.Need-sub-part-zero Inv-loop μ-loop
-sub-part-zero c = search needs
-
-part-part-zero-start : tie.Need-part-part-zero-start Inv-loop μ-loop
-part-part-zero-start c = search needs
-
-part-part-zero-end : tie.Need-part-part-zero-end Inv-loop μ-loop
-part-part-zero-end c = search needs
-
-part-zero-requires : tie.Need-part-zero-requires Inv-loop μ-loop
-part-zero-requires c κs = search needs
-
 -- what is left, from the part just read on
 rest : (c : tie.After-part-zero Inv-loop μ-loop) → allZero (c .before .before .before .before .before .before .args .places .now) ≡ c .part-zero .result && allZero (drop (c .before .before .part-end .result) (c .before .before .before .before .before .before .args .places .now))
 rest c =
@@ -70,12 +52,12 @@ all-zero-spec =
     Inv-loop
     μ-loop
     loop-holds
-    part-end-requires
-    mul-part-zero
-    sub-part-zero
-    part-part-zero-start
-    part-part-zero-end
-    part-zero-requires
+    (search needs)
+    (search needs)
+    (search needs)
+    (search needs)
+    (search needs)
+    (search needs)
     returns
     loop-less
     loop-again

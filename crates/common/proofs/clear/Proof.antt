@@ -19,12 +19,6 @@ abbrev μ-loop : tie.MeasureT-loop
 loop-holds : tie.Need-loop-holds Inv-loop μ-loop
 loop-holds c = (search needs, refl, refl)
 
-mul-mem : tie.Need-mul-mem Inv-loop μ-loop
-mul-mem c = search needs
-
-slice-write-mem : tie.Need-slice-write-mem Inv-loop μ-loop
-slice-write-mem c = search needs
-
 add-i : tie.Need-add-i Inv-loop μ-loop
 add-i c = omega arith
 
@@ -45,9 +39,9 @@ same-length c = c .before .loop .inv .1
 
 returns : tie.Need-returns Inv-loop μ-loop
 returns c =
-    let ofNat = c .before .before .args .mem .now in
-    let e : c .before .loop .i ≡ length ofNat = omega arith in
-    rw (c .before .loop .inv .2, e) (fill-all plusZero ofNat)
+    let given = c .before .before .args .mem .now in
+    let e : c .before .loop .i ≡ length given = omega arith in
+    rw (c .before .loop .inv .2, e) (fill-all plusZero given)
 
 pub clear-spec : {M : Type 1} → statement M
 clear-spec =
@@ -56,8 +50,8 @@ clear-spec =
     Inv-loop
     μ-loop
     loop-holds
-    mul-mem
-    slice-write-mem
+    (search needs)
+    (search needs)
     add-i
     loop-less
     loop-again

@@ -6,9 +6,6 @@ use Rattle.common.proofs.Ring.{next-low, next-high}
 use Rattle.common.proofs.next_place.Statement.{statement}
 use Rattle.common.proofs.next_place.Tie as tie
 
-add-next : tie.Need-add-next
-add-next c = search needs
-
 returns : tie.Need-returns
 returns c = sym (next-high _ _ (omega arith))
 
@@ -16,4 +13,4 @@ returns-2 : tie.Need-returns-2
 returns-2 c = sym (next-low _ _ (omega arith))
 
 pub next-place-spec : {M : Type 1} → statement M
-next-place-spec = tie.close (tie.spec add-next returns returns-2)
+next-place-spec = tie.close (tie.spec (search needs) returns returns-2)

@@ -23,12 +23,6 @@ abbrev μ-loop : tie.MeasureT-loop
 loop-holds : tie.Need-loop-holds Inv-loop μ-loop
 loop-holds c = (search needs, refl)
 
-mul-zero : tie.Need-mul-zero Inv-loop μ-loop
-mul-zero c = search needs
-
-shared-slice-read-zero : tie.Need-shared-slice-read-zero Inv-loop μ-loop
-shared-slice-read-zero c = search needs
-
 add-i : tie.Need-add-i Inv-loop μ-loop
 add-i c = omega arith
 
@@ -59,8 +53,8 @@ part-zero-spec =
     Inv-loop
     μ-loop
     loop-holds
-    mul-zero
-    shared-slice-read-zero
+    (search needs)
+    (search needs)
     add-i
     loop-less
     loop-again

@@ -9,14 +9,8 @@ use Rattle.common.proofs.place_back.Tie as tie
 returns : tie.Need-returns
 returns c = (sym (place-low _ _ _ (omega arith) (omega arith)), omega arith)
 
-add-result : tie.Need-add-result
-add-result c = search needs
-
-sub-result : tie.Need-sub-result
-sub-result c = search needs
-
 returns-2 : tie.Need-returns-2
 returns-2 c = (sym (place-high _ _ _ (omega arith) (omega arith)), omega arith)
 
 pub place-back-spec : {M : Type 1} → statement M
-place-back-spec = tie.close (tie.spec returns add-result sub-result returns-2)
+place-back-spec = tie.close (tie.spec returns (search needs) (search needs) returns-2)

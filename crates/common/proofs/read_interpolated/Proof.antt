@@ -41,35 +41,14 @@ in-line c =
 whole-part-small-requires : tie.Need-whole-part-small-requires
 whole-part-small-requires c κs = (distance-in (c .before) .lower, parts (c .before) .small)
 
-cast-nearest-u64-to-f64 : tie.Need-cast-nearest-u64-to-f64
-cast-nearest-u64-to-f64 c = omega (arith, in-line c .1, c .before .before .pre .1 .0)
-
-cast-nearest-u64-to-f64-2 : tie.Need-cast-nearest-u64-to-f64-2
-cast-nearest-u64-to-f64-2 c = search needs
-
-nearest-u64-to-f64-requires : tie.Need-nearest-u64-to-f64-requires
-nearest-u64-to-f64-requires c κs = search needs
+cast-from-u32 : tie.Need-cast-from-u32
+cast-from-u32 c = omega (arith, in-line c .1, c .before .before .pre .1 .0)
 
 place-back-requires : tie.Need-place-back-requires
 place-back-requires c κs = let r = in-line (c .before) in (c .before .before .before .pre .0, (omega (arith, r .1), (r .0, omega (arith, c .before .before .before .pre .1 .0))))
 
 place-before-requires : tie.Need-place-before-requires
 place-before-requires c κs = c .place-back .ensures .1
-
-mul-blend : tie.Need-mul-blend
-mul-blend c = search needs
-
-shared-slice-read-blend : tie.Need-shared-slice-read-blend
-shared-slice-read-blend c = search needs
-
-mul-blend-2 : tie.Need-mul-blend-2
-mul-blend-2 c = search needs
-
-shared-slice-read-blend-2 : tie.Need-shared-slice-read-blend-2
-shared-slice-read-blend-2 c = search needs
-
-blend-requires : tie.Need-blend-requires
-blend-requires c κs = search needs
 
 -- one place before d samples back lies d + 1 samples back
 one-before : (q : tie.After-place-before) → q .place-before .result ≡ place (length (q .before .before .before .before .before .args .line .now)) (q .before .before .before .before .before .args .w) (q .before .before .before .whole-part-small .result + 1)
@@ -87,21 +66,20 @@ returns c =
     let d = q .before .before .before in
     let a = d .before .before .args in
     read-is (a .line .now) (a .w) (a .distance) _ _ _ _ _ (d .whole-part-small .ensures) (q .before .place-back .ensures .0) (one-before q)
-    (q .before .before .nearest-u64-to-f64 .ensures) (c .blend .ensures)
+    (q .before .before .from-u32 .ensures) (c .blend .ensures)
 
 pub read-interpolated-spec : {M : Type 1} → statement M
 read-interpolated-spec =
     tie.close
     (tie.spec
     whole-part-small-requires
-    cast-nearest-u64-to-f64
-    cast-nearest-u64-to-f64-2
-    nearest-u64-to-f64-requires
+    cast-from-u32
+    (search needs)
     place-back-requires
     place-before-requires
-    mul-blend
-    shared-slice-read-blend
-    mul-blend-2
-    shared-slice-read-blend-2
-    blend-requires
+    (search needs)
+    (search needs)
+    (search needs)
+    (search needs)
+    (search needs)
     returns)

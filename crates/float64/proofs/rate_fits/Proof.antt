@@ -4,12 +4,9 @@ use borrow.Author.Needs.{needs}
 use Rattle.float64.proofs.rate_fits.Statement.{statement}
 use Rattle.float64.proofs.rate_fits.Tie as tie
 
-in-range-requires : tie.Need-in-range-requires
-in-range-requires c κs = search needs
-
 returns : tie.Need-returns
 unfolding ofBits ofInt neg
 returns c = c .in-range .ensures
 
 pub rate-fits-spec : {M : Type 1} → statement M
-rate-fits-spec = tie.close (tie.spec in-range-requires returns)
+rate-fits-spec = tie.close (tie.spec (search needs) returns)

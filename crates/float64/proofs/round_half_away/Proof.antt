@@ -25,12 +25,6 @@ module _ (x y : Float) (d : ℕ) (a : T (fits binary64 x)) (e : d ≡ wholePart 
   down : le half (sub binary64 x y) ≡ false → d ≡ roundHalfAway x
   down k = e ∙ sym (round-down x a l (tested false k))
 
-whole-part-requires : tie.Need-whole-part-requires
-whole-part-requires c κs = search needs
-
-nearest-u64-to-f64-requires : tie.Need-nearest-u64-to-f64-requires
-nearest-u64-to-f64-requires c κs = search needs
-
 add-result : tie.Need-add-result
 unfolding ofBits ofInt
 add-result c = let w = c .before .before .before in omega (arith, w .whole-part .ensures, whole-small (w .before .args .x) (held (w .before)) (c .before .before .if1 .taken))
@@ -54,4 +48,4 @@ unfolding ofBits ofInt
 returns-3 c = c .before .whole-part .ensures ∙ sym (round-whole (c .before .before .args .x) (held (c .before .before)) (c .if1 .left))
 
 pub round-half-away-spec : {M : Type 1} → statement M
-round-half-away-spec = tie.close (tie.spec whole-part-requires nearest-u64-to-f64-requires add-result returns returns-2 returns-3)
+round-half-away-spec = tie.close (tie.spec (search needs) (search needs) add-result returns returns-2 returns-3)

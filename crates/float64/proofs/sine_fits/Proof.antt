@@ -4,12 +4,9 @@ use borrow.Author.Needs.{needs}
 use Rattle.float64.proofs.sine_fits.Statement.{statement}
 use Rattle.float64.proofs.sine_fits.Tie as tie
 
-in-range-requires : tie.Need-in-range-requires
-in-range-requires c κs = search needs
-
 returns : tie.Need-returns
 unfolding ofBits ofInt neg
 returns c = c .in-range .ensures
 
 pub sine-fits-spec : {M : Type 1} → statement M
-sine-fits-spec = tie.close (tie.spec in-range-requires returns)
+sine-fits-spec = tie.close (tie.spec (search needs) returns)

@@ -14,24 +14,6 @@ Inv-loop fd effect size mem₀ tally₀ unit₀ buffer₀ mem tally unit buffer 
 abbrev μ-loop : tie.MeasureT-loop
 μ-loop fd effect size mem₀ tally₀ unit₀ buffer₀ mem tally unit buffer = 1000000 - tally .calls
 
-opened-requires : tie.Need-opened-requires Inv-loop μ-loop
-opened-requires c κs = search needs
-
-loop-holds : tie.Need-loop-holds Inv-loop μ-loop
-loop-holds c = search needs
-
-slice-aggregate-read-record : tie.Need-slice-aggregate-read-record Inv-loop μ-loop
-slice-aggregate-read-record c = search needs
-
-read-record-requires : tie.Need-read-record-requires Inv-loop μ-loop
-read-record-requires c κs = search needs
-
-called-requires : tie.Need-called-requires Inv-loop μ-loop
-called-requires c κs = search needs
-
-counted-requires : tie.Need-counted-requires Inv-loop μ-loop
-counted-requires c κs = search needs
-
 -- one call more
 one-more : (c : tie.After-counted Inv-loop μ-loop) → c .counted .result .calls ≡ c .before .before .before .before .before .before .before .before .before .before .before .loop .tally .calls + 1
 one-more c = ap (λ (t : Tally). t .calls) (c .counted .ensures .0)
@@ -42,33 +24,21 @@ loop-less c = search (needs, one-more c)
 loop-again : tie.Need-loop-again Inv-loop μ-loop
 loop-again c = search (needs, one-more c)
 
-same-length : tie.Need-same-length Inv-loop μ-loop
-same-length c = search needs
-
-returns : tie.Need-returns Inv-loop μ-loop
-returns c = search needs
-
-same-length-2 : tie.Need-same-length-2 Inv-loop μ-loop
-same-length-2 c = search needs
-
-returns-2 : tie.Need-returns-2 Inv-loop μ-loop
-returns-2 c = search needs
-
 pub replayed-spec : {M : Type 1} → statement M
 replayed-spec =
     tie.close
     (tie.spec
     Inv-loop
     μ-loop
-    opened-requires
-    loop-holds
-    slice-aggregate-read-record
-    read-record-requires
-    called-requires
-    counted-requires
+    (search needs)
+    (search needs)
+    (search needs)
+    (search needs)
+    (search needs)
+    (search needs)
     loop-less
     loop-again
-    same-length
-    returns
-    same-length-2
-    returns-2)
+    (search needs)
+    (λ c. search needs)
+    (search needs)
+    (λ c. search needs))

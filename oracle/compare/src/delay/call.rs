@@ -57,7 +57,7 @@ impl Call {
         match &self.what {
             What::Start { settings, .. } => table::first(&[
                 sample_rate(settings.sample_rate),
-                coefficient(settings.coefficient),
+                coefficient(settings.delay_smooth_coef),
                 memory(places(settings)),
             ]),
             What::Retune {
@@ -67,11 +67,11 @@ impl Call {
                 state,
                 sample_rate(*rate),
                 coefficient(*new),
-                memory(table::delay_length(*rate, self.state.maximum)),
+                memory(table::delay_length(*rate, self.state.max_delay_secs)),
             ]),
             What::Reset | What::Silent(_) => table::first(&[state, memory_now]),
             What::Tick(t) => {
-                let [control, curve] = causes(t, self.state.linear != 0);
+                let [control, curve] = causes(t, self.state.linear_time != 0);
                 table::first(&[state, memory_now, control, curve])
             }
         }
@@ -84,20 +84,20 @@ impl Call {
         }
         let State {
             write_pos,
-            primed,
-            linear,
+            delay_primed,
+            linear_time,
             ..
         } = self.state;
         let numbers = shown(&[
-            ("distance", self.state.distance),
+            ("distance", self.state.smoothed_delay),
             ("rate", self.state.sample_rate),
-            ("coefficient", self.state.coefficient),
-            ("maximum", self.state.maximum),
+            ("coefficient", self.state.delay_smooth_coef),
+            ("maximum", self.state.max_delay_secs),
         ]);
         let lent = self.lent;
         lines
             + &format!(
-                "\n  position {write_pos}\n  primed {primed:#x}, linear {linear:#x}\n  {numbers}\n  {lent} places"
+                "\n  position {write_pos}\n  primed {delay_primed:#x}, linear {linear_time:#x}\n  {numbers}\n  {lent} places"
             )
     }
 }
@@ -107,11 +107,11 @@ impl What {
         match self {
             What::Start { settings, seed } => format!(
                 "start, junk {seed}, linear {:#x}:\n  {}",
-                settings.linear,
+                settings.linear_time,
                 shown(&[
                     ("new rate", settings.sample_rate),
-                    ("new coefficient", settings.coefficient),
-                    ("new maximum", settings.maximum),
+                    ("new coefficient", settings.delay_smooth_coef),
+                    ("new maximum", settings.max_delay_secs),
                 ])
             ),
             What::Retune { rate, coefficient } => format!(
@@ -142,10 +142,10 @@ impl What {
 fn misfits(state: &State) -> bool {
     let length = length(state);
     table::sample_rate(state.sample_rate)
-        || table::maximum(state.maximum)
+        || table::maximum(state.max_delay_secs)
         || table::position(state.write_pos, length)
-        || table::coefficient(state.coefficient)
-        || table::distance(state.primed != 0, state.distance, length)
+        || table::coefficient(state.delay_smooth_coef)
+        || table::distance(state.delay_primed != 0, state.smoothed_delay, length)
 }
 
 /// The ports as document 01 has them, each a number or unset.

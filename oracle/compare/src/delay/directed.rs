@@ -18,9 +18,9 @@ pub fn run<const LINEAR: bool>(seed: u64) -> Result<(), String> {
 fn settings<const LINEAR: bool>(sample_rate: f64, maximum: f64) -> Settings {
     Settings {
         sample_rate,
-        coefficient: 0.0,
-        maximum,
-        linear: u32::from(LINEAR),
+        delay_smooth_coef: 0.0,
+        max_delay_secs: maximum,
+        linear_time: u32::from(LINEAR),
     }
 }
 
@@ -117,8 +117,8 @@ fn ends_of_the_line<const LINEAR: bool>(random: &mut Random) -> Result<(), Strin
                     let call = Call {
                         state: State {
                             write_pos,
-                            distance: 0.0,
-                            primed: 0,
+                            smoothed_delay: 0.0,
+                            delay_primed: 0,
                             ..unit.state
                         },
                         planted: Some((at as usize, sound)),
@@ -152,7 +152,7 @@ fn beyond_the_maximum<const LINEAR: bool>(random: &mut Random) -> Result<(), Str
         for place in 0..unit.memory.count() {
             unit.plant(place, random.ordinary_audio());
         }
-        let maximum = unit.state.maximum;
+        let maximum = unit.state.max_delay_secs;
         for time in [maximum, maximum.next_up(), 1.0, f64::MAX, f64::INFINITY] {
             let call = Call {
                 state: unit.state,

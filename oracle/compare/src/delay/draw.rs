@@ -101,7 +101,7 @@ impl<const LINEAR: bool> Delay<LINEAR> {
             2 => random.within(8_000.0, state.sample_rate),
             _ => {
                 let whole = self.memory.count() as u64 - random.below(2);
-                let rate = whole as f64 / state.maximum;
+                let rate = whole as f64 / state.max_delay_secs;
                 random.of(&[rate, rate.next_up(), rate.next_down()])
             }
         }
@@ -154,8 +154,8 @@ impl<const LINEAR: bool> Delay<LINEAR> {
             state.write_pos = random.wrong_position(self.length());
         }
         if wrong & 2 != 0 {
-            state.primed = random.flag();
-            state.distance = if state.primed != 0 {
+            state.delay_primed = random.flag();
+            state.smoothed_delay = if state.delay_primed != 0 {
                 random.wrong_distance(self.length())
             } else {
                 random.no_plus_zero()
@@ -165,10 +165,10 @@ impl<const LINEAR: bool> Delay<LINEAR> {
             state.sample_rate = random.wrong_sample_rate();
         }
         if wrong & 8 != 0 {
-            state.coefficient = random.wrong_coefficient();
+            state.delay_smooth_coef = random.wrong_coefficient();
         }
         if wrong & 16 != 0 {
-            state.maximum = random.wrong_maximum();
+            state.max_delay_secs = random.wrong_maximum();
         }
         state
     }
@@ -180,14 +180,14 @@ impl<const LINEAR: bool> Delay<LINEAR> {
         let primed = random.flag();
         State {
             write_pos: random.of(&[own, own, own, 0, last, any]),
-            primed,
-            distance: if primed != 0 {
+            delay_primed: primed,
+            smoothed_delay: if primed != 0 {
                 random.distance(self.length())
             } else {
                 0.0
             },
-            coefficient: random.coefficient(),
-            linear: if random.one_in(4) {
+            delay_smooth_coef: random.coefficient(),
+            linear_time: if random.one_in(4) {
                 random.flag()
             } else {
                 u32::from(LINEAR)
@@ -204,10 +204,10 @@ impl<const LINEAR: bool> Delay<LINEAR> {
         let length = table::delay_length(sample_rate, maximum);
         State {
             write_pos: random.below(length + length / 16),
-            distance: random.distance(length),
-            primed: 1,
+            smoothed_delay: random.distance(length),
+            delay_primed: 1,
             sample_rate,
-            maximum,
+            max_delay_secs: maximum,
             ..self.state
         }
     }
@@ -247,7 +247,7 @@ pub fn tick(state: &State, random: &mut Random) -> Tick {
 }
 
 fn ordinary_tick(state: &State, random: &mut Random) -> Tick {
-    let linear = state.linear != 0;
+    let linear = state.linear_time != 0;
     let mut t = Tick {
         set: if random.one_in(8) {
             random.bits() as u32 & !15
@@ -287,7 +287,7 @@ fn tick_at_ends(state: &State, random: &mut Random) -> Tick {
         set: 15,
         ports: [
             random.extreme(),
-            random.of(&[0.0, -0.0, state.maximum]),
+            random.of(&[0.0, -0.0, state.max_delay_secs]),
             random.of(&[0.0, -0.0, 0.99]),
             random.of(&[0.0, -0.0, 1.0]),
         ],
@@ -317,7 +317,7 @@ fn wrong_tick(state: &State, random: &mut Random) -> Tick {
 
 /// A time for linear mode, in and around 0 to the maximum.
 fn seconds(state: &State, random: &mut Random) -> f64 {
-    let maximum = state.maximum;
+    let maximum = state.max_delay_secs;
     match random.below(8) {
         0 => random.of(&[0.0, -0.0, maximum, maximum.next_up(), maximum.next_down()]),
         1 => whole_distance(state, random) / state.sample_rate,
@@ -329,7 +329,7 @@ fn seconds(state: &State, random: &mut Random) -> f64 {
 
 /// A time for exponential mode: any number, mostly one at which the line is read between its ends.
 fn milliseconds(state: &State, random: &mut Random) -> f64 {
-    let most = state.maximum * 1_000.0;
+    let most = state.max_delay_secs * 1_000.0;
     match random.below(8) {
         0 => random.of(&[
             0.0,
@@ -368,7 +368,7 @@ fn coefficient_at(rate: f64, random: &mut Random) -> f64 {
 fn needed(state: &State, what: &What) -> usize {
     let places = match what {
         What::Start { settings, .. } => places(settings),
-        What::Retune { rate, .. } => table::delay_length(*rate, state.maximum),
+        What::Retune { rate, .. } => table::delay_length(*rate, state.max_delay_secs),
         _ => length(state),
     };
     places as usize
@@ -409,9 +409,9 @@ fn settings<const LINEAR: bool>(
     let on = random.on();
     Settings {
         sample_rate,
-        coefficient,
-        maximum: maximum(sample_rate, random),
-        linear: if LINEAR { on } else { 0 },
+        delay_smooth_coef: coefficient,
+        max_delay_secs: maximum(sample_rate, random),
+        linear_time: if LINEAR { on } else { 0 },
     }
 }
 

@@ -15,9 +15,9 @@ pub fn run(ticks: u64, seed: u64) -> Result<String, String> {
     let mut random = Random::new(seed);
     let settings = Settings {
         sample_rate: 192_000.0,
-        coefficient: 0.5,
-        maximum: 1e9,
-        linear: 0,
+        delay_smooth_coef: 0.5,
+        max_delay_secs: 1e9,
+        linear_time: 0,
     };
     let mut unit = Delay::<false>::started(&settings, 1)?;
     let length = unit.length();
@@ -28,8 +28,8 @@ pub fn run(ticks: u64, seed: u64) -> Result<String, String> {
     for at in 0..ticks {
         let state = State {
             write_pos,
-            coefficient: random.coefficient(),
-            linear: random.flag(),
+            delay_smooth_coef: random.coefficient(),
+            linear_time: random.flag(),
             ..unit.state
         };
         let t = draw::tick(&state, &mut random);

@@ -103,17 +103,17 @@ pub fn record<const LINEAR: bool>(ticks: u64, seed: u64) -> Result<Vec<u64>, Str
 fn state(unit: &Unit) -> State {
     let Moving {
         write_pos,
-        distance,
-        primed,
+        smoothed_delay,
+        delay_primed,
     } = unit.moving();
     State {
         write_pos: write_pos as u64,
-        distance,
-        primed: u32::from(primed),
+        smoothed_delay,
+        delay_primed: u32::from(delay_primed),
         sample_rate: unit.sample_rate(),
-        coefficient: unit.coefficient(),
-        maximum: unit.maximum(),
-        linear: u32::from(unit.linear()),
+        delay_smooth_coef: unit.coefficient(),
+        max_delay_secs: unit.maximum(),
+        linear_time: u32::from(unit.linear()),
     }
 }
 
@@ -149,8 +149,12 @@ fn ticked(unit: &mut Unit, t: &Tick) -> Result<Vec<u64>, String> {
 fn left(unit: &Unit) -> [u64; 3] {
     let Moving {
         write_pos,
-        distance,
-        primed,
+        smoothed_delay,
+        delay_primed,
     } = unit.moving();
-    [write_pos as u64, word(distance), u64::from(primed)]
+    [
+        write_pos as u64,
+        word(smoothed_delay),
+        u64::from(delay_primed),
+    ]
 }

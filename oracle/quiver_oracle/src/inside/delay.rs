@@ -23,8 +23,8 @@ pub fn coefficient(sample_rate: f64) -> f64 {
 #[derive(Clone, Copy)]
 pub struct Moving {
     pub write_pos: usize,
-    pub distance: f64,
-    pub primed: bool,
+    pub smoothed_delay: f64,
+    pub delay_primed: bool,
 }
 
 impl Unit {
@@ -76,15 +76,15 @@ impl Unit {
     pub fn moving(&self) -> Moving {
         Moving {
             write_pos: self.0.write_pos,
-            distance: self.0.smoothed_delay,
-            primed: self.0.delay_primed,
+            smoothed_delay: self.0.smoothed_delay,
+            delay_primed: self.0.delay_primed,
         }
     }
 
     pub fn set_moving(&mut self, moving: Moving) {
         self.0.write_pos = moving.write_pos;
-        self.0.smoothed_delay = moving.distance;
-        self.0.delay_primed = moving.primed;
+        self.0.smoothed_delay = moving.smoothed_delay;
+        self.0.delay_primed = moving.delay_primed;
     }
 
     pub fn line(&self) -> &[f64] {

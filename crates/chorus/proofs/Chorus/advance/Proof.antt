@@ -65,12 +65,6 @@ module _ (s : tie.Start) where
 next-requires : tie.Need-next-requires
 next-requires c κs = inside (c .before)
 
-sanitize-audio-requires : tie.Need-sanitize-audio-requires
-sanitize-audio-requires c κs = search needs
-
-clamp-requires : tie.Need-clamp-requires
-clamp-requires c κs = search needs
-
 add-third : tie.Need-add-third
 add-third c = omega (arith, bounds (c .before .before .before .before) .1)
 
@@ -92,12 +86,6 @@ voice-requires c κs =
 mul-voice : tie.Need-mul-voice
 mul-voice c = omega (arith, bounds (c .before .before .before .before .before .before) .1)
 
-sub-voice : tie.Need-sub-voice
-sub-voice c = search needs
-
-part-voice-start : tie.Need-part-voice-start
-part-voice-start c = search needs
-
 part-voice-end : tie.Need-part-voice-end
 part-voice-end c = omega (arith, room (c .before .before .before .before .before .before .before))
 
@@ -110,12 +98,6 @@ voice-requires-2 c κs =
 
 mul-voice-2 : tie.Need-mul-voice-2
 mul-voice-2 c = omega (arith, bounds (c .before .before .before .before .before .before .before .before .before) .1)
-
-sub-voice-2 : tie.Need-sub-voice-2
-sub-voice-2 c = search needs
-
-part-voice-start-2 : tie.Need-part-voice-start-2
-part-voice-start-2 c = search needs
 
 part-voice-end-2 : tie.Need-part-voice-end-2
 part-voice-end-2 c = room (c .before .before .before .before .before .before .before .before .before .before)
@@ -155,15 +137,6 @@ mul-mem-3 c = omega (arith, inside (begun c), bounds (begun c) .1)
 slice-write-mem-3 : tie.Need-slice-write-mem-3
 slice-write-mem-3 c = simp length-set (omega (arith, inside (begun c), room (begun c)))
 
-clamp-requires-2 : tie.Need-clamp-requires-2
-clamp-requires-2 c κs = search needs
-
-mixed-requires : tie.Need-mixed-requires
-mixed-requires c κs = search needs
-
-same-length : tie.Need-same-length
-same-length c = search needs
-
 returns : tie.Need-returns
 unfolding ofBits ofInt
 returns c =
@@ -195,21 +168,21 @@ advance-spec =
     tie.close
     (tie.spec
     next-requires
-    sanitize-audio-requires
-    clamp-requires
+    (search needs)
+    (search needs)
     add-third
     add-end
     slice-reshare-prefix-voice
     slice-aggregate-voice
     voice-requires
     mul-voice
-    sub-voice
-    part-voice-start
+    (search needs)
+    (search needs)
     part-voice-end
     voice-requires-2
     mul-voice-2
-    sub-voice-2
-    part-voice-start-2
+    (search needs)
+    (search needs)
     part-voice-end-2
     voice-requires-3
     mul-mem
@@ -220,7 +193,7 @@ advance-spec =
     add-mem-2
     mul-mem-3
     slice-write-mem-3
-    clamp-requires-2
-    mixed-requires
-    same-length
+    (search needs)
+    (search needs)
+    (search needs)
     returns)

@@ -4,12 +4,9 @@ use borrow.Author.Needs.{needs}
 use Rattle.chorus.proofs.Chorus.fresh.Statement.{statement}
 use Rattle.chorus.proofs.Chorus.fresh.Tie as tie
 
-cleared-requires : tie.Need-cleared-requires
-cleared-requires c κs = search needs
-
 returns : tie.Need-returns
 unfolding ofBits round
 returns c = c .cleared .ensures
 
 pub fresh-spec : {M : Type 1} → statement M
-fresh-spec = tie.close (tie.spec cleared-requires returns)
+fresh-spec = tie.close (tie.spec (search needs) returns)

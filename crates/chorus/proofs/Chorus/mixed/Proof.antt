@@ -7,18 +7,9 @@ use borrow.Author.Needs.{needs}
 use Rattle.chorus.proofs.Chorus.mixed.Statement.{statement}
 use Rattle.chorus.proofs.Chorus.mixed.Tie as tie
 
-blend-requires : tie.Need-blend-requires
-blend-requires c κs = search needs
-
-blend-requires-2 : tie.Need-blend-requires-2
-blend-requires-2 c κs = search needs
-
-blend-requires-3 : tie.Need-blend-requires-3
-blend-requires-3 c κs = search needs
-
 returns : tie.Need-returns
 unfolding mixed ofBits ofInt round
 returns c = λ i. played (c .before .before .blend .ensures i ∷ c .before .blend2 .ensures i ∷ c .blend3 .ensures i ∷ [])
 
 pub mixed-spec : {M : Type 1} → statement M
-mixed-spec = tie.close (tie.spec blend-requires blend-requires-2 blend-requires-3 returns)
+mixed-spec = tie.close (tie.spec (search needs) (search needs) (search needs) returns)

@@ -6,18 +6,6 @@ use Rattle.chorus.proofs.Laws.{phases-by}
 use Rattle.chorus.proofs.Chorus.next.Statement.{statement}
 use Rattle.chorus.proofs.Chorus.next.Tie as tie
 
-next-place-requires : tie.Need-next-place-requires
-next-place-requires c κs = search needs
-
-advance-phase-requires : tie.Need-advance-phase-requires
-advance-phase-requires c κs = search needs
-
-advance-phase-requires-2 : tie.Need-advance-phase-requires-2
-advance-phase-requires-2 c κs = search needs
-
-advance-phase-requires-3 : tie.Need-advance-phase-requires-3
-advance-phase-requires-3 c κs = search needs
-
 returns : tie.Need-returns
 unfolding ofBits ofInt round
 returns c = (
@@ -33,8 +21,8 @@ pub next-spec : {M : Type 1} → statement M
 next-spec =
     tie.close
     (tie.spec
-    next-place-requires
-    advance-phase-requires
-    advance-phase-requires-2
-    advance-phase-requires-3
+    (search needs)
+    (search needs)
+    (search needs)
+    (search needs)
     returns)

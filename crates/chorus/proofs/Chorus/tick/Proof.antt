@@ -26,15 +26,6 @@ use Rattle.chorus.proofs.Chorus.tick.Tie as tie
 abbrev handed : tie.Start → Tick
 handed s = let a = s .args in tickOf (a .audio) (a .depth) (a .mix) (a .frequency) (a .sine0) (a .sine1) (a .sine2)
 
-line-length-requires : tie.Need-line-length-requires
-line-length-requires c κs = search needs
-
-refusal-requires : tie.Need-refusal-requires
-refusal-requires c κs = search needs
-
-enum-known-refusal : tie.Need-enum-known-refusal
-enum-known-refusal c = search needs
-
 returns : tie.Need-returns
 returns c =
     let refusal = c .before in
@@ -44,51 +35,6 @@ returns c =
     refuses chorus (tick (handed s)) (a .self) (a .mem .now) (number cause)
     (unit-refused chorus (length (a .mem .now)) (a .self) (handed s) (sym (ap numberOf (refusal .refusal2 .given .1)) ∙ refusal .before .before .refusal .ensures) (number-some cause))
     (number-some cause)
-
-enum-told : tie.Need-enum-told
-enum-told c = search needs
-
-enum-known-audio : tie.Need-enum-known-audio
-enum-known-audio c = search needs
-
-enum-told-2 : tie.Need-enum-told-2
-enum-told-2 c = search needs
-
-enum-known-depth : tie.Need-enum-known-depth
-enum-known-depth c = search needs
-
-enum-told-3 : tie.Need-enum-told-3
-enum-told-3 c = search needs
-
-enum-known-mix : tie.Need-enum-known-mix
-enum-known-mix c = search needs
-
-enum-told-4 : tie.Need-enum-told-4
-enum-told-4 c = search needs
-
-sine-fits-requires : tie.Need-sine-fits-requires
-sine-fits-requires c κs = search needs
-
-sine-fits-requires-2 : tie.Need-sine-fits-requires-2
-sine-fits-requires-2 c κs = search needs
-
-sine-fits-requires-3 : tie.Need-sine-fits-requires-3
-sine-fits-requires-3 c κs = search needs
-
-is-nan-requires : tie.Need-is-nan-requires
-is-nan-requires c κs = search needs
-
-is-nan-requires-2 : tie.Need-is-nan-requires-2
-is-nan-requires-2 c κs = search needs
-
-frequency-fits-requires : tie.Need-frequency-fits-requires
-frequency-fits-requires c κs = search needs
-
-tick-causes-requires : tie.Need-tick-causes-requires
-tick-causes-requires c κs = search needs
-
-enum-known-causes : tie.Need-enum-known-causes
-enum-known-causes c = search needs
 
 -- each port's number, or the default
 module _ (c : tie.At-match4-came) where
@@ -164,9 +110,6 @@ returns-2 c =
     (number-is causes (number cause) (ap numberOf (c .before .causes .given .1)))
     (number-some cause)
 
-enum-told-5 : tie.Need-enum-told-5
-enum-told-5 c = search needs
-
 advance-requires : tie.Need-advance-requires
 advance-requires c κs =
     let told = c .before in
@@ -177,9 +120,6 @@ advance-requires c κs =
       size-is (rateFits rate) (lineLength rate) (v .before .before .before .before .before .before .line-length .ensures) (fits-parts s (passed v .stateFits) .rate),
       sym (set-number-is causes 0 (ap numberOf (told .enum-told5 .given .1))),
     )
-
-same-length : tie.Need-same-length
-same-length c = search needs
 
 returns-3 : tie.Need-returns-3
 returns-3 c =
@@ -194,27 +134,27 @@ pub tick-spec : {M : Type 1} → statement M
 tick-spec =
     tie.close
     (tie.spec
-    line-length-requires
-    refusal-requires
-    enum-known-refusal
+    (search needs)
+    (search needs)
+    (search needs)
     returns
-    enum-told
-    enum-known-audio
-    enum-told-2
-    enum-known-depth
-    enum-told-3
-    enum-known-mix
-    enum-told-4
-    sine-fits-requires
-    sine-fits-requires-2
-    sine-fits-requires-3
-    is-nan-requires
-    is-nan-requires-2
-    frequency-fits-requires
-    tick-causes-requires
-    enum-known-causes
+    (search needs)
+    (search needs)
+    (search needs)
+    (search needs)
+    (search needs)
+    (search needs)
+    (search needs)
+    (search needs)
+    (search needs)
+    (search needs)
+    (search needs)
+    (search needs)
+    (search needs)
+    (search needs)
+    (search needs)
     returns-2
-    enum-told-5
+    (search needs)
     advance-requires
-    same-length
+    (search needs)
     returns-3)

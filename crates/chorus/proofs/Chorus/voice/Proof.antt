@@ -11,9 +11,6 @@ use borrow.Author.Needs.{needs}
 use Rattle.chorus.proofs.Chorus.voice.Statement.{statement}
 use Rattle.chorus.proofs.Chorus.voice.Tie as tie
 
-distance-requires : tie.Need-distance-requires
-distance-requires c κs = search needs
-
 read-interpolated-requires : tie.Need-read-interpolated-requires
 read-interpolated-requires c κs =
     let s = c .before .before in
@@ -26,4 +23,4 @@ returns c =
     c .read-interpolated .ensures ∙ ap (λ (x : Float). readAt (lineAt 0 (length (a .line .now)) (a .w) (a .line .now)) x) (c .before .distance .ensures)
 
 pub voice-spec : {M : Type 1} → statement M
-voice-spec = tie.close (tie.spec distance-requires read-interpolated-requires returns)
+voice-spec = tie.close (tie.spec (search needs) read-interpolated-requires returns)

@@ -31,9 +31,6 @@ module _ (s : tie.Start) where
 target-delay-requires : tie.Need-target-delay-requires
 target-delay-requires c κs = let l = long (c .before) in (omega (arith, l .0), l .1)
 
-glided-requires : tie.Need-glided-requires
-glided-requires c κs = search needs
-
 -- the distance, in the definitions' words
 module _ (c : tie.After-glided) where
   abbrev start : tie.Start
@@ -41,15 +38,6 @@ module _ (c : tie.After-glided) where
 
   reads-at : c .glided .result ≡ readsAt (start .args .self) (start .args .samples)
   reads-at = reads-is (start .args .self) (start .args .samples) (start .pre .0) (c .before .target-delay .ensures) (c .glided .ensures)
-
-sanitize-audio-requires : tie.Need-sanitize-audio-requires
-sanitize-audio-requires c κs = search needs
-
-clamp-requires : tie.Need-clamp-requires
-clamp-requires c κs = search needs
-
-clamp-requires-2 : tie.Need-clamp-requires-2
-clamp-requires-2 c κs = search needs
 
 slice-reshare-prefix-read-interpolated : tie.Need-slice-reshare-prefix-read-interpolated
 slice-reshare-prefix-read-interpolated c = room (start (c .before .before .before))
@@ -72,14 +60,8 @@ mul-mem c = let s = start (c .before .before .before .before .before) in omega (
 slice-write-mem : tie.Need-slice-write-mem
 slice-write-mem c = let s = start (c .before .before .before .before .before) in omega (arith, inside s, room s)
 
-blend-requires : tie.Need-blend-requires
-blend-requires c κs = search needs
-
 next-requires : tie.Need-next-requires
 next-requires c κs = inside (start (c .before .before .before .before .before .before))
-
-same-length : tie.Need-same-length
-same-length c = search needs
 
 returns : tie.Need-returns
 unfolding ofBits ofInt round
@@ -107,16 +89,16 @@ advance-spec =
     tie.close
     (tie.spec
     target-delay-requires
-    glided-requires
-    sanitize-audio-requires
-    clamp-requires
-    clamp-requires-2
+    (search needs)
+    (search needs)
+    (search needs)
+    (search needs)
     slice-reshare-prefix-read-interpolated
     slice-aggregate-read-interpolated
     read-interpolated-requires
     mul-mem
     slice-write-mem
-    blend-requires
+    (search needs)
     next-requires
-    same-length
+    (search needs)
     returns)

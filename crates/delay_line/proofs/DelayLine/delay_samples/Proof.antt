@@ -9,9 +9,6 @@ use Rattle.delay_line.proofs.Laws.{linear-read, plain-read}
 use Rattle.delay_line.proofs.DelayLine.delay_samples.Statement.{statement}
 use Rattle.delay_line.proofs.DelayLine.delay_samples.Tie as tie
 
-clamp-requires : tie.Need-clamp-requires
-clamp-requires c κs = search needs
-
 returns : tie.Need-returns
 unfolding samplesOf ofBits ofInt
 returns c =
@@ -32,4 +29,4 @@ returns-2 c =
     (rw (c .before .if1 .left), λ e. rw (c .before .if1 .left) (plain-read (a .self .«sample_rate») (a .milliseconds) (subst T (sym (s .good .1 .1 .0 .1)) tt) e))
 
 pub delay-samples-spec : {M : Type 1} → statement M
-delay-samples-spec = tie.close (tie.spec clamp-requires returns returns-2)
+delay-samples-spec = tie.close (tie.spec (search needs) returns returns-2)

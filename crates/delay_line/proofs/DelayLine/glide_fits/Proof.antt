@@ -5,22 +5,13 @@ use Rattle.delay_line.specs.DelayLine.{glideFits}
 use Rattle.delay_line.proofs.DelayLine.glide_fits.Statement.{statement}
 use Rattle.delay_line.proofs.DelayLine.glide_fits.Tie as tie
 
-last-requires : tie.Need-last-requires
-last-requires c κs = search needs
-
-in-range-requires : tie.Need-in-range-requires
-in-range-requires c κs = search needs
-
 returns : tie.Need-returns
 unfolding glideFits ofBits ofInt
-returns c = rw (c .before .before .if1 .taken, ← (c .before .last .ensures)) (c .in-range .ensures)
-
-is-plus-zero-requires : tie.Need-is-plus-zero-requires
-is-plus-zero-requires c κs = search needs
+returns c = rw (c .before .before .if1 .taken, ← (c .before .from-u32 .ensures)) (c .in-range .ensures)
 
 returns-2 : tie.Need-returns-2
 unfolding glideFits
 returns-2 c = rw (c .before .if1 .left) (c .is-plus-zero .ensures)
 
 pub glide-fits-spec : {M : Type 1} → statement M
-glide-fits-spec = tie.close (tie.spec last-requires in-range-requires returns is-plus-zero-requires returns-2)
+glide-fits-spec = tie.close (tie.spec (search needs) (search needs) (search needs) (search needs) returns (search needs) returns-2)

@@ -7,19 +7,13 @@ use Rattle.delay_line.specs.DelayLine.{heldMaximum}
 use Rattle.delay_line.proofs.DelayLine.held_maximum.Statement.{statement}
 use Rattle.delay_line.proofs.DelayLine.held_maximum.Tie as tie
 
-is-finite-requires : tie.Need-is-finite-requires
-is-finite-requires c κs = search needs
-
 returns : tie.Need-returns
 unfolding heldMaximum ofBits ofInt
 returns c = rw (sym (c .before .is-finite .ensures) ∙ not-true _ (c .if1 .taken))
-
-clamp-requires : tie.Need-clamp-requires
-clamp-requires c κs = search needs
 
 returns-2 : tie.Need-returns-2
 unfolding heldMaximum ofBits ofInt round
 returns-2 c = rw (sym (c .before .before .is-finite .ensures) ∙ not-false _ (c .before .if1 .left)) (c .clamp .ensures)
 
 pub held-maximum-spec : {M : Type 1} → statement M
-held-maximum-spec = tie.close (tie.spec is-finite-requires returns clamp-requires returns-2)
+held-maximum-spec = tie.close (tie.spec (search needs) returns (search needs) returns-2)

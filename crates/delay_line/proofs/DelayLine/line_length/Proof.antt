@@ -11,12 +11,6 @@ use Rattle.delay_line.proofs.Laws.{length-fits, samples-small}
 use Rattle.delay_line.proofs.DelayLine.line_length.Statement.{statement}
 use Rattle.delay_line.proofs.DelayLine.line_length.Tie as tie
 
-rate-fits-requires : tie.Need-rate-fits-requires
-rate-fits-requires c κs = search needs
-
-maximum-fits-requires : tie.Need-maximum-fits-requires
-maximum-fits-requires c κs = search needs
-
 -- the test of both is that of the definition
 tested : (c : tie.After-maximum-fits) → c .before .rate-fits .result && c .maximum-fits .result ≡ rateFits (c .before .before .args .rate) && maximumFits (c .before .before .args .maximum)
 tested c = λ i. c .before .rate-fits .ensures i && c .maximum-fits .ensures i
@@ -49,8 +43,8 @@ pub line-length-spec : {M : Type 1} → statement M
 line-length-spec =
     tie.close
     (tie.spec
-    rate-fits-requires
-    maximum-fits-requires
+    (search needs)
+    (search needs)
     returns
     whole-part-small-requires
     add-result

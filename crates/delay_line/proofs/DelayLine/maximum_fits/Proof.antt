@@ -4,12 +4,9 @@ use borrow.Author.Needs.{needs}
 use Rattle.delay_line.proofs.DelayLine.maximum_fits.Statement.{statement}
 use Rattle.delay_line.proofs.DelayLine.maximum_fits.Tie as tie
 
-in-range-requires : tie.Need-in-range-requires
-in-range-requires c κs = search needs
-
 returns : tie.Need-returns
 unfolding ofBits ofInt round
 returns c = c .in-range .ensures
 
 pub maximum-fits-spec : {M : Type 1} → statement M
-maximum-fits-spec = tie.close (tie.spec in-range-requires returns)
+maximum-fits-spec = tie.close (tie.spec (search needs) returns)

@@ -20,36 +20,12 @@ use Rattle.delay_line.proofs.DelayLine.nan_refusal.Tie as tie
 abbrev handed : tie.Start → Tick
 handed s = let a = s .args in tickOf Unset (Set (a .time)) (Set (a .feedback)) (Set (a .mix)) (a .milliseconds)
 
-refusal-requires : tie.Need-refusal-requires
-refusal-requires c κs = search needs
-
-enum-known-refusal : tie.Need-enum-known-refusal
-enum-known-refusal c = search needs
-
 returns : tie.Need-returns
 returns c =
     let refusal = c .before in
     let s = refusal .before .before .before in
     let cause = refusal .refusal2 .given .0 .0 in
     unit-refused delayLine (s .args .places) (s .args .self) (handed s) (sym (ap numberOf (refusal .refusal2 .given .1)) ∙ refusal .before .before .refusal .ensures) (number-some cause)
-
-enum-told : tie.Need-enum-told
-enum-told c = search needs
-
-is-nan-requires : tie.Need-is-nan-requires
-is-nan-requires c κs = search needs
-
-is-nan-requires-2 : tie.Need-is-nan-requires-2
-is-nan-requires-2 c κs = search needs
-
-is-nan-requires-3 : tie.Need-is-nan-requires-3
-is-nan-requires-3 c κs = search needs
-
-is-nan-requires-4 : tie.Need-is-nan-requires-4
-is-nan-requires-4 c κs = search needs
-
-tick-causes-requires : tie.Need-tick-causes-requires
-tick-causes-requires c κs = search needs
 
 returns-2 : tie.Need-returns-2
 unfolding tickNumber
@@ -66,13 +42,13 @@ pub nan-refusal-spec : {M : Type 1} → statement M
 nan-refusal-spec =
     tie.close
     (tie.spec
-    refusal-requires
-    enum-known-refusal
+    (search needs)
+    (search needs)
     returns
-    enum-told
-    is-nan-requires
-    is-nan-requires-2
-    is-nan-requires-3
-    is-nan-requires-4
-    tick-causes-requires
+    (search needs)
+    (search needs)
+    (search needs)
+    (search needs)
+    (search needs)
+    (search needs)
     returns-2)

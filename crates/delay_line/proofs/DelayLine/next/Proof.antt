@@ -3,11 +3,8 @@ use borrow.Author.Needs.{needs}
 use Rattle.delay_line.proofs.DelayLine.next.Statement.{statement}
 use Rattle.delay_line.proofs.DelayLine.next.Tie as tie
 
-next-place-requires : tie.Need-next-place-requires
-next-place-requires c κs = search needs
-
 returns : tie.Need-returns
 returns c = rw (c .next-place .ensures)
 
 pub next-spec : {M : Type 1} → statement M
-next-spec = tie.close (tie.spec next-place-requires returns)
+next-spec = tie.close (tie.spec (search needs) returns)

@@ -1,92 +1,26 @@
 -- `DelayLine::silent` is the question of `delayLine`: causes 4 and 3, or whether the places of its line are zeros. Assumes nothing.
 use Prim.Native.Nat.{ℕ}
-use native.Mathlib.Omega.{arith}
-use mathlib.Core.Path.{_≡_, refl, sym, ap, _∙_}
-use mathlib.Core.Bool.{Bool, true, false}
+use mathlib.Core.Path.{ap}
 use lib.ListN.{length, take}
-use lib.Seq.{length-take-le}
 use borrow.Author.Needs.{needs}
-use Rattle.port.specs.Answer.{number, numberOf}
-use Rattle.port.specs.Answer as answer
-use Rattle.port.proofs.Laws.{number-some}
+use Rattle.port.specs.Answer.{numberOf}
 use Rattle.common.specs.Line.{allZero}
 use Rattle.effect.specs.Run.{ask}
-use Rattle.effect.specs.Contract.{Does}
-use Rattle.effect.proofs.Table.{Accepted, accepted, enough}
-use Rattle.effect.proofs.Contract.{refuses, accepts}
+use Rattle.effect.proofs.Table.{accepted}
+use Rattle.effect.proofs.Contract.{asks}
 use Rattle.delay_line.specs.DelayLine.{delayLine}
-use Rattle.delay_line.proofs.Laws.{size, size-fits}
+use Rattle.delay_line.proofs.Laws.{size-fits}
 use Rattle.delay_line.proofs.DelayLine.silent.Statement.{statement}
 use Rattle.delay_line.proofs.DelayLine.silent.Tie as tie
 
-line-length-requires : tie.Need-line-length-requires
-line-length-requires c κs = search needs
-
-refusal-requires : tie.Need-refusal-requires
-refusal-requires c κs = search needs
-
-enum-known-refusal : tie.Need-enum-known-refusal
-enum-known-refusal c = search needs
-
 returns : tie.Need-returns
 returns c =
-    let refusal = c .before in
-    let a = refusal .before .before .before .before .before .args in
-    let cause = refusal .refusal2 .given .0 .0 in
-    refuses delayLine ask (a .self) (a .mem .now) (number cause)
-    (sym (ap numberOf (refusal .refusal2 .given .1)) ∙ refusal .before .before .refusal .ensures)
-    (number-some cause)
-
-enum-told : tie.Need-enum-told
-enum-told c = search needs
-
-module _ (c : tie.After-enum-told) where
-  abbrev start : tie.Start
-  start = c .before .before .before .before .before
-
-  -- the call is accepted, so that the state passes its test and the memory has the places
-  passed : Accepted delayLine (length (start .args .mem .now)) ask (start .args .self)
-  passed = accepted delayLine (length (start .args .mem .now)) ask (start .args .self) (sym (c .before .before .refusal .ensures) ∙ ap numberOf (c .enum-told .given .1))
-
-  used : c .before .before .before .line-length .result ≡ size (start .args .self)
-  used = size-fits (start .args .self) (c .before .before .before .line-length .ensures) (passed .stateFits)
-
-slice-aggregate-all-zero : tie.Need-slice-aggregate-all-zero
-slice-aggregate-all-zero c =
-    let told = c .before in
-    sym (length-take-le _ _ (omega (arith, used told, enough (size (start told .args .self)) _ (passed told .number))))
-
-all-zero-requires : tie.Need-all-zero-requires
-all-zero-requires c κs = search needs
-
--- accepted, with the answer b
-answered : (c : tie.After-all-zero) (b : Bool) → c .all-zero .result ≡ b
-    → Does delayLine ask (start (c .before .before) .args .self) (start (c .before .before) .args .mem .now) (start (c .before .before) .args .self) (start (c .before .before) .args .mem .now) (answer.silent b)
-answered c b e =
-    let told = c .before .before in
-    let a = start told .args in
-    accepts delayLine ask (a .self) (a .mem .now)
-    (sym (told .before .before .refusal .ensures) ∙ ap numberOf (told .enum-told .given .1))
-    refl
-    refl
-    (ap answer.silent (sym e ∙ c .all-zero .ensures ∙ ap (λ (n : ℕ). allZero (take n (a .mem .now))) (used told)))
-
-returns-2 : tie.Need-returns-2
-returns-2 c = answered (c .before) true (c .if1 .taken)
-
-returns-3 : tie.Need-returns-3
-returns-3 c = answered (c .before) false (c .if1 .left)
+    let a = c .before .before .before .before .args in
+    let s = a .self in
+    let m = a .mem .now in
+    asks delayLine s m (numberOf (c .before .refusal .result)) (c .before .refusal .ensures)
+    (λ z. ap (λ (n : ℕ). allZero (take n m)) (size-fits s (c .before .before .line-length .ensures) (accepted delayLine (length m) ask s z .stateFits)))
+    (c .silence .ensures)
 
 pub silent-spec : {M : Type 1} → statement M
-silent-spec =
-    tie.close
-    (tie.spec
-    line-length-requires
-    refusal-requires
-    enum-known-refusal
-    returns
-    enum-told
-    slice-aggregate-all-zero
-    all-zero-requires
-    returns-2
-    returns-3)
+silent-spec = tie.close (tie.spec (search needs) (search needs) (search needs) returns)

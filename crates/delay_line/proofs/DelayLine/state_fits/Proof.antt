@@ -11,9 +11,6 @@ returns c =
     let s = c .before .before in
     rw (fits-by (s .args .self) (s .pre), le-ltb _ _ (c .if1 .taken))
 
-coefficient-fits-requires : tie.Need-coefficient-fits-requires
-coefficient-fits-requires c κs = search needs
-
 returns-2 : tie.Need-returns-2
 returns-2 c =
     let s = c .before .before .before .before in
@@ -31,4 +28,4 @@ returns-3 c =
     rw (fits-by (s .args .self) (s .pre), lt-ltb _ _ (left .before .before .if1 .left), sym (left .before .coefficient-fits .ensures) ∙ not-false _ (left .if2 .left)) (c .glide-fits .ensures)
 
 pub state-fits-spec : {M : Type 1} → statement M
-state-fits-spec = tie.close (tie.spec returns coefficient-fits-requires returns-2 glide-fits-requires returns-3)
+state-fits-spec = tie.close (tie.spec returns (search needs) returns-2 glide-fits-requires returns-3)

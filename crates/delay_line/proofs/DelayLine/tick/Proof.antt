@@ -26,51 +26,6 @@ use Rattle.delay_line.proofs.DelayLine.tick.Tie as tie
 abbrev handed : tie.Start → Tick
 handed s = let a = s .args in tickOf (a .audio) (a .time) (a .feedback) (a .mix) (a .milliseconds)
 
-enum-known-audio : tie.Need-enum-known-audio
-enum-known-audio c = search needs
-
-enum-told : tie.Need-enum-told
-enum-told c = search needs
-
-enum-known-time : tie.Need-enum-known-time
-enum-known-time c = search needs
-
-enum-told-2 : tie.Need-enum-told-2
-enum-told-2 c = search needs
-
-enum-known-feedback : tie.Need-enum-known-feedback
-enum-known-feedback c = search needs
-
-enum-told-3 : tie.Need-enum-told-3
-enum-told-3 c = search needs
-
-enum-known-mix : tie.Need-enum-known-mix
-enum-known-mix c = search needs
-
-enum-told-4 : tie.Need-enum-told-4
-enum-told-4 c = search needs
-
-delay-samples-requires : tie.Need-delay-samples-requires
-delay-samples-requires c κs = search needs
-
-line-length-requires : tie.Need-line-length-requires
-line-length-requires c κs = search needs
-
-is-nan-requires : tie.Need-is-nan-requires
-is-nan-requires c κs = search needs
-
-is-nan-requires-2 : tie.Need-is-nan-requires-2
-is-nan-requires-2 c κs = search needs
-
-is-nan-requires-3 : tie.Need-is-nan-requires-3
-is-nan-requires-3 c κs = search needs
-
-nan-refusal-requires : tie.Need-nan-refusal-requires
-nan-refusal-requires c κs = search needs
-
-enum-known-met : tie.Need-enum-known-met
-enum-known-met c = search needs
-
 -- each port's number, or the default
 module _ (v : tie.At-match4-came) where
   abbrev start : tie.Start
@@ -130,15 +85,6 @@ returns c =
     (sym (ap numberOf (met .met .given .1)) ∙ found .nan-refusal .ensures ∙ set-number (handed s) (linear v) (time-is v) (feedback-is v) (mix-is v) (length (s .args .mem .now)) (s .args .self) refl)
     (number-some cause)
 
-enum-told-5 : tie.Need-enum-told-5
-enum-told-5 c = search needs
-
-refusal-requires : tie.Need-refusal-requires
-refusal-requires c κs = search needs
-
-enum-known-refusal : tie.Need-enum-known-refusal
-enum-known-refusal c = search needs
-
 returns-2 : tie.Need-returns-2
 returns-2 c =
     let refusal = c .before in
@@ -148,9 +94,6 @@ returns-2 c =
     refuses delayLine (tick (handed s)) (s .args .self) (s .args .mem .now) (number cause)
     (unit-refused delayLine (length (s .args .mem .now)) (s .args .self) (handed s) (sym (ap numberOf (refusal .refusal2 .given .1)) ∙ found .refusal .ensures) (number-some cause))
     (number-some cause)
-
-enum-told-6 : tie.Need-enum-told-6
-enum-told-6 c = search needs
 
 -- past the NaN tests causes 5 and 6 do not apply
 row : (c : tie.Joined1) → tickNumber (set (values (c .before))) (linear (values (c .before))) ≡ 0
@@ -212,9 +155,6 @@ advance-requires c κs =
       ),
     )
 
-same-length : tie.Need-same-length
-same-length c = search needs
-
 returns-3 : tie.Need-returns-3
 returns-3 c =
     let worked = c .before .before in
@@ -234,27 +174,27 @@ pub tick-spec : {M : Type 1} → statement M
 tick-spec =
     tie.close
     (tie.spec
-    enum-known-audio
-    enum-told
-    enum-known-time
-    enum-told-2
-    enum-known-feedback
-    enum-told-3
-    enum-known-mix
-    enum-told-4
-    delay-samples-requires
-    line-length-requires
-    is-nan-requires
-    is-nan-requires-2
-    is-nan-requires-3
-    nan-refusal-requires
-    enum-known-met
+    (search needs)
+    (search needs)
+    (search needs)
+    (search needs)
+    (search needs)
+    (search needs)
+    (search needs)
+    (search needs)
+    (search needs)
+    (search needs)
+    (search needs)
+    (search needs)
+    (search needs)
+    (search needs)
+    (search needs)
     returns
-    enum-told-5
-    refusal-requires
-    enum-known-refusal
+    (search needs)
+    (search needs)
+    (search needs)
     returns-2
-    enum-told-6
+    (search needs)
     advance-requires
-    same-length
+    (search needs)
     returns-3)

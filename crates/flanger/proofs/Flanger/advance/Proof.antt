@@ -64,18 +64,6 @@ module _ (s : tie.Start) where
 next-requires : tie.Need-next-requires
 next-requires c κs = inside (c .before)
 
-sanitize-audio-requires : tie.Need-sanitize-audio-requires
-sanitize-audio-requires c κs = search needs
-
-clamp-requires : tie.Need-clamp-requires
-clamp-requires c κs = search needs
-
-clamp-requires-2 : tie.Need-clamp-requires-2
-clamp-requires-2 c κs = search needs
-
-clamp-requires-3 : tie.Need-clamp-requires-3
-clamp-requires-3 c κs = search needs
-
 add-end : tie.Need-add-end
 add-end c = omega (arith, short (c .before .before .before .before .before .before))
 
@@ -93,12 +81,6 @@ tap-requires c κs =
 
 mul-tap : tie.Need-mul-tap
 mul-tap c = omega (arith, short (c .before .before .before .before .before .before .before .before))
-
-sub-tap : tie.Need-sub-tap
-sub-tap c = search needs
-
-part-tap-start : tie.Need-part-tap-start
-part-tap-start c = search needs
 
 part-tap-end : tie.Need-part-tap-end
 part-tap-end c = omega (arith, room (c .before .before .before .before .before .before .before .before .before))
@@ -124,15 +106,6 @@ mul-mem-2 c = let s = c .before .before .before .before .before .before .before 
 
 slice-write-mem-2 : tie.Need-slice-write-mem-2
 slice-write-mem-2 c = let s = c .before .before .before .before .before .before .before .before .before .before .before in simp length-set (omega (arith, inside s, room s))
-
-blend-requires : tie.Need-blend-requires
-blend-requires c κs = search needs
-
-blend-requires-2 : tie.Need-blend-requires-2
-blend-requires-2 c κs = search needs
-
-same-length : tie.Need-same-length
-same-length c = search needs
 
 returns : tie.Need-returns
 unfolding ofBits ofInt round neg
@@ -164,17 +137,17 @@ advance-spec =
     tie.close
     (tie.spec
     next-requires
-    sanitize-audio-requires
-    clamp-requires
-    clamp-requires-2
-    clamp-requires-3
+    (search needs)
+    (search needs)
+    (search needs)
+    (search needs)
     add-end
     slice-reshare-prefix-tap
     slice-aggregate-tap
     tap-requires
     mul-tap
-    sub-tap
-    part-tap-start
+    (search needs)
+    (search needs)
     part-tap-end
     tap-requires-2
     mul-mem
@@ -182,7 +155,7 @@ advance-spec =
     add-mem
     mul-mem-2
     slice-write-mem-2
-    blend-requires
-    blend-requires-2
-    same-length
+    (search needs)
+    (search needs)
+    (search needs)
     returns)

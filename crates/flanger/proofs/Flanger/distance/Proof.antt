@@ -1,6 +1,7 @@
 -- `Flanger::distance` is the definition of that name: raising to 1 and then lowering to the line's last place is the clamp. Assumes nothing.
 use Prim.Native.Nat.{_-_, _≤_}
 use native.Mathlib.Omega.{arith}
+use mathlib.Core.Path.{_∙_}
 use lib.Ieee.{sub, ofBits, ofInt, round}
 use borrow.Author.Needs.{needs}
 use Rattle.common.proofs.Sweep.{clamped-halves}
@@ -13,39 +14,17 @@ use Rattle.flanger.proofs.Flanger.distance.Tie as tie
 bounds : (s : tie.Start) → (90 ≤ s .args .n) × (s .args .n ≤ 1930)
 bounds s = let l = length-fits (s .args .rate) (s .pre .0) in (omega (arith, s .pre .1), omega (arith, s .pre .1))
 
-sub-last : tie.Need-sub-last
-sub-last c = omega (arith, bounds c .0)
+sub-held-to-line : tie.Need-sub-held-to-line
+sub-held-to-line c = omega (arith, bounds c .0)
 
-at-least-requires : tie.Need-at-least-requires
-at-least-requires c κs = search needs
-
-cast-nearest-u64-to-f64 : tie.Need-cast-nearest-u64-to-f64
-cast-nearest-u64-to-f64 c = omega (arith, bounds (c .before) .1)
-
-cast-nearest-u64-to-f64-2 : tie.Need-cast-nearest-u64-to-f64-2
-cast-nearest-u64-to-f64-2 c = search needs
-
-nearest-u64-to-f64-requires : tie.Need-nearest-u64-to-f64-requires
-nearest-u64-to-f64-requires c κs = search needs
-
-at-most-requires : tie.Need-at-most-requires
-at-most-requires c κs = search needs
+cast-held-to-line : tie.Need-cast-held-to-line
+cast-held-to-line c = omega (arith, bounds c .1)
 
 returns : tie.Need-returns
 unfolding distance sub ofBits ofInt round
 returns c =
-    let s = c .before .before .before in
-    rw (c .at-most .ensures, c .before .before .at-least .ensures, c .before .nearest-u64-to-f64 .ensures, ← (s .pre .1))
-    (clamped-halves _ (s .args .n - 1) (omega (arith, bounds s .1)) (omega (arith, bounds s .0)))
+    let s = c .before in
+    rw (c .held-to-line .ensures, ← (s .pre .1)) (clamped-halves _ (s .args .n - 1) (omega (arith, bounds s .1)) (omega (arith, bounds s .0)))
 
 pub distance-spec : {M : Type 1} → statement M
-distance-spec =
-    tie.close
-    (tie.spec
-    sub-last
-    at-least-requires
-    cast-nearest-u64-to-f64
-    cast-nearest-u64-to-f64-2
-    nearest-u64-to-f64-requires
-    at-most-requires
-    returns)
+distance-spec = tie.close (tie.spec sub-held-to-line cast-held-to-line (search needs) returns)

@@ -4,14 +4,8 @@ use borrow.Author.Needs.{needs}
 use Rattle.flanger.proofs.Flanger.next.Statement.{statement}
 use Rattle.flanger.proofs.Flanger.next.Tie as tie
 
-advance-phase-requires : tie.Need-advance-phase-requires
-advance-phase-requires c κs = search needs
-
-next-place-requires : tie.Need-next-place-requires
-next-place-requires c κs = search needs
-
 returns : tie.Need-returns
 returns c = (c .next-place .ensures, (c .before .advance-phase .ensures, refl))
 
 pub next-spec : {M : Type 1} → statement M
-next-spec = tie.close (tie.spec advance-phase-requires next-place-requires returns)
+next-spec = tie.close (tie.spec (search needs) (search needs) returns)

@@ -1,36 +1,21 @@
--- `Flanger::places_needed` is `placesNeeded`: a line has no places at just the rates that are refused. Assumes nothing.
+-- `Flanger::places_needed` is `placesNeeded`: the line has no places at just the rates that are refused. Assumes nothing.
 use native.Mathlib.Omega.{arith}
-use mathlib.Core.Path.{_≡_}
-use mathlib.Core.Bool.{true}
+use mathlib.Core.Path.{_∙_}
 use borrow.Author.Needs.{needs}
 use Rattle.float64.specs.Number.{rateFits}
-use Rattle.common.proofs.Sweep.{size-is, size-some, size-none}
-use Rattle.flanger.specs.Flanger.{lineLength}
-use Rattle.flanger.proofs.Laws.{length-fits}
+use Rattle.effect.proofs.Needed.{places-row}
+use Rattle.flanger.specs.Flanger.{places}
+use Rattle.flanger.proofs.Laws.{some-places, short, in-lines}
 use Rattle.flanger.proofs.Flanger.places_needed.Statement.{statement}
 use Rattle.flanger.proofs.Flanger.places_needed.Tie as tie
 
-line-length-requires : tie.Need-line-length-requires
-line-length-requires c κs = search needs
+mul-places-or-none : tie.Need-mul-places-or-none
+mul-places-or-none c = omega (arith, short (c .before .args .rate) (c .line-length .ensures))
 
 returns : tie.Need-returns
 returns c =
     let rate = c .before .before .args .rate in
-    rw (size-none (rateFits rate) (lineLength rate) (c .before .line-length .ensures) (λ h. omega (arith, length-fits rate h .0)) (c .if1 .taken))
-
--- past the test the rate fits, and n is the length of a line
-module _ (c : tie.Else1) where
-  passed : rateFits (c .before .before .args .rate) ≡ true
-  passed = size-some (rateFits (c .before .before .args .rate)) (lineLength (c .before .before .args .rate)) (c .before .line-length .ensures) (c .if1 .left)
-
-  sized : c .before .line-length .result ≡ lineLength (c .before .before .args .rate)
-  sized = size-is (rateFits (c .before .before .args .rate)) (lineLength (c .before .before .args .rate)) (c .before .line-length .ensures) passed
-
-mul-result : tie.Need-mul-result
-mul-result c = omega (arith, sized c, length-fits (c .before .before .args .rate) (passed c) .1)
-
-returns-2 : tie.Need-returns-2
-returns-2 c = rw (passed c, sized c)
+    c .places-or-none .ensures ∙ places-row (rateFits rate) (places rate) (in-lines rate (c .before .line-length .ensures)) (some-places rate)
 
 pub places-needed-spec : {M : Type 1} → statement M
-places-needed-spec = tie.close (tie.spec line-length-requires returns mul-result returns-2)
+places-needed-spec = tie.close (tie.spec (search needs) mul-places-or-none (search needs) returns)

@@ -10,9 +10,6 @@ use Rattle.flanger.proofs.Laws.{length-fits, distance-in}
 use Rattle.flanger.proofs.Flanger.tap.Statement.{statement}
 use Rattle.flanger.proofs.Flanger.tap.Tie as tie
 
-distance-requires : tie.Need-distance-requires
-distance-requires c κs = search needs
-
 read-interpolated-requires : tie.Need-read-interpolated-requires
 read-interpolated-requires c κs =
     let s = c .before .before in
@@ -31,4 +28,4 @@ returns c =
     c .read-interpolated .ensures ∙ ap (λ (x : Float). readAt (lineAt 0 (length (a .line .now)) (a .w) (a .line .now)) x) (c .before .distance .ensures)
 
 pub tap-spec : {M : Type 1} → statement M
-tap-spec = tie.close (tie.spec distance-requires read-interpolated-requires returns)
+tap-spec = tie.close (tie.spec (λ c κs. search needs) read-interpolated-requires returns)

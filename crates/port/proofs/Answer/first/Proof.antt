@@ -7,27 +7,6 @@ use borrow.Author.Needs.{needs}
 use Rattle.port.proofs.Answer.first.Statement.{statement}
 use Rattle.port.proofs.Answer.first.Tie as tie
 
-enum-known-self : tie.Need-enum-known-self
-enum-known-self c = search needs
-
-enum-known-self-2 : tie.Need-enum-known-self-2
-enum-known-self-2 c = search needs
-
-enum-known-self-3 : tie.Need-enum-known-self-3
-enum-known-self-3 c = search needs
-
-enum-told : tie.Need-enum-told
-enum-told c = search needs
-
-returns : tie.Need-returns
-returns c = search needs
-
-returns-2 : tie.Need-returns-2
-returns-2 c = search needs
-
-returns-3 : tie.Need-returns-3
-returns-3 c = search needs
-
 returns-4 : tie.Need-returns-4
 unfolding ofBits
 returns-4 c = sym (ap (λ (a : Answer). replySample 0 (answerReply a)) (c .enum-told .given .1))
@@ -36,11 +15,11 @@ pub first-spec : {M : Type 1} → statement M
 first-spec =
     tie.close
     (tie.spec
-    enum-known-self
-    enum-known-self-2
-    enum-known-self-3
-    enum-told
-    returns
-    returns-2
-    returns-3
+    (search needs)
+    (search needs)
+    (search needs)
+    (search needs)
+    (λ c. search needs)
+    (λ c. search needs)
+    (λ c. search needs)
     returns-4)

@@ -11,9 +11,6 @@ zero-by-zero : div binary64 (ofBits binary64 0) (ofBits binary64 0) ≡ nan
 unfolding div ofBits
 zero-by-zero = refl
 
-word-requires : tie.Need-word-requires
-word-requires c κs = search needs
-
 returns : tie.Need-returns
 returns c = let word = c .before .word in zero-by-zero ∙ sym (nan-pattern (word .result) (c .if1 .taken)) ∙ ap (ofBits binary64) (word .ensures)
 
@@ -24,4 +21,4 @@ returns-2 : tie.Need-returns-2
 returns-2 c = ap (ofBits binary64) (c .before .word .ensures)
 
 pub float-spec : {M : Type 1} → statement M
-float-spec = tie.close (tie.spec word-requires returns float-from-bits-result returns-2)
+float-spec = tie.close (tie.spec (search needs) returns float-from-bits-result returns-2)

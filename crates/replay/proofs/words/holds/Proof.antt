@@ -6,14 +6,8 @@ use Rattle.replay.specs.Words.{Decides}
 use Rattle.replay.proofs.words.holds.Statement.{statement}
 use Rattle.replay.proofs.words.holds.Tie as tie
 
-float-requires : tie.Need-float-requires
-float-requires c κs = search needs
-
-same-requires : tie.Need-same-requires
-same-requires c κs = search needs
-
 returns : tie.Need-returns
 returns c = subst (λ (y : Float). Decides (c .same .result) (c .before .before .args .x) y) (c .before .float .ensures) (c .same .ensures)
 
 pub holds-spec : {M : Type 1} → statement M
-holds-spec = tie.close (tie.spec float-requires same-requires returns)
+holds-spec = tie.close (tie.spec (search needs) (search needs) returns)

@@ -26,12 +26,6 @@ module _ (s : tie.Start) where
   y-held : fits binary64 y ≡ true
   y-held = s .good .1 .0 .1
 
-is-nan-requires : tie.Need-is-nan-requires
-is-nan-requires c κs = search needs
-
-is-nan-requires-2 : tie.Need-is-nan-requires-2
-is-nan-requires-2 c κs = search needs
-
 -- x is a NaN
 returns : tie.Need-returns
 returns c =
@@ -41,9 +35,6 @@ returns c =
       yes = λ e. no-number (x s) (x-held s) x-no ∙ sym (no-number (y s) (y-held s) (sym (c .is-nan2 .ensures) ∙ e));
       only = λ e. c .is-nan2 .ensures ∙ ap no (sym e) ∙ x-no;
     }
-
-is-nan-requires-3 : tie.Need-is-nan-requires-3
-is-nan-requires-3 c κs = search needs
 
 -- only y is
 returns-2 : tie.Need-returns-2
@@ -76,10 +67,10 @@ pub same-spec : {M : Type 1} → statement M
 same-spec =
     tie.close
     (tie.spec
-    is-nan-requires
-    is-nan-requires-2
+    (search needs)
+    (search needs)
     returns
-    is-nan-requires-3
+    (search needs)
     returns-2
     float-to-bits-result
     float-to-bits-result-2

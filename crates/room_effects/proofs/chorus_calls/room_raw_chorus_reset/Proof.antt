@@ -16,7 +16,7 @@ use Rattle.room_effects.proofs.chorus_calls.room_raw_chorus_reset.Tie a
 abbrev unit : tie.Start → Device Chorus
 unit s =
     let a = s .args in
-    chorusUnit (a .pos .now) (a .phases .now) (a .rate) (a .memory .now)
+    chorusUnit (a .write-pos .now) (a .lfo-phases .now) (a .sample-rate) (a .memory .now)
 
 -- the inner call, of the state as the lent numbers have it
 module _ (c : tie.After-reset) where
@@ -26,28 +26,10 @@ module _ (c : tie.After-reset) where
   does : Does chorus reset (unit start .state) (unit start .memory) (c .reset .result .state) (c .reset .last .1 .0) (outcomeReply (c .reset .result .outcome))
   does = of-state chorus reset (c .before .before .chorus-of .ensures) (c .reset .ensures)
 
-chorus-of-requires : tie.Need-chorus-of-requires
-chorus-of-requires c κs = search needs
-
-reset-requires : tie.Need-reset-requires
-reset-requires c κs = search needs
-
-number-requires : tie.Need-number-requires
-number-requires c κs = search needs
-
-same-length : tie.Need-same-length
-same-length c = search needs
-
 returns : tie.Need-returns
 returns c =
     let inner = c .before .before .before .before in
     kept chorus reset (unit (start inner)) (does inner) (c .before .number .ensures) (c .if1 .taken)
-
-put-chorus-requires : tie.Need-put-chorus-requires
-put-chorus-requires c κs = search needs
-
-same-length-2 : tie.Need-same-length-2
-same-length-2 c = search needs
 
 returns-2 : tie.Need-returns-2
 returns-2 c =
@@ -61,11 +43,11 @@ pub room-raw-chorus-reset-spec : {M : Type 1} → statement M
 room-raw-chorus-reset-spec =
     tie.close
     (tie.spec
-    chorus-of-requires
-    reset-requires
-    number-requires
-    same-length
+    (search needs)
+    (search needs)
+    (search needs)
+    (search needs)
     returns
-    put-chorus-requires
-    same-length-2
+    (search needs)
+    (search needs)
     returns-2)

@@ -15,7 +15,7 @@ use Rattle.room_effects.proofs.chorus_calls.room_raw_chorus_retune.Tie 
 abbrev unit : tie.Start → Device Chorus
 unit s =
     let a = s .args in
-    chorusUnit (a .pos .now) (a .phases .now) (a .rate .now) (a .memory .now)
+    chorusUnit (a .write-pos .now) (a .lfo-phases .now) (a .sample-rate .now) (a .memory .now)
 
 -- the inner call, of the state as the lent numbers have it
 module _ (c : tie.After-set-sample-rate) where
@@ -23,33 +23,15 @@ module _ (c : tie.After-set-sample-rate) where
   start = c .before .before .before .before .before .before
 
   abbrev call : CallOf chorus
-  call = retune (start .args .sample-rate)
+  call = retune (start .args .new-sample-rate)
 
   does : Does chorus call (unit start .state) (unit start .memory) (c .set-sample-rate .result .state) (c .set-sample-rate .last .1 .1 .0) (outcomeReply (c .set-sample-rate .result .outcome))
   does = of-state chorus call (c .before .before .chorus-of .ensures) (c .set-sample-rate .ensures)
-
-chorus-of-requires : tie.Need-chorus-of-requires
-chorus-of-requires c κs = search needs
-
-set-sample-rate-requires : tie.Need-set-sample-rate-requires
-set-sample-rate-requires c κs = search needs
-
-number-requires : tie.Need-number-requires
-number-requires c κs = search needs
-
-same-length : tie.Need-same-length
-same-length c = search needs
 
 returns : tie.Need-returns
 returns c =
     let inner = c .before .before .before .before in
     kept chorus (call inner) (unit (start inner)) (does inner) (c .before .number .ensures) (c .if1 .taken)
-
-put-chorus-requires : tie.Need-put-chorus-requires
-put-chorus-requires c κs = search needs
-
-same-length-2 : tie.Need-same-length-2
-same-length-2 c = search needs
 
 returns-2 : tie.Need-returns-2
 returns-2 c =
@@ -61,11 +43,11 @@ pub room-raw-chorus-retune-spec : {M : Type 1} → statement M
 room-raw-chorus-retune-spec =
     tie.close
     (tie.spec
-    chorus-of-requires
-    set-sample-rate-requires
-    number-requires
-    same-length
+    (search needs)
+    (search needs)
+    (search needs)
+    (search needs)
     returns
-    put-chorus-requires
-    same-length-2
+    (search needs)
+    (search needs)
     returns-2)

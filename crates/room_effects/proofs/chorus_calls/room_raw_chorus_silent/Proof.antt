@@ -8,23 +8,11 @@ use borrow.Author.Needs.{needs}
 use Rattle.room_effects.proofs.chorus_calls.room_raw_chorus_silent.Statement.{statement}
 use Rattle.room_effects.proofs.chorus_calls.room_raw_chorus_silent.Tie as tie
 
-chorus-of-requires : tie.Need-chorus-of-requires
-chorus-of-requires c κs = search needs
-
-silent-requires : tie.Need-silent-requires
-silent-requires c κs = search needs
-
-flag-requires : tie.Need-flag-requires
-flag-requires c κs = search needs
-
-number-requires : tie.Need-number-requires
-number-requires c κs = search needs
-
 returns : tie.Need-returns
 returns c =
     let a = c .before .before .before .before .before .args in
     let does = of-state chorus ask (c .before .before .before .chorus-of .ensures) (c .before .before .silent .ensures) in
-    asked chorus does (stored chorus ask (chorusUnit (a .pos) (a .phases .now) (a .rate) (a .memory .now)) does (c .number .ensures) (sym (c .before .before .before .chorus-of .ensures))) (c .before .flag .ensures)
+    asked chorus does (stored chorus ask (chorusUnit (a .write-pos) (a .lfo-phases .now) (a .sample-rate) (a .memory .now)) does (c .number .ensures) (sym (c .before .before .before .chorus-of .ensures))) (c .before .flag .ensures)
 
 pub room-raw-chorus-silent-spec : {M : Type 1} → statement M
-room-raw-chorus-silent-spec = tie.close (tie.spec chorus-of-requires silent-requires flag-requires number-requires returns)
+room-raw-chorus-silent-spec = tie.close (tie.spec (search needs) (search needs) (search needs) (search needs) returns)

@@ -5,20 +5,8 @@ use borrow.Author.Needs.{needs}
 use Rattle.room_effects.proofs.chorus_calls.room_raw_chorus_start.Statement.{statement}
 use Rattle.room_effects.proofs.chorus_calls.room_raw_chorus_start.Tie as tie
 
-new-requires : tie.Need-new-requires
-new-requires c κs = search needs
-
-put-chorus-requires : tie.Need-put-chorus-requires
-put-chorus-requires c κs = search needs
-
-number-requires : tie.Need-number-requires
-number-requires c κs = search needs
-
-same-length : tie.Need-same-length
-same-length c = search needs
-
 returns : tie.Need-returns
 returns c = began chorus (c .before .before .before .before .before .before .before .new .ensures) (c .before .put-chorus .ensures) (c .number .ensures)
 
 pub room-raw-chorus-start-spec : {M : Type 1} → statement M
-room-raw-chorus-start-spec = tie.close (tie.spec new-requires put-chorus-requires number-requires same-length returns)
+room-raw-chorus-start-spec = tie.close (tie.spec (search needs) (search needs) (search needs) (search needs) returns)

@@ -22,7 +22,7 @@ handed s =
 abbrev unit : tie.Start → Device Chorus
 unit s =
     let a = s .args in
-    chorusUnit (a .pos .now) (a .phases .now) (a .rate) (a .memory .now)
+    chorusUnit (a .write-pos .now) (a .lfo-phases .now) (a .sample-rate) (a .memory .now)
 
 -- the inner tick, with the state as the lent numbers have it and the ports as the mask has them
 module _ (c : tie.After-tick) where
@@ -38,42 +38,12 @@ module _ (c : tie.After-tick) where
       (λ i. tickOf (c .before .before .before .port-at .ensures i) (c .before .before .port-at2 .ensures i) (c .before .port-at3 .ensures i) (a .frequency) (a .sine0) (a .sine1) (a .sine2))
       (c .tick .ensures))
 
-chorus-of-requires : tie.Need-chorus-of-requires
-chorus-of-requires c κs = search needs
-
-port-at-requires : tie.Need-port-at-requires
-port-at-requires c κs = search needs
-
-port-at-requires-2 : tie.Need-port-at-requires-2
-port-at-requires-2 c κs = search needs
-
-port-at-requires-3 : tie.Need-port-at-requires-3
-port-at-requires-3 c κs = search needs
-
-tick-requires : tie.Need-tick-requires
-tick-requires c κs = search needs
-
-number-requires : tie.Need-number-requires
-number-requires c κs = search needs
-
-put-samples-requires : tie.Need-put-samples-requires
-put-samples-requires c κs = search needs
-
-same-length : tie.Need-same-length
-same-length c = search needs
-
 returns : tie.Need-returns
 returns c =
     let out = c .before in
     let inner = out .before .before .before .before .before in
     let s = start inner in
     played chorus 3 (does inner) (kept chorus (tick (handed s)) (unit s) (does inner) (out .before .before .number .ensures) (c .if1 .taken)) (out .put-samples .ensures)
-
-put-chorus-requires : tie.Need-put-chorus-requires
-put-chorus-requires c κs = search needs
-
-same-length-2 : tie.Need-same-length-2
-same-length-2 c = search needs
 
 returns-2 : tie.Need-returns-2
 returns-2 c =
@@ -91,15 +61,15 @@ pub room-raw-chorus-tick-spec : {M : Type 1} → statement M
 room-raw-chorus-tick-spec =
     tie.close
     (tie.spec
-    chorus-of-requires
-    port-at-requires
-    port-at-requires-2
-    port-at-requires-3
-    tick-requires
-    number-requires
-    put-samples-requires
-    same-length
+    (search needs)
+    (search needs)
+    (search needs)
+    (search needs)
+    (search needs)
+    (search needs)
+    (search needs)
+    (search needs)
     returns
-    put-chorus-requires
-    same-length-2
+    (search needs)
+    (search needs)
     returns-2)

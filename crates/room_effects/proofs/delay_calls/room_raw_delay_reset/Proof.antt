@@ -14,22 +14,10 @@ use Rattle.room_effects.proofs.delay_calls.room_raw_delay_reset.Tie as 
 abbrev unit : tie.Start → Device DelayLine
 unit s =
     let a = s .args in
-    delayUnit (a .pos .now) (a .distance .now) (a .primed .now) (a .rate) (a .coefficient) (a .maximum) (a .linear) (a .memory .now)
+    delayUnit (a .write-pos .now) (a .smoothed-delay .now) (a .delay-primed .now) (a .sample-rate) (a .delay-smooth-coef) (a .max-delay-secs) (a .linear-time) (a .memory .now)
 
 abbrev start : tie.After-reset → tie.Start
 start c = c .before .before .before .before .before .before
-
-delay-of-requires : tie.Need-delay-of-requires
-delay-of-requires c κs = search needs
-
-reset-requires : tie.Need-reset-requires
-reset-requires c κs = search needs
-
-number-requires : tie.Need-number-requires
-number-requires c κs = search needs
-
-same-length : tie.Need-same-length
-same-length c = search needs
 
 returns : tie.Need-returns
 returns c =
@@ -37,14 +25,8 @@ returns c =
     let s = start inner in
     let does = of-state delayLine reset (inner .before .before .delay-of .ensures) (inner .reset .ensures) in (
       kept delayLine reset (unit s) does (c .before .number .ensures) (c .if1 .taken),
-      unwritten (s .args .primed .now) (c .if1 .taken),
+      unwritten (s .args .delay-primed .now) (c .if1 .taken),
     )
-
-flag-requires : tie.Need-flag-requires
-flag-requires c κs = search needs
-
-same-length-2 : tie.Need-same-length-2
-same-length-2 c = search needs
 
 returns-2 : tie.Need-returns-2
 returns-2 c =
@@ -60,4 +42,4 @@ returns-2 c =
     )
 
 pub room-raw-delay-reset-spec : {M : Type 1} → statement M
-room-raw-delay-reset-spec = tie.close (tie.spec delay-of-requires reset-requires number-requires same-length returns flag-requires same-length-2 returns-2)
+room-raw-delay-reset-spec = tie.close (tie.spec (search needs) (search needs) (search needs) (search needs) returns (search needs) (search needs) returns-2)

@@ -14,10 +14,10 @@ use Rattle.room_effects.proofs.delay_calls.room_raw_delay_retune.Tie as
 abbrev unit : tie.Start → Device DelayLine
 unit s =
     let a = s .args in
-    delayUnit (a .pos .now) (a .distance .now) (a .primed .now) (a .rate .now) (a .coefficient .now) (a .maximum) (a .linear) (a .memory .now)
+    delayUnit (a .write-pos .now) (a .smoothed-delay .now) (a .delay-primed .now) (a .sample-rate .now) (a .delay-smooth-coef .now) (a .max-delay-secs) (a .linear-time) (a .memory .now)
 
 abbrev handed : tie.Start → Retune
-handed s = retuning (s .args .sample-rate) (s .args .coef)
+handed s = retuning (s .args .new-sample-rate) (s .args .new-delay-smooth-coef)
 
 abbrev start : tie.After-set-sample-rate → tie.Start
 start c = c .before .before .before .before .before .before
@@ -29,32 +29,14 @@ keeps-maximum r h = ifNone-both (λ (u : Device DelayLine). h .state .«max_dela
 keeps-mode : (r : Retune) (h : Device DelayLine) → h .state .«linear_time» ≡ step delayLine (retune r) h .state .«linear_time»
 keeps-mode r h = ifNone-both (λ (u : Device DelayLine). h .state .«linear_time» ≡ u .state .«linear_time») (numberAt delayLine (retune r) h) refl refl
 
-delay-of-requires : tie.Need-delay-of-requires
-delay-of-requires c κs = search needs
-
-set-sample-rate-requires : tie.Need-set-sample-rate-requires
-set-sample-rate-requires c κs = search needs
-
-number-requires : tie.Need-number-requires
-number-requires c κs = search needs
-
-same-length : tie.Need-same-length
-same-length c = search needs
-
 returns : tie.Need-returns
 returns c =
     let inner = c .before .before .before .before in
     let s = start inner in
     let does = of-state delayLine (retune (handed s)) (inner .before .before .delay-of .ensures) (inner .set-sample-rate .ensures) in (
       kept delayLine (retune (handed s)) (unit s) does (c .before .number .ensures) (c .if1 .taken),
-      unwritten (s .args .primed .now) (c .if1 .taken),
+      unwritten (s .args .delay-primed .now) (c .if1 .taken),
     )
-
-flag-requires : tie.Need-flag-requires
-flag-requires c κs = search needs
-
-same-length-2 : tie.Need-same-length-2
-same-length-2 c = search needs
 
 returns-2 : tie.Need-returns-2
 returns-2 c =
@@ -73,4 +55,4 @@ returns-2 c =
 
 pub room-raw-delay-retune-spec : {M : Type 1} → statement M
 room-raw-delay-retune-spec =
-    tie.close (tie.spec delay-of-requires set-sample-rate-requires number-requires same-length returns flag-requires same-length-2 returns-2)
+    tie.close (tie.spec (search needs) (search needs) (search needs) (search needs) returns (search needs) (search needs) returns-2)

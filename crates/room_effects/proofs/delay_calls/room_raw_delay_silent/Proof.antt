@@ -8,26 +8,14 @@ use Rattle.room_effects.proofs.Laws.{of-state, stored, asked}
 use Rattle.room_effects.proofs.delay_calls.room_raw_delay_silent.Statement.{statement}
 use Rattle.room_effects.proofs.delay_calls.room_raw_delay_silent.Tie as tie
 
-delay-of-requires : tie.Need-delay-of-requires
-delay-of-requires c κs = search needs
-
-silent-requires : tie.Need-silent-requires
-silent-requires c κs = search needs
-
-flag-requires : tie.Need-flag-requires
-flag-requires c κs = search needs
-
-number-requires : tie.Need-number-requires
-number-requires c κs = search needs
-
 returns : tie.Need-returns
 returns c =
     let a = c .before .before .before .before .before .args in
     let state = c .before .before .before .delay-of .ensures in
     let does = of-state delayLine ask state (c .before .before .silent .ensures) in
     asked delayLine does
-    (stored delayLine ask (delayUnit (a .pos) (a .distance) (a .primed) (a .rate) (a .coefficient) (a .maximum) (a .linear) (a .memory .now)) does (c .number .ensures) (sym state))
+    (stored delayLine ask (delayUnit (a .write-pos) (a .smoothed-delay) (a .delay-primed) (a .sample-rate) (a .delay-smooth-coef) (a .max-delay-secs) (a .linear-time) (a .memory .now)) does (c .number .ensures) (sym state))
     (c .before .flag .ensures)
 
 pub room-raw-delay-silent-spec : {M : Type 1} → statement M
-room-raw-delay-silent-spec = tie.close (tie.spec delay-of-requires silent-requires flag-requires number-requires returns)
+room-raw-delay-silent-spec = tie.close (tie.spec (search needs) (search needs) (search needs) (search needs) returns)

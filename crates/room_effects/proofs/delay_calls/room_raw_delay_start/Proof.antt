@@ -6,21 +6,6 @@ use Rattle.room_effects.proofs.Laws.{on-flag, written, began}
 use Rattle.room_effects.proofs.delay_calls.room_raw_delay_start.Statement.{statement}
 use Rattle.room_effects.proofs.delay_calls.room_raw_delay_start.Tie as tie
 
-with-max-delay-requires : tie.Need-with-max-delay-requires
-with-max-delay-requires c κs = search needs
-
-flag-requires : tie.Need-flag-requires
-flag-requires c κs = search needs
-
-flag-requires-2 : tie.Need-flag-requires-2
-flag-requires-2 c κs = search needs
-
-number-requires : tie.Need-number-requires
-number-requires c κs = search needs
-
-same-length : tie.Need-same-length
-same-length c = search needs
-
 returns : tie.Need-returns
 returns c =
     let inner = c .before .before .before .before .before in
@@ -37,4 +22,4 @@ returns c =
     )
 
 pub room-raw-delay-start-spec : {M : Type 1} → statement M
-room-raw-delay-start-spec = tie.close (tie.spec with-max-delay-requires flag-requires flag-requires-2 number-requires same-length returns)
+room-raw-delay-start-spec = tie.close (tie.spec (search needs) (search needs) (search needs) (search needs) (search needs) returns)

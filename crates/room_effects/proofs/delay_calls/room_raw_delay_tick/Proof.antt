@@ -23,7 +23,7 @@ handed s =
 abbrev unit : tie.Start → Device DelayLine
 unit s =
     let a = s .args in
-    delayUnit (a .pos .now) (a .distance .now) (a .primed .now) (a .rate) (a .coefficient) (a .maximum) (a .linear) (a .memory .now)
+    delayUnit (a .write-pos .now) (a .smoothed-delay .now) (a .delay-primed .now) (a .sample-rate) (a .delay-smooth-coef) (a .max-delay-secs) (a .linear-time) (a .memory .now)
 
 -- the inner tick, with the ports as the mask has them
 module _ (c : tie.After-tick) where
@@ -36,47 +36,14 @@ module _ (c : tie.After-tick) where
       (λ i. tickOf (c .before .before .before .before .port-at .ensures i) (c .before .before .before .port-at2 .ensures i) (c .before .before .port-at3 .ensures i) (c .before .port-at4 .ensures i) (start .args .milliseconds))
       (of-state delayLine (tick _) (c .before .before .before .before .before .before .delay-of .ensures) (c .tick .ensures))
 
-delay-of-requires : tie.Need-delay-of-requires
-delay-of-requires c κs = search needs
-
-port-at-requires : tie.Need-port-at-requires
-port-at-requires c κs = search needs
-
-port-at-requires-2 : tie.Need-port-at-requires-2
-port-at-requires-2 c κs = search needs
-
-port-at-requires-3 : tie.Need-port-at-requires-3
-port-at-requires-3 c κs = search needs
-
-port-at-requires-4 : tie.Need-port-at-requires-4
-port-at-requires-4 c κs = search needs
-
-tick-requires : tie.Need-tick-requires
-tick-requires c κs = search needs
-
-number-requires : tie.Need-number-requires
-number-requires c κs = search needs
-
-first-requires : tie.Need-first-requires
-first-requires c κs = search needs
-
-same-length : tie.Need-same-length
-same-length c = search needs
-
 returns : tie.Need-returns
 returns c =
     let numbered = c .before .before in
     let inner = numbered .before .before .before in
     let s = start inner in (
       played delayLine 1 (does inner) (kept delayLine (tick (handed s)) (unit s) (does inner) (numbered .number .ensures) (c .if1 .taken)) (λ i. c .before .first .ensures i ∷ []),
-      unwritten (s .args .primed .now) (c .if1 .taken),
+      unwritten (s .args .delay-primed .now) (c .if1 .taken),
     )
-
-flag-requires : tie.Need-flag-requires
-flag-requires c κs = search needs
-
-same-length-2 : tie.Need-same-length-2
-same-length-2 c = search needs
 
 returns-2 : tie.Need-returns-2
 returns-2 c =
@@ -98,16 +65,16 @@ pub room-raw-delay-tick-spec : {M : Type 1} → statement M
 room-raw-delay-tick-spec =
     tie.close
     (tie.spec
-    delay-of-requires
-    port-at-requires
-    port-at-requires-2
-    port-at-requires-3
-    port-at-requires-4
-    tick-requires
-    number-requires
-    first-requires
-    same-length
+    (search needs)
+    (search needs)
+    (search needs)
+    (search needs)
+    (search needs)
+    (search needs)
+    (search needs)
+    (search needs)
+    (search needs)
     returns
-    flag-requires
-    same-length-2
+    (search needs)
+    (search needs)
     returns-2)

@@ -14,24 +14,12 @@ use Rattle.room_effects.proofs.flanger_calls.room_raw_flanger_reset.Tie
 abbrev unit : tie.Start → Device Flanger
 unit s =
     let a = s .args in
-    flangerUnit (a .pos .now) (a .phase .now) (a .rate) (a .memory .now)
-
-reset-requires : tie.Need-reset-requires
-reset-requires c κs = search needs
-
-number-requires : tie.Need-number-requires
-number-requires c κs = search needs
-
-same-length : tie.Need-same-length
-same-length c = search needs
+    flangerUnit (a .write-pos .now) (a .lfo-phase .now) (a .sample-rate) (a .memory .now)
 
 returns : tie.Need-returns
 returns c =
     let inner = c .before .before .before .before in
     kept flanger reset (unit (inner .before .before .before .before)) (inner .reset .ensures) (c .before .number .ensures) (c .if1 .taken)
-
-same-length-2 : tie.Need-same-length-2
-same-length-2 c = search needs
 
 returns-2 : tie.Need-returns-2
 returns-2 c =
@@ -41,4 +29,4 @@ returns-2 c =
     (ap (flangerOf (next .«write_pos») (next .«lfo_phase»)) (reset-settings flanger laws (inner .reset .ensures)))
 
 pub room-raw-flanger-reset-spec : {M : Type 1} → statement M
-room-raw-flanger-reset-spec = tie.close (tie.spec reset-requires number-requires same-length returns same-length-2 returns-2)
+room-raw-flanger-reset-spec = tie.close (tie.spec (search needs) (search needs) (search needs) returns (search needs) returns-2)

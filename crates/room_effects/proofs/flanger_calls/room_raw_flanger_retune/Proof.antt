@@ -13,31 +13,19 @@ use Rattle.room_effects.proofs.flanger_calls.room_raw_flanger_retune.Ti
 abbrev unit : tie.Start → Device Flanger
 unit s =
     let a = s .args in
-    flangerUnit (a .pos .now) (a .phase .now) (a .rate .now) (a .memory .now)
-
-set-sample-rate-requires : tie.Need-set-sample-rate-requires
-set-sample-rate-requires c κs = search needs
-
-number-requires : tie.Need-number-requires
-number-requires c κs = search needs
-
-same-length : tie.Need-same-length
-same-length c = search needs
+    flangerUnit (a .write-pos .now) (a .lfo-phase .now) (a .sample-rate .now) (a .memory .now)
 
 returns : tie.Need-returns
 returns c =
     let inner = c .before .before .before .before in
     let s = inner .before .before .before .before in
-    kept flanger (retune (s .args .sample-rate)) (unit s) (inner .set-sample-rate .ensures) (c .before .number .ensures) (c .if1 .taken)
-
-same-length-2 : tie.Need-same-length-2
-same-length-2 c = search needs
+    kept flanger (retune (s .args .new-sample-rate)) (unit s) (inner .set-sample-rate .ensures) (c .before .number .ensures) (c .if1 .taken)
 
 returns-2 : tie.Need-returns-2
 returns-2 c =
     let inner = c .before .before .before .before in
     let s = inner .before .before .before .before in
-    stored flanger (retune (s .args .sample-rate)) (unit s) (inner .set-sample-rate .ensures) (sym (c .if1 .left) ∙ c .before .number .ensures) refl
+    stored flanger (retune (s .args .new-sample-rate)) (unit s) (inner .set-sample-rate .ensures) (sym (c .if1 .left) ∙ c .before .number .ensures) refl
 
 pub room-raw-flanger-retune-spec : {M : Type 1} → statement M
-room-raw-flanger-retune-spec = tie.close (tie.spec set-sample-rate-requires number-requires same-length returns same-length-2 returns-2)
+room-raw-flanger-retune-spec = tie.close (tie.spec (search needs) (search needs) (search needs) returns (search needs) returns-2)

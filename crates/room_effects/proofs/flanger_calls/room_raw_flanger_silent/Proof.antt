@@ -8,20 +8,11 @@ use borrow.Author.Needs.{needs}
 use Rattle.room_effects.proofs.flanger_calls.room_raw_flanger_silent.Statement.{statement}
 use Rattle.room_effects.proofs.flanger_calls.room_raw_flanger_silent.Tie as tie
 
-silent-requires : tie.Need-silent-requires
-silent-requires c κs = search needs
-
-flag-requires : tie.Need-flag-requires
-flag-requires c κs = search needs
-
-number-requires : tie.Need-number-requires
-number-requires c κs = search needs
-
 returns : tie.Need-returns
 returns c =
     let a = c .before .before .before .before .args in
     let does = c .before .before .silent .ensures in
-    asked flanger does (stored flanger ask (flangerUnit (a .pos) (a .phase) (a .rate) (a .memory .now)) does (c .number .ensures) refl) (c .before .flag .ensures)
+    asked flanger does (stored flanger ask (flangerUnit (a .write-pos) (a .lfo-phase) (a .sample-rate) (a .memory .now)) does (c .number .ensures) refl) (c .before .flag .ensures)
 
 pub room-raw-flanger-silent-spec : {M : Type 1} → statement M
-room-raw-flanger-silent-spec = tie.close (tie.spec silent-requires flag-requires number-requires returns)
+room-raw-flanger-silent-spec = tie.close (tie.spec (search needs) (search needs) (search needs) returns)

@@ -5,43 +5,25 @@ use Rattle.room_effects.specs.Needed.{neededBy}
 use Rattle.room_effects.proofs.places.room_places_needed.Statement.{statement}
 use Rattle.room_effects.proofs.places.room_places_needed.Tie as tie
 
-places-needed-requires : tie.Need-places-needed-requires
-places-needed-requires c κs = search needs
-
 returns : tie.Need-returns
 unfolding neededBy
 returns c = rw (c .before .if1 .taken) (c .places-needed .ensures)
-
-places-needed-requires-2 : tie.Need-places-needed-requires-2
-places-needed-requires-2 c κs = search needs
 
 returns-2 : tie.Need-returns-2
 unfolding neededBy
 returns-2 c = rw (c .before .if2 .taken) (c .places-needed2 .ensures)
 
-places-needed-requires-3 : tie.Need-places-needed-requires-3
-places-needed-requires-3 c κs = search needs
-
 returns-3 : tie.Need-returns-3
 unfolding neededBy
 returns-3 c = rw (c .before .if3 .taken) (c .places-needed3 .ensures)
-
-places-needed-requires-4 : tie.Need-places-needed-requires-4
-places-needed-requires-4 c κs = search needs
 
 returns-4 : tie.Need-returns-4
 unfolding neededBy
 returns-4 c = rw (c .before .if4 .taken) (c .places-needed4 .ensures)
 
-places-needed-requires-5 : tie.Need-places-needed-requires-5
-places-needed-requires-5 c κs = search needs
-
 returns-5 : tie.Need-returns-5
 unfolding neededBy
 returns-5 c = rw (c .before .if5 .taken) (c .places-needed5 .ensures)
-
-places-needed-requires-6 : tie.Need-places-needed-requires-6
-places-needed-requires-6 c κs = search needs
 
 returns-6 : tie.Need-returns-6
 unfolding neededBy
@@ -55,16 +37,16 @@ pub room-places-needed-spec : {M : Type 1} → statement M
 room-places-needed-spec =
     tie.close
     (tie.spec
-    places-needed-requires
+    (search needs)
     returns
-    places-needed-requires-2
+    (search needs)
     returns-2
-    places-needed-requires-3
+    (search needs)
     returns-3
-    places-needed-requires-4
+    (search needs)
     returns-4
-    places-needed-requires-5
+    (search needs)
     returns-5
-    places-needed-requires-6
+    (search needs)
     returns-6
     returns-7)

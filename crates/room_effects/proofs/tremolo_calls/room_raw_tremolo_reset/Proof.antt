@@ -14,13 +14,7 @@ use Rattle.room_effects.proofs.tremolo_calls.room_raw_tremolo_reset.Tie
 abbrev unit : tie.Start → Device Tremolo
 unit s =
     let a = s .args in
-    tremoloUnit (a .phase .now) (a .rate)
-
-reset-requires : tie.Need-reset-requires
-reset-requires c κs = search needs
-
-number-requires : tie.Need-number-requires
-number-requires c κs = search needs
+    tremoloUnit (a .lfo-phase .now) (a .sample-rate)
 
 returns : tie.Need-returns
 returns c =
@@ -35,4 +29,4 @@ returns-2 c =
     (ap (tremoloOf (next .«lfo_phase»)) (reset-settings tremolo laws (inner .reset .ensures)))
 
 pub room-raw-tremolo-reset-spec : {M : Type 1} → statement M
-room-raw-tremolo-reset-spec = tie.close (tie.spec reset-requires number-requires returns returns-2)
+room-raw-tremolo-reset-spec = tie.close (tie.spec (search needs) (search needs) returns returns-2)

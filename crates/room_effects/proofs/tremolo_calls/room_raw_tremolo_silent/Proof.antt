@@ -8,20 +8,11 @@ use borrow.Author.Needs.{needs}
 use Rattle.room_effects.proofs.tremolo_calls.room_raw_tremolo_silent.Statement.{statement}
 use Rattle.room_effects.proofs.tremolo_calls.room_raw_tremolo_silent.Tie as tie
 
-silent-requires : tie.Need-silent-requires
-silent-requires c κs = search needs
-
-flag-requires : tie.Need-flag-requires
-flag-requires c κs = search needs
-
-number-requires : tie.Need-number-requires
-number-requires c κs = search needs
-
 returns : tie.Need-returns
 returns c =
     let a = c .before .before .before .args in
     let does = c .before .before .silent .ensures in
-    asked tremolo does (stored tremolo ask (tremoloUnit (a .phase) (a .rate)) does (c .number .ensures) refl) (c .before .flag .ensures)
+    asked tremolo does (stored tremolo ask (tremoloUnit (a .lfo-phase) (a .sample-rate)) does (c .number .ensures) refl) (c .before .flag .ensures)
 
 pub room-raw-tremolo-silent-spec : {M : Type 1} → statement M
-room-raw-tremolo-silent-spec = tie.close (tie.spec silent-requires flag-requires number-requires returns)
+room-raw-tremolo-silent-spec = tie.close (tie.spec (search needs) (search needs) (search needs) returns)

@@ -6,14 +6,8 @@ use borrow.Author.Needs.{needs}
 use Rattle.room_effects.proofs.tremolo_calls.room_raw_tremolo_start.Statement.{statement}
 use Rattle.room_effects.proofs.tremolo_calls.room_raw_tremolo_start.Tie as tie
 
-new-requires : tie.Need-new-requires
-new-requires c κs = search needs
-
-number-requires : tie.Need-number-requires
-number-requires c κs = search needs
-
 returns : tie.Need-returns
 returns c = began tremolo (c .before .new .ensures) refl (c .number .ensures)
 
 pub room-raw-tremolo-start-spec : {M : Type 1} → statement M
-room-raw-tremolo-start-spec = tie.close (tie.spec new-requires number-requires returns)
+room-raw-tremolo-start-spec = tie.close (tie.spec (search needs) (search needs) returns)

@@ -23,7 +23,7 @@ handed s =
 abbrev unit : tie.Start → Device Tremolo
 unit s =
     let a = s .args in
-    tremoloUnit (a .phase .now) (a .rate)
+    tremoloUnit (a .lfo-phase .now) (a .sample-rate)
 
 -- the inner tick, with the ports as the mask has them
 module _ (c : tie.After-tick) where
@@ -36,24 +36,6 @@ module _ (c : tie.After-tick) where
       of-tick tremolo (unit start .state) {t₀ = handed start}
       (λ i. tickOf (c .before .before .before .port-at .ensures i) (c .before .before .port-at2 .ensures i) (c .before .port-at3 .ensures i) (a .frequency) (a .sine))
       (c .tick .ensures)
-
-port-at-requires : tie.Need-port-at-requires
-port-at-requires c κs = search needs
-
-port-at-requires-2 : tie.Need-port-at-requires-2
-port-at-requires-2 c κs = search needs
-
-port-at-requires-3 : tie.Need-port-at-requires-3
-port-at-requires-3 c κs = search needs
-
-tick-requires : tie.Need-tick-requires
-tick-requires c κs = search needs
-
-number-requires : tie.Need-number-requires
-number-requires c κs = search needs
-
-first-requires : tie.Need-first-requires
-first-requires c κs = search needs
 
 returns : tie.Need-returns
 returns c =
@@ -77,11 +59,11 @@ pub room-raw-tremolo-tick-spec : {M : Type 1} → statement M
 room-raw-tremolo-tick-spec =
     tie.close
     (tie.spec
-    port-at-requires
-    port-at-requires-2
-    port-at-requires-3
-    tick-requires
-    number-requires
-    first-requires
+    (search needs)
+    (search needs)
+    (search needs)
+    (search needs)
+    (search needs)
+    (search needs)
     returns
     returns-2)

@@ -8,15 +8,6 @@ use borrow.Author.Needs.{needs}
 use Rattle.room_effects.proofs.vibrato_calls.room_raw_vibrato_silent.Statement.{statement}
 use Rattle.room_effects.proofs.vibrato_calls.room_raw_vibrato_silent.Tie as tie
 
-silent-requires : tie.Need-silent-requires
-silent-requires c κs = search needs
-
-flag-requires : tie.Need-flag-requires
-flag-requires c κs = search needs
-
-number-requires : tie.Need-number-requires
-number-requires c κs = search needs
-
 returns : tie.Need-returns
 returns c =
     let a = c .before .before .before .before .args in
@@ -24,4 +15,4 @@ returns c =
     asked vibrato does (stored vibrato ask (vibratoUnit (a .write-pos) (a .lfo-phase) (a .sample-rate) (a .memory .now)) does (c .number .ensures) refl) (c .before .flag .ensures)
 
 pub room-raw-vibrato-silent-spec : {M : Type 1} → statement M
-room-raw-vibrato-silent-spec = tie.close (tie.spec silent-requires flag-requires number-requires returns)
+room-raw-vibrato-silent-spec = tie.close (tie.spec (search needs) (search needs) (search needs) returns)

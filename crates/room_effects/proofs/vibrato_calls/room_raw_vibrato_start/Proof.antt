@@ -6,17 +6,8 @@ use borrow.Author.Needs.{needs}
 use Rattle.room_effects.proofs.vibrato_calls.room_raw_vibrato_start.Statement.{statement}
 use Rattle.room_effects.proofs.vibrato_calls.room_raw_vibrato_start.Tie as tie
 
-new-requires : tie.Need-new-requires
-new-requires c κs = search needs
-
-number-requires : tie.Need-number-requires
-number-requires c κs = search needs
-
-same-length : tie.Need-same-length
-same-length c = search needs
-
 returns : tie.Need-returns
 returns c = began vibrato (c .before .before .before .new .ensures) refl (c .number .ensures)
 
 pub room-raw-vibrato-start-spec : {M : Type 1} → statement M
-room-raw-vibrato-start-spec = tie.close (tie.spec new-requires number-requires same-length returns)
+room-raw-vibrato-start-spec = tie.close (tie.spec (search needs) (search needs) (search needs) returns)

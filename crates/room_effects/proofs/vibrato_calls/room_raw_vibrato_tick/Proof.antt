@@ -23,7 +23,7 @@ handed s =
 abbrev unit : tie.Start → Device Vibrato
 unit s =
     let a = s .args in
-    vibratoUnit (a .pos .now) (a .phase .now) (a .rate) (a .memory .now)
+    vibratoUnit (a .write-pos .now) (a .lfo-phase .now) (a .sample-rate) (a .memory .now)
 
 -- the inner tick, with the ports as the mask has them
 module _ (c : tie.After-tick) where
@@ -37,36 +37,12 @@ module _ (c : tie.After-tick) where
       (λ i. tickOf (c .before .before .before .port-at .ensures i) (c .before .before .port-at2 .ensures i) (c .before .port-at3 .ensures i) (a .frequency) (a .sine))
       (c .tick .ensures)
 
-port-at-requires : tie.Need-port-at-requires
-port-at-requires c κs = search needs
-
-port-at-requires-2 : tie.Need-port-at-requires-2
-port-at-requires-2 c κs = search needs
-
-port-at-requires-3 : tie.Need-port-at-requires-3
-port-at-requires-3 c κs = search needs
-
-tick-requires : tie.Need-tick-requires
-tick-requires c κs = search needs
-
-number-requires : tie.Need-number-requires
-number-requires c κs = search needs
-
-first-requires : tie.Need-first-requires
-first-requires c κs = search needs
-
-same-length : tie.Need-same-length
-same-length c = search needs
-
 returns : tie.Need-returns
 returns c =
     let numbered = c .before .before in
     let inner = numbered .before .before .before in
     let s = start inner in
     played vibrato 1 (does inner) (kept vibrato (tick (handed s)) (unit s) (does inner) (numbered .number .ensures) (c .if1 .taken)) (λ i. c .before .first .ensures i ∷ [])
-
-same-length-2 : tie.Need-same-length-2
-same-length-2 c = search needs
 
 returns-2 : tie.Need-returns-2
 returns-2 c =
@@ -83,13 +59,13 @@ pub room-raw-vibrato-tick-spec : {M : Type 1} → statement M
 room-raw-vibrato-tick-spec =
     tie.close
     (tie.spec
-    port-at-requires
-    port-at-requires-2
-    port-at-requires-3
-    tick-requires
-    number-requires
-    first-requires
-    same-length
+    (search needs)
+    (search needs)
+    (search needs)
+    (search needs)
+    (search needs)
+    (search needs)
+    (search needs)
     returns
-    same-length-2
+    (search needs)
     returns-2)

@@ -5,12 +5,9 @@ use Rattle.tremolo.specs.Tremolo.{lfo}
 use Rattle.tremolo.proofs.Tremolo.lfo.Statement.{statement}
 use Rattle.tremolo.proofs.Tremolo.lfo.Tie as tie
 
-triangle-requires : tie.Need-triangle-requires
-triangle-requires c κs = search needs
-
 returns : tie.Need-returns
 unfolding lfo ofBits ofInt
 returns c = rw (c .triangle .ensures)
 
 pub lfo-spec : {M : Type 1} → statement M
-lfo-spec = tie.close (tie.spec triangle-requires returns)
+lfo-spec = tie.close (tie.spec (search needs) returns)

@@ -10,9 +10,6 @@ use Rattle.tremolo.specs.Tremolo.{tremolo}
 use Rattle.tremolo.proofs.Tremolo.new.Statement.{statement}
 use Rattle.tremolo.proofs.Tremolo.new.Tie as tie
 
-rate-fits-requires : tie.Need-rate-fits-requires
-rate-fits-requires c κs = search needs
-
 returns : tie.Need-returns
 unfolding ofBits
 returns c =
@@ -30,4 +27,4 @@ returns-2 c =
     refl
 
 pub new-spec : {M : Type 1} → statement M
-new-spec = tie.close (tie.spec rate-fits-requires returns returns-2)
+new-spec = tie.close (tie.spec (search needs) returns returns-2)

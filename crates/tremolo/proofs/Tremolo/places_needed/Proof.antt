@@ -5,9 +5,6 @@ use borrow.Author.Tests.{not-true, not-false}
 use Rattle.tremolo.proofs.Tremolo.places_needed.Statement.{statement}
 use Rattle.tremolo.proofs.Tremolo.places_needed.Tie as tie
 
-rate-fits-requires : tie.Need-rate-fits-requires
-rate-fits-requires c κs = search needs
-
 returns : tie.Need-returns
 returns c = rw (sym (c .before .rate-fits .ensures) ∙ not-true _ (c .if1 .taken))
 
@@ -15,4 +12,4 @@ returns-2 : tie.Need-returns-2
 returns-2 c = rw (sym (c .before .rate-fits .ensures) ∙ not-false _ (c .if1 .left))
 
 pub places-needed-spec : {M : Type 1} → statement M
-places-needed-spec = tie.close (tie.spec rate-fits-requires returns returns-2)
+places-needed-spec = tie.close (tie.spec (search needs) returns returns-2)

@@ -11,9 +11,6 @@ use Rattle.tremolo.specs.Tremolo.{tremolo}
 use Rattle.tremolo.proofs.Tremolo.reset.Statement.{statement}
 use Rattle.tremolo.proofs.Tremolo.reset.Tie as tie
 
-state-fits-requires : tie.Need-state-fits-requires
-state-fits-requires c κs = search needs
-
 returns : tie.Need-returns
 returns c =
     let s = c .before .before .args .self in
@@ -32,4 +29,4 @@ returns-2 c =
     refl
 
 pub reset-spec : {M : Type 1} → statement M
-reset-spec = tie.close (tie.spec state-fits-requires returns returns-2)
+reset-spec = tie.close (tie.spec (search needs) returns returns-2)

@@ -10,9 +10,6 @@ use Rattle.tremolo.specs.Tremolo.{tremolo}
 use Rattle.tremolo.proofs.Tremolo.silent.Statement.{statement}
 use Rattle.tremolo.proofs.Tremolo.silent.Tie as tie
 
-state-fits-requires : tie.Need-state-fits-requires
-state-fits-requires c κs = search needs
-
 returns : tie.Need-returns
 returns c =
     let s = c .before .before .args .self in
@@ -30,4 +27,4 @@ returns-2 c =
     refl
 
 pub silent-spec : {M : Type 1} → statement M
-silent-spec = tie.close (tie.spec state-fits-requires returns returns-2)
+silent-spec = tie.close (tie.spec (search needs) returns returns-2)

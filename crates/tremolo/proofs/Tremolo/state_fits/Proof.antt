@@ -5,12 +5,6 @@ use Rattle.tremolo.specs.Tremolo.{stateFits}
 use Rattle.tremolo.proofs.Tremolo.state_fits.Statement.{statement}
 use Rattle.tremolo.proofs.Tremolo.state_fits.Tie as tie
 
-rate-fits-requires : tie.Need-rate-fits-requires
-rate-fits-requires c κs = search needs
-
-phase-fits-requires : tie.Need-phase-fits-requires
-phase-fits-requires c κs = search needs
-
 returns : tie.Need-returns
 unfolding stateFits
 returns c = rw (sym (c .before .before .rate-fits .ensures) ∙ c .before .if1 .taken) (c .phase-fits .ensures)
@@ -20,4 +14,4 @@ unfolding stateFits
 returns-2 c = rw (sym (c .before .rate-fits .ensures) ∙ c .if1 .left) (c .if1 .left)
 
 pub state-fits-spec : {M : Type 1} → statement M
-state-fits-spec = tie.close (tie.spec rate-fits-requires phase-fits-requires returns returns-2)
+state-fits-spec = tie.close (tie.spec (search needs) (search needs) returns returns-2)

@@ -22,9 +22,6 @@ use Rattle.tremolo.proofs.Laws.{sample-is}
 use Rattle.tremolo.proofs.Tremolo.tick.Statement.{statement}
 use Rattle.tremolo.proofs.Tremolo.tick.Tie as tie
 
-state-fits-requires : tie.Need-state-fits-requires
-state-fits-requires c κs = search needs
-
 returns : tie.Need-returns
 returns c =
     let a = c .before .before .args in
@@ -32,42 +29,6 @@ returns c =
     refuses tremolo (tick t) (a .self) [] 4
     (state-refused tremolo 0 (a .self) (tick t) (sym (c .before .state-fits .ensures) ∙ not-true _ (c .if1 .taken)))
     (omega arith)
-
-enum-known-audio : tie.Need-enum-known-audio
-enum-known-audio c = search needs
-
-enum-told : tie.Need-enum-told
-enum-told c = search needs
-
-enum-known-depth : tie.Need-enum-known-depth
-enum-known-depth c = search needs
-
-enum-told-2 : tie.Need-enum-told-2
-enum-told-2 c = search needs
-
-enum-known-shape : tie.Need-enum-known-shape
-enum-known-shape c = search needs
-
-enum-told-3 : tie.Need-enum-told-3
-enum-told-3 c = search needs
-
-is-nan-requires : tie.Need-is-nan-requires
-is-nan-requires c κs = search needs
-
-is-nan-requires-2 : tie.Need-is-nan-requires-2
-is-nan-requires-2 c κs = search needs
-
-frequency-fits-requires : tie.Need-frequency-fits-requires
-frequency-fits-requires c κs = search needs
-
-sine-fits-requires : tie.Need-sine-fits-requires
-sine-fits-requires c κs = search needs
-
-tick-causes-requires : tie.Need-tick-causes-requires
-tick-causes-requires c κs = search needs
-
-enum-known-causes : tie.Need-enum-known-causes
-enum-known-causes c = search needs
 
 -- what the tick is handed
 abbrev handed : tie.Start → Tick
@@ -128,24 +89,6 @@ returns-2 c =
     (number-is causes (number cause) (ap numberOf (c .before .causes .given .1)))
     (number-some cause)
 
-enum-told-4 : tie.Need-enum-told-4
-enum-told-4 c = search needs
-
-advance-phase-requires : tie.Need-advance-phase-requires
-advance-phase-requires c κs = search needs
-
-clamp-requires : tie.Need-clamp-requires
-clamp-requires c κs = search needs
-
-lfo-requires : tie.Need-lfo-requires
-lfo-requires c κs = search needs
-
-clamp-requires-2 : tie.Need-clamp-requires-2
-clamp-requires-2 c κs = search needs
-
-modulated-requires : tie.Need-modulated-requires
-modulated-requires c κs = search needs
-
 returns-3 : tie.Need-returns-3
 unfolding next ofBits ofInt
 returns-3 c =
@@ -164,25 +107,25 @@ pub tick-spec : {M : Type 1} → statement M
 tick-spec =
     tie.close
     (tie.spec
-    state-fits-requires
+    (search needs)
     returns
-    enum-known-audio
-    enum-told
-    enum-known-depth
-    enum-told-2
-    enum-known-shape
-    enum-told-3
-    is-nan-requires
-    is-nan-requires-2
-    frequency-fits-requires
-    sine-fits-requires
-    tick-causes-requires
-    enum-known-causes
+    (search needs)
+    (search needs)
+    (search needs)
+    (search needs)
+    (search needs)
+    (search needs)
+    (search needs)
+    (search needs)
+    (search needs)
+    (search needs)
+    (search needs)
+    (search needs)
     returns-2
-    enum-told-4
-    advance-phase-requires
-    clamp-requires
-    lfo-requires
-    clamp-requires-2
-    modulated-requires
+    (search needs)
+    (search needs)
+    (search needs)
+    (search needs)
+    (search needs)
+    (search needs)
     returns-3)

@@ -5,12 +5,9 @@ use Rattle.tremolo.specs.Tremolo.{triangle}
 use Rattle.tremolo.proofs.Tremolo.triangle.Statement.{statement}
 use Rattle.tremolo.proofs.Tremolo.triangle.Tie as tie
 
-abs-requires : tie.Need-abs-requires
-abs-requires c κs = search needs
-
 returns : tie.Need-returns
 unfolding triangle ofBits ofInt round
 returns c = rw (c .abs .ensures)
 
 pub triangle-spec : {M : Type 1} → statement M
-triangle-spec = tie.close (tie.spec abs-requires returns)
+triangle-spec = tie.close (tie.spec (search needs) returns)

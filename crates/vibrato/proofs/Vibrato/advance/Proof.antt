@@ -55,12 +55,6 @@ module _ (s : tie.Start) where
 next-requires : tie.Need-next-requires
 next-requires c κs = inside (c .before)
 
-clamp-requires : tie.Need-clamp-requires
-clamp-requires c κs = search needs
-
-clamp-requires-2 : tie.Need-clamp-requires-2
-clamp-requires-2 c κs = search needs
-
 distance-requires : tie.Need-distance-requires
 distance-requires c κs = let s = c .before .before .before .before in (unit s .rate, s .pre .0)
 
@@ -84,12 +78,6 @@ mul-mem c = let s = c .before .before .before .before .before .before .before in
 
 slice-write-mem : tie.Need-slice-write-mem
 slice-write-mem c = let s = c .before .before .before .before .before .before .before in omega (arith, inside s, room s)
-
-blend-requires : tie.Need-blend-requires
-blend-requires c κs = search needs
-
-same-length : tie.Need-same-length
-same-length c = search needs
 
 returns : tie.Need-returns
 unfolding ofBits ofInt
@@ -116,14 +104,14 @@ advance-spec =
     tie.close
     (tie.spec
     next-requires
-    clamp-requires
-    clamp-requires-2
+    (search needs)
+    (search needs)
     distance-requires
     slice-reshare-prefix-read-interpolated
     slice-aggregate-read-interpolated
     read-interpolated-requires
     mul-mem
     slice-write-mem
-    blend-requires
-    same-length
+    (search needs)
+    (search needs)
     returns)

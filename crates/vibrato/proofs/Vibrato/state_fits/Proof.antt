@@ -5,9 +5,6 @@ use Rattle.vibrato.proofs.Laws.{fits-by}
 use Rattle.vibrato.proofs.Vibrato.state_fits.Statement.{statement}
 use Rattle.vibrato.proofs.Vibrato.state_fits.Tie as tie
 
-phase-fits-requires : tie.Need-phase-fits-requires
-phase-fits-requires c κs = search needs
-
 returns : tie.Need-returns
 returns c =
     let s = c .before .before .before in
@@ -19,4 +16,4 @@ returns-2 c =
     rw (fits-by (s .args .self) (s .pre), le-ltb _ _ (c .if1 .left))
 
 pub state-fits-spec : {M : Type 1} → statement M
-state-fits-spec = tie.close (tie.spec phase-fits-requires returns returns-2)
+state-fits-spec = tie.close (tie.spec (search needs) returns returns-2)
