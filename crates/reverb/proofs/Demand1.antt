@@ -18,7 +18,7 @@ use Rattle.reverb.specs.declared.Controls.{Controls}
 use Rattle.reverb.specs.declared.Reverb.{Reverb}
 use Rattle.reverb.specs.Tunings.{Side, left, right, predelaySize, combMost, allpassMost, combTunings, allpassTunings, tuned}
 use Rattle.reverb.specs.Tank.{combStart, allpassStart, tankSize, placeOf, moved, bySides, combsHeld, combWrite, allpassesHeld, allpassWrite, InUse, of-comb, of-allpass, of-predelay}
-use Rattle.reverb.specs.Reverb.{reverb, combs, stores, allpasses, cleared, blank, stateFits, controlsOf, damping, feedback, predelayed, summed, next, writes}
+use Rattle.reverb.specs.Reverb.{reverb, combs, stores, allpasses, fresh, blank, stateFits, controlsOf, damping, feedback, predelayed, summed, next, writes}
 use Rattle.reverb.proofs.Scaling.{lines-some, lines-most}
 use Rattle.reverb.proofs.Lists.{moved-below}
 use Rattle.reverb.proofs.Laws.{combs-in, allpasses-in, Fits, fits-parts, fit}
@@ -31,10 +31,10 @@ unfolding stateFits inRange le ofInt Ieee.fits
 blank-refused = refl
 
 -- a clearing leaves a state that passes
-cleared-fits : (rate : Float) → rateFits rate ≡ true → stateFits (cleared rate) ≡ true
+fresh-fits : (rate : Float) → rateFits rate ≡ true → stateFits (fresh rate) ≡ true
 unfolding tuned
-cleared-fits rate h =
-    let u = cleared rate in
+fresh-fits rate h =
+    let u = fresh rate in
     let comb : (side : Side) → _ = λ side. lines-some combMost combTunings side rate (omega arith) refl h in
     let pass : (side : Side) → _ = λ side. lines-some allpassMost allpassTunings side rate (omega arith) refl h in
     fit u
@@ -110,9 +110,9 @@ laws =
       fresh-settings = λ k. refl;
       retuned-settings = λ k s. refl;
       next-settings = λ t s m. refl;
-      start-fits = λ k e. cleared-fits k (none-1 (rateFits k) e);
-      reset-fits = λ s e. cleared-fits (s .«sample_rate») (fits-parts s e .rate);
-      retuned-fits = λ k s e f. cleared-fits k (none-1 (rateFits k) e);
+      start-fits = λ k e. fresh-fits k (none-1 (rateFits k) e);
+      reset-fits = λ s e. fresh-fits (s .«sample_rate») (fits-parts s e .rate);
+      retuned-fits = λ k s e f. fresh-fits k (none-1 (rateFits k) e);
       next-fits = λ t s m e r n. next-fits (controlsOf t) s m e;
       used = used;
       inside = λ t s m e. inside (controlsOf t) s m e;

@@ -45,12 +45,12 @@ stateOf combl combr storesl storesr passl passr predelay rate =
     }
 
 -- after a start, a retune and a reset: positions 0, damping stores +0
-abbrev pub cleared : Float → Reverb
-cleared rate = stateOf (replicate 8 0) (replicate 8 0) (zeros 8) (zeros 8) (replicate 4 0) (replicate 4 0) 0 rate
+abbrev pub fresh : Float → Reverb
+fresh rate = stateOf (replicate 8 0) (replicate 8 0) (zeros 8) (zeros 8) (replicate 4 0) (replicate 4 0) 0 rate
 
 -- what a refused start gives
 abbrev pub blank : Reverb
-blank = cleared plusZero
+blank = fresh plusZero
 
 -- a state's combs, with their damping stores, and its all-passes
 abbrev pub combs : Reverb → Lines
@@ -172,8 +172,8 @@ reverb =
       InUse = InUse;
       tickNumber = λ t rate. tickNumber t;
       blank = blank;
-      fresh = cleared;
-      retuned = λ rate s. cleared rate;
+      fresh = fresh;
+      retuned = λ rate s. fresh rate;
       next = λ t s m. next (controlsOf t) s m;
       writes = λ t s m. writes (controlsOf t) s m;
       samples = λ t s m. samples (controlsOf t) s m;

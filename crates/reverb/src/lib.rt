@@ -1,17 +1,17 @@
 // The reverb: a predelay, and on each side eight combs in parallel and four all-passes in series, in one lent tank. The state goes in and out by value.
 ghost use mathlib.Core.Path.{_≡_};
-ghost use mathlib.Core.Bool.{true};
+ghost use mathlib.Core.Bool.{true, cond};
 ghost use Prim.Native.Nat.{_≤_};
 ghost use lib.ListN as ListN;
-ghost use Rattle.float64.specs.Number.{isNumber};
+ghost use Rattle.float64.specs.Number.{isNumber, rateFits};
 ghost use Rattle.port.specs.Port.{valueOr};
 ghost use Rattle.port.specs.Answer.{numberOf, outcomeReply, answerReply, silenceReply};
-ghost use Rattle.effect.specs.Run.{tick, retune, reset, ask, startNumber, numberIn};
+ghost use Rattle.effect.specs.Run.{tick, retune, reset, ask, ifNone, startNumber, numberIn};
 ghost use Rattle.effect.specs.Contract.{Does, Starts};
 ghost use Rattle.effect.specs.Needed.{placesNeeded};
 ghost use Rattle.reverb.specs.Tunings.{lengthsAt, lengthsFor};
 ghost use Rattle.reverb.specs.Tank.{tankSize};
-ghost use Rattle.reverb.specs.Reverb.{reverb, tickOf, controlsOf, stateOf, cleared, stateFits, Advances};
+ghost use Rattle.reverb.specs.Reverb.{reverb, tickOf, controlsOf, stateOf, fresh, stateFits, Advances};
 
 mod filters;
 mod tank;
@@ -99,19 +99,27 @@ impl Reverb {
     // The places needed, at every rate.
     pub const PLACES: u64 = Reverb::END as u64;
 
+    // The places of the tank; 0 at a refused rate.
+    fn tank_size(rate: f64) -> u64
+        ensures { λ r. ⌜ r ≡ cond (rateFits rate) tankSize 0 ⌝ }
+    {
+        if float64::rate_fits(rate) {
+            Reverb::PLACES
+        } else {
+            0
+        }
+    }
+
     // The places that a start needs, the same at every rate; 2^64 - 1 for a rate that is refused.
     pub fn places_needed(rate: f64) -> u64
         ensures { λ r. ⌜ r ≡ placesNeeded reverb rate ⌝ }
     {
-        if !float64::rate_fits(rate) {
-            return 0xffff_ffff_ffff_ffff;
-        }
-        Reverb::PLACES
+        effect::places_or_none(Reverb::tank_size(rate))
     }
 
     // Positions 0 and damping stores +0, at the rate.
-    fn cleared(rate: f64) -> Reverb
-        ensures { λ r. ⌜ r ≡ cleared rate ⌝ }
+    fn fresh(rate: f64) -> Reverb
+        ensures { λ r. ⌜ r ≡ fresh rate ⌝ }
     {
         let comb_pos_l: [u64; 8] = [0; 8];
         let comb_pos_r: [u64; 8] = [0; 8];
@@ -135,28 +143,32 @@ impl Reverb {
     fn rate_refusal(rate: f64, places: usize) -> Outcome
         ensures { λ r. ⌜ numberOf r ≡ startNumber reverb rate places ⌝ }
     {
-        if !float64::rate_fits(rate) {
-            return Outcome::Refused(Refusal::SampleRate);
+        effect::check_rate(Reverb::tank_size(rate), places)
+    }
+
+    // What a start, a retune or a reset returns, by the outcome of its tests: the state `next`, or `kept`.
+    fn settled(outcome: Outcome, next: Reverb, kept: Reverb) -> Cleared
+        ensures { λ r. ⌜ (r .state ≡ ifNone (numberOf outcome) next kept) × (r .outcome ≡ outcome) ⌝ }
+    {
+        if let Outcome::Accepted = outcome {
+            return Cleared {
+                state: next,
+                outcome,
+            };
         }
-        effect::check_memory(Reverb::PLACES, places)
+        Cleared {
+            state: kept,
+            outcome,
+        }
     }
 
     // Start: a clearing at the rate.
     pub fn new(sample_rate: f64, mem: &mut [f64]) -> Cleared
         ensures { λ r. ⌜ Starts reverb «sample_rate» (now (mem .entry)) (r .state) (now (mem .exit)) (outcomeReply (r .outcome)) ⌝ }
     {
-        let refusal = Reverb::rate_refusal(sample_rate, mem.len());
-        if let Outcome::Refused(cause) = refusal {
-            return Cleared {
-                state: Reverb::cleared(0.0),
-                outcome: Outcome::Refused(cause),
-            };
-        }
-        common::clear(mem);
-        Cleared {
-            state: Reverb::cleared(sample_rate),
-            outcome: Outcome::Accepted,
-        }
+        let outcome = Reverb::rate_refusal(sample_rate, mem.len());
+        effect::clear(outcome, mem);
+        Reverb::settled(outcome, Reverb::fresh(sample_rate), Reverb::fresh(0.0))
     }
 
     // The state test, by every line's length. The stores may hold any float.
@@ -176,35 +188,22 @@ impl Reverb {
         requires { ⌜ n ≡ lengthsFor (self .«sample_rate») ⌝ }
         ensures { λ r. ⌜ numberOf r ≡ numberIn reverb reset places self ⌝ }
     {
-        if !self.state_fits(n) {
-            return Outcome::Refused(Refusal::State);
-        }
-        effect::check_memory(Reverb::PLACES, places)
+        effect::check_state(
+            self.state_fits(n),
+            effect::check_memory(Reverb::PLACES, places),
+        )
     }
 
     // Retune: a clearing at another rate.
     pub fn set_sample_rate(self, sample_rate: f64, mem: &mut [f64]) -> Cleared
-        ensures { λ r. ⌜ Does reverb (retune «sample_rate») self (now (mem .entry)) (r .state) (now (mem .exit)) (outcomeReply (r .outcome)) ⌝ }
+        ensures { λ r. ⌜ Does reverb (retune «sample_rate») self (now (mem .entry)) (r .state) (now (mem .exit))
+            (outcomeReply (r .outcome)) ⌝ }
     {
         let n = tunings::scaled_lengths(self.sample_rate);
-        if !self.state_fits(n) {
-            return Cleared {
-                state: self,
-                outcome: Outcome::Refused(Refusal::State),
-            };
-        }
-        let refusal = Reverb::rate_refusal(sample_rate, mem.len());
-        if let Outcome::Refused(cause) = refusal {
-            return Cleared {
-                state: self,
-                outcome: Outcome::Refused(cause),
-            };
-        }
-        common::clear(mem);
-        Cleared {
-            state: Reverb::cleared(sample_rate),
-            outcome: Outcome::Accepted,
-        }
+        let others = Reverb::rate_refusal(sample_rate, mem.len());
+        let outcome = effect::check_state(self.state_fits(n), others);
+        effect::clear(outcome, mem);
+        Reverb::settled(outcome, Reverb::fresh(sample_rate), self)
     }
 
     // Reset: a clearing at the rate in force.
@@ -212,18 +211,9 @@ impl Reverb {
         ensures { λ r. ⌜ Does reverb reset self (now (mem .entry)) (r .state) (now (mem .exit)) (outcomeReply (r .outcome)) ⌝ }
     {
         let n = tunings::scaled_lengths(self.sample_rate);
-        let refusal = self.refusal(n, mem.len());
-        if let Outcome::Refused(cause) = refusal {
-            return Cleared {
-                state: self,
-                outcome: Outcome::Refused(cause),
-            };
-        }
-        common::clear(mem);
-        Cleared {
-            state: Reverb::cleared(self.sample_rate),
-            outcome: Outcome::Accepted,
-        }
+        let outcome = self.refusal(n, mem.len());
+        effect::clear(outcome, mem);
+        Reverb::settled(outcome, Reverb::fresh(self.sample_rate), self)
     }
 
     // Silent? Whether every place in use is +0 or -0.
@@ -231,8 +221,8 @@ impl Reverb {
         ensures { λ r. ⌜ Does reverb ask self (now (mem .entry)) self (now (mem .entry)) (silenceReply r) ⌝ }
     {
         let n = tunings::scaled_lengths(self.sample_rate);
-        let refusal = self.refusal(n, mem.len());
-        if let Outcome::Refused(cause) = refusal {
+        let outcome = self.refusal(n, mem.len());
+        if let Outcome::Refused(cause) = outcome {
             return Silence::Refused(cause);
         }
         if tank::all_silent(n, mem) {
@@ -388,7 +378,8 @@ impl Reverb {
         mix: Port,
         predelay: Port,
     ) -> Ticked
-        ensures { λ r. ⌜ Does reverb (tick (tickOf audio size damping mix predelay)) self (now (mem .entry)) (r .state) (now (mem .exit)) (answerReply (r .answer)) ⌝ }
+        ensures { λ r. ⌜ Does reverb (tick (tickOf audio size damping mix predelay)) self (now (mem .entry))
+            (r .state) (now (mem .exit)) (answerReply (r .answer)) ⌝ }
     {
         let mut comb_pos_l = self.comb_pos_l;
         let mut comb_pos_r = self.comb_pos_r;

@@ -136,20 +136,4 @@ returns c =
     (c .blend2 .ensures ∙ (λ i. blended (audio-is p i) (q .allpasses .result .right) (mixed-is p i)))
 
 pub advance-spec : {M : Type 1} → statement M
-advance-spec =
-    tie.close
-    (tie.spec
-    sanitize-audio-requires
-    clamp-requires
-    clamp-requires-2
-    clamp-requires-3
-    clamp-requires-4
-    predelay-samples-requires
-    predelay-requires
-    next-place-requires
-    combs-requires
-    allpasses-requires
-    blend-requires
-    blend-requires-2
-    same-length
-    returns)
+advance-spec = tie.close (tie.spec sanitize-audio-requires clamp-requires clamp-requires-2 clamp-requires-3 clamp-requires-4 predelay-samples-requires predelay-requires next-place-requires combs-requires allpasses-requires blend-requires blend-requires-2 same-length returns)

@@ -4,21 +4,6 @@ use borrow.Author.Needs.{needs}
 use Rattle.reverb.proofs.Reverb.controls_of.Statement.{statement}
 use Rattle.reverb.proofs.Reverb.controls_of.Tie as tie
 
-number-or-requires : tie.Need-number-or-requires
-number-or-requires c κs = search needs
-
-number-or-requires-2 : tie.Need-number-or-requires-2
-number-or-requires-2 c κs = search needs
-
-number-or-requires-3 : tie.Need-number-or-requires-3
-number-or-requires-3 c κs = search needs
-
-number-or-requires-4 : tie.Need-number-or-requires-4
-number-or-requires-4 c κs = search needs
-
-number-or-requires-5 : tie.Need-number-or-requires-5
-number-or-requires-5 c κs = search needs
-
 returns : tie.Need-returns
 unfolding ofBits round
 returns c =
@@ -32,5 +17,4 @@ returns c =
     }
 
 pub controls-of-spec : {M : Type 1} → statement M
-controls-of-spec =
-    tie.close (tie.spec number-or-requires number-or-requires-2 number-or-requires-3 number-or-requires-4 number-or-requires-5 returns)
+controls-of-spec = tie.close (tie.spec (search needs) (search needs) (search needs) (search needs) (search needs) returns)

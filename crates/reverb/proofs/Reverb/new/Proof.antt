@@ -1,69 +1,25 @@
 -- `Reverb::new` is the start of `reverb`: causes 1 and 3, or a clearing and the fresh state. Assumes nothing.
-use mathlib.Core.Path.{refl, sym, ap, _∙_}
+use mathlib.Core.Path.{_∙_}
 use lib.Ieee.{ofBits}
 use borrow.Author.Needs.{needs}
-use Rattle.port.specs.Answer.{number, numberOf}
-use Rattle.port.proofs.Laws.{number-some}
-use Rattle.effect.proofs.Contract.{starts-refused, starts-accepted}
+use Rattle.port.specs.Answer.{numberOf}
+use Rattle.effect.specs.Run.{ifNone}
+use Rattle.effect.proofs.Contract.{starts-clears}
 use Rattle.reverb.specs.Reverb.{reverb}
 use Rattle.reverb.proofs.Reverb.new.Statement.{statement}
 use Rattle.reverb.proofs.Reverb.new.Tie as tie
 
-rate-refusal-requires : tie.Need-rate-refusal-requires
-rate-refusal-requires c κs = search needs
-
-enum-known-refusal : tie.Need-enum-known-refusal
-enum-known-refusal c = search needs
-
-cleared-requires : tie.Need-cleared-requires
-cleared-requires c κs = search needs
-
 returns : tie.Need-returns
 unfolding ofBits
 returns c =
-    let refusal = c .before .before in
-    let a = refusal .before .before .before .before .args in
-    let cause = refusal .refusal .given .0 .0 in
-    let r =
-    starts-refused reverb (a .sample-rate) (a .mem .now) (number cause)
-    (sym (ap numberOf (refusal .refusal .given .1)) ∙ refusal .before .before .rate-refusal .ensures)
-    (number-some cause) in
-    record { state = c .cleared .ensures ∙ r .state; memory = r .memory; answer = r .answer }
-
-enum-told : tie.Need-enum-told
-enum-told c = search needs
-
-clear-requires : tie.Need-clear-requires
-clear-requires c κs = search needs
-
-cleared-requires-2 : tie.Need-cleared-requires-2
-cleared-requires-2 c κs = search needs
-
-same-length : tie.Need-same-length
-same-length c = search needs
-
-returns-2 : tie.Need-returns-2
-unfolding ofBits
-returns-2 c =
-    let filled = c .before .before .before in
-    let told = filled .before .before in
-    let a = told .before .before .before .before .args in
-    starts-accepted reverb (a .sample-rate) (a .mem .now)
-    (sym (told .before .before .rate-refusal .ensures) ∙ ap numberOf (told .enum-told .given .1))
-    (c .cleared2 .ensures)
+    let filled = c .before .before .before .before .before in
+    let tested = filled .before .before in
+    let a = tested .before .before .args in
+    let outcome = tested .rate-refusal .result in
+    starts-clears reverb (a .sample-rate) (a .mem .now) outcome (tested .rate-refusal .ensures)
+    (c .settled .ensures .0 ∙ (λ i. ifNone (numberOf outcome) (c .before .before .fresh .ensures i) (c .before .fresh2 .ensures i)))
     (filled .clear .ensures)
-    refl
+    (c .settled .ensures .1)
 
 pub new-spec : {M : Type 1} → statement M
-new-spec =
-    tie.close
-    (tie.spec
-    rate-refusal-requires
-    enum-known-refusal
-    cleared-requires
-    returns
-    enum-told
-    clear-requires
-    cleared-requires-2
-    same-length
-    returns-2)
+new-spec = tie.close (tie.spec (search needs) (search needs) (search needs) (search needs) (search needs) (search needs) returns)

@@ -1,18 +1,15 @@
--- `Reverb::places_needed` is `placesNeeded`: the same number at every rate that is accepted. Assumes nothing.
-use mathlib.Core.Path.{sym, _∙_}
+-- `Reverb::places_needed` is `placesNeeded`: the tank has no places at just the rates that are refused. Assumes nothing.
+use native.Mathlib.Omega.{arith}
+use mathlib.Core.Path.{_∙_}
 use borrow.Author.Needs.{needs}
-use borrow.Author.Tests.{not-true, not-false}
+use Rattle.float64.specs.Number.{rateFits}
+use Rattle.effect.proofs.Needed.{places-row}
+use Rattle.reverb.specs.Tank.{tankSize}
 use Rattle.reverb.proofs.Reverb.places_needed.Statement.{statement}
 use Rattle.reverb.proofs.Reverb.places_needed.Tie as tie
 
-rate-fits-requires : tie.Need-rate-fits-requires
-rate-fits-requires c κs = search needs
-
 returns : tie.Need-returns
-returns c = rw (sym (c .before .rate-fits .ensures) ∙ not-true _ (c .if1 .taken))
-
-returns-2 : tie.Need-returns-2
-returns-2 c = rw (sym (c .before .rate-fits .ensures) ∙ not-false _ (c .if1 .left))
+returns c = c .places-or-none .ensures ∙ places-row (rateFits (c .before .before .args .rate)) tankSize (c .before .tank-size .ensures) (λ h. omega arith)
 
 pub places-needed-spec : {M : Type 1} → statement M
-places-needed-spec = tie.close (tie.spec rate-fits-requires returns returns-2)
+places-needed-spec = tie.close (tie.spec (search needs) (search needs) returns)

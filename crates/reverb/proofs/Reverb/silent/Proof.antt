@@ -19,26 +19,14 @@ use borrow.Author.Needs.{needs}
 use Rattle.reverb.proofs.Reverb.silent.Statement.{statement}
 use Rattle.reverb.proofs.Reverb.silent.Tie as tie
 
-scaled-lengths-requires : tie.Need-scaled-lengths-requires
-scaled-lengths-requires c κs = search needs
-
-refusal-requires : tie.Need-refusal-requires
-refusal-requires c κs = search needs
-
-enum-known-refusal : tie.Need-enum-known-refusal
-enum-known-refusal c = search needs
-
 returns : tie.Need-returns
 returns c =
     let refusal = c .before in
     let a = refusal .before .before .before .before .before .args in
-    let cause = refusal .refusal2 .given .0 .0 in
+    let cause = refusal .outcome .given .0 .0 in
     refuses reverb ask (a .self) (a .mem .now) (number cause)
-    (sym (ap numberOf (refusal .refusal2 .given .1)) ∙ refusal .before .before .refusal .ensures)
+    (sym (ap numberOf (refusal .outcome .given .1)) ∙ refusal .before .before .refusal .ensures)
     (number-some cause)
-
-enum-told : tie.Need-enum-told
-enum-told c = search needs
 
 module _ (c : tie.After-enum-told) where
   abbrev start : tie.Start
@@ -78,14 +66,4 @@ returns-3 : tie.Need-returns-3
 returns-3 c = answered (c .before) false (c .if1 .left)
 
 pub silent-spec : {M : Type 1} → statement M
-silent-spec =
-    tie.close
-    (tie.spec
-    scaled-lengths-requires
-    refusal-requires
-    enum-known-refusal
-    returns
-    enum-told
-    all-silent-requires
-    returns-2
-    returns-3)
+silent-spec = tie.close (tie.spec (search needs) (λ c κs. search needs) (search needs) returns (search needs) all-silent-requires returns-2 returns-3)

@@ -5,13 +5,10 @@ use borrow.Author.Needs.{needs}
 use Rattle.reverb.proofs.Reverb.state_fits.Statement.{statement}
 use Rattle.reverb.proofs.Reverb.state_fits.Tie as tie
 
-positions-fit-requires : tie.Need-positions-fit-requires
-positions-fit-requires c κs = search needs
-
 returns : tie.Need-returns
 returns c =
     let s = c .before .before .before .before .before .before .before .before .before in
     c .positions-fit .ensures ∙ fits-by (s .args .self) (s .pre)
 
 pub state-fits-spec : {M : Type 1} → statement M
-state-fits-spec = tie.close (tie.spec positions-fit-requires returns)
+state-fits-spec = tie.close (tie.spec (search needs) returns)

@@ -38,12 +38,6 @@ self s =
     let a = s .args in
     stateOf (a .comb-pos-l .now) (a .comb-pos-r .now) (a .stores-l .now) (a .stores-r .now) (a .allpass-pos-l .now) (a .allpass-pos-r .now) (a .predelay-pos .now) (a .rate)
 
-lengths-at-requires : tie.Need-lengths-at-requires
-lengths-at-requires c κs = search needs
-
-positions-fit-requires : tie.Need-positions-fit-requires
-positions-fit-requires c κs = search needs
-
 -- the state test
 module _ (c : tie.After-positions-fit) where
   abbrev tested : tie.Start
@@ -59,12 +53,6 @@ returns c =
     refuses reverb (tick (handed s)) (self s) m 4
     (state-refused reverb (length m) (self s) (tick (handed s)) (sym (fits-is (c .before)) ∙ not-true _ (c .if1 .taken)))
     (omega arith)
-
-check-memory-requires : tie.Need-check-memory-requires
-check-memory-requires c κs = search needs
-
-enum-known-memory : tie.Need-enum-known-memory
-enum-known-memory c = search needs
 
 -- the memory's test, past that of the state
 module _ (c : tie.After-check-memory) where
@@ -84,30 +72,6 @@ returns-2 c =
     refuses reverb (tick (handed s)) (self s) m (number cause)
     (tick-memory reverb (length m) (self s) (handed s) (passed p) (sym (ap numberOf (memory .memory .given .1)) ∙ p .check-memory .ensures) (number-some cause))
     (number-some cause)
-
-enum-told : tie.Need-enum-told
-enum-told c = search needs
-
-controls-of-requires : tie.Need-controls-of-requires
-controls-of-requires c κs = search needs
-
-is-nan-requires : tie.Need-is-nan-requires
-is-nan-requires c κs = search needs
-
-is-nan-requires-2 : tie.Need-is-nan-requires-2
-is-nan-requires-2 c κs = search needs
-
-is-nan-requires-3 : tie.Need-is-nan-requires-3
-is-nan-requires-3 c κs = search needs
-
-is-nan-requires-4 : tie.Need-is-nan-requires-4
-is-nan-requires-4 c κs = search needs
-
-tick-causes-requires : tie.Need-tick-causes-requires
-tick-causes-requires c κs = search needs
-
-enum-known-causes : tie.Need-enum-known-causes
-enum-known-causes c = search needs
 
 -- cause 5, past causes 4 and 3
 module _ (c : tie.After-tick-causes) where
@@ -154,9 +118,6 @@ returns-3 c =
     (number-is causes (number cause) (ap numberOf (c .before .causes .given .1)))
     (number-some cause)
 
-enum-told-2 : tie.Need-enum-told-2
-enum-told-2 c = search needs
-
 advance-requires : tie.Need-advance-requires
 advance-requires c κs =
     let told = c .before .before .before .before .before .before .before .before in
@@ -166,9 +127,6 @@ advance-requires c κs =
       lengths-are (u .«sample_rate») (fits-parts u (passed memory) .rate) (memory .before .before .before .before .before .before .before .before .lengths-at .ensures),
       (passed memory, (enough tankSize _ (sym (has-places causes)), predelay-number causes (ap numberOf (told .enum-told2 .given .1)))),
     )
-
-same-length : tie.Need-same-length
-same-length c = search needs
 
 returns-4 : tie.Need-returns-4
 returns-4 c =
@@ -185,25 +143,4 @@ returns-4 c =
     (worked .advance .ensures .answer ∙ (λ i. played (samples (v i) (self s) m)))
 
 pub tick-in-place-spec : {M : Type 1} → statement M
-tick-in-place-spec =
-    tie.close
-    (tie.spec
-    lengths-at-requires
-    positions-fit-requires
-    returns
-    check-memory-requires
-    enum-known-memory
-    returns-2
-    enum-told
-    controls-of-requires
-    is-nan-requires
-    is-nan-requires-2
-    is-nan-requires-3
-    is-nan-requires-4
-    tick-causes-requires
-    enum-known-causes
-    returns-3
-    enum-told-2
-    advance-requires
-    same-length
-    returns-4)
+tick-in-place-spec = tie.close (tie.spec (search needs) (search needs) returns (search needs) (search needs) returns-2 (search needs) (search needs) (search needs) (search needs) (search needs) (search needs) (search needs) (search needs) returns-3 (search needs) advance-requires (search needs) returns-4)

@@ -10,27 +10,6 @@ use borrow.Author.Needs.{needs}
 use Rattle.reverb.proofs.filters.allpass_at.Statement.{statement}
 use Rattle.reverb.proofs.filters.allpass_at.Tie as tie
 
-add-e : tie.Need-add-e
-add-e c = search needs
-
-mul-process-allpass : tie.Need-mul-process-allpass
-mul-process-allpass c = search needs
-
-sub-process-allpass : tie.Need-sub-process-allpass
-sub-process-allpass c = search needs
-
-part-process-allpass-start : tie.Need-part-process-allpass-start
-part-process-allpass-start c = search needs
-
-part-process-allpass-end : tie.Need-part-process-allpass-end
-part-process-allpass-end c = search needs
-
-process-allpass-requires : tie.Need-process-allpass-requires
-process-allpass-requires c κs = search needs
-
-same-length : tie.Need-same-length
-same-length c = search needs
-
 returns : tie.Need-returns
 unfolding passLine
 returns c =
@@ -45,14 +24,4 @@ returns c =
     )
 
 pub allpass-at-spec : {M : Type 1} → statement M
-allpass-at-spec =
-    tie.close
-    (tie.spec
-    add-e
-    mul-process-allpass
-    sub-process-allpass
-    part-process-allpass-start
-    part-process-allpass-end
-    process-allpass-requires
-    same-length
-    returns)
+allpass-at-spec = tie.close (tie.spec (search needs) (search needs) (search needs) (search needs) (search needs) (search needs) (search needs) returns)

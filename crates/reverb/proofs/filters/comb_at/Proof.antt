@@ -10,27 +10,6 @@ use borrow.Author.Needs.{needs}
 use Rattle.reverb.proofs.filters.comb_at.Statement.{statement}
 use Rattle.reverb.proofs.filters.comb_at.Tie as tie
 
-add-e : tie.Need-add-e
-add-e c = search needs
-
-mul-process-comb : tie.Need-mul-process-comb
-mul-process-comb c = search needs
-
-sub-process-comb : tie.Need-sub-process-comb
-sub-process-comb c = search needs
-
-part-process-comb-start : tie.Need-part-process-comb-start
-part-process-comb-start c = search needs
-
-part-process-comb-end : tie.Need-part-process-comb-end
-part-process-comb-end c = search needs
-
-process-comb-requires : tie.Need-process-comb-requires
-process-comb-requires c κs = search needs
-
-same-length : tie.Need-same-length
-same-length c = search needs
-
 returns : tie.Need-returns
 unfolding combLine
 returns c =
@@ -45,14 +24,4 @@ returns c =
     )
 
 pub comb-at-spec : {M : Type 1} → statement M
-comb-at-spec =
-    tie.close
-    (tie.spec
-    add-e
-    mul-process-comb
-    sub-process-comb
-    part-process-comb-start
-    part-process-comb-end
-    process-comb-requires
-    same-length
-    returns)
+comb-at-spec = tie.close (tie.spec (search needs) (search needs) (search needs) (search needs) (search needs) (search needs) (search needs) returns)

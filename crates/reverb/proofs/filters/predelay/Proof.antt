@@ -13,25 +13,10 @@ use borrow.Author.Needs.{needs}
 use Rattle.reverb.proofs.filters.predelay.Statement.{statement}
 use Rattle.reverb.proofs.filters.predelay.Tie as tie
 
-mul-process-predelay : tie.Need-mul-process-predelay
-mul-process-predelay c = search needs
-
-sub-process-predelay : tie.Need-sub-process-predelay
-sub-process-predelay c = search needs
-
-part-process-predelay-start : tie.Need-part-process-predelay-start
-part-process-predelay-start c = search needs
-
-part-process-predelay-end : tie.Need-part-process-predelay-end
-part-process-predelay-end c = search needs
-
 process-predelay-requires : tie.Need-process-predelay-requires
 process-predelay-requires c κs =
     let s = c .before .before in
     (part-length predelaySize predelayStart predelaySize (s .args .mem .now) refl (s .pre .1 .1), (s .pre .0, s .pre .1 .0))
-
-same-length : tie.Need-same-length
-same-length c = search needs
 
 returns : tie.Need-returns
 returns c =
@@ -45,13 +30,4 @@ returns c =
     )
 
 pub predelay-spec : {M : Type 1} → statement M
-predelay-spec =
-    tie.close
-    (tie.spec
-    mul-process-predelay
-    sub-process-predelay
-    part-process-predelay-start
-    part-process-predelay-end
-    process-predelay-requires
-    same-length
-    returns)
+predelay-spec = tie.close (tie.spec (search needs) (search needs) (search needs) (search needs) process-predelay-requires (search needs) returns)

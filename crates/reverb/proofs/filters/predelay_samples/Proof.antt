@@ -5,15 +5,9 @@ use borrow.Author.Needs.{needs}
 use Rattle.reverb.proofs.filters.predelay_samples.Statement.{statement}
 use Rattle.reverb.proofs.filters.predelay_samples.Tie as tie
 
-at-most-requires : tie.Need-at-most-requires
-at-most-requires c κs = search needs
-
-whole-part-requires : tie.Need-whole-part-requires
-whole-part-requires c κs = search needs
-
 returns : tie.Need-returns
 unfolding delaySamples ofBits ofInt round
 returns c = rw (c .whole-part .ensures, c .before .at-most .ensures)
 
 pub predelay-samples-spec : {M : Type 1} → statement M
-predelay-samples-spec = tie.close (tie.spec at-most-requires whole-part-requires returns)
+predelay-samples-spec = tie.close (tie.spec (search needs) (search needs) returns)

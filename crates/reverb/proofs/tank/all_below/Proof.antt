@@ -21,26 +21,11 @@ abbrev μ-loop : tie.MeasureT-loop
 loop-holds : tie.Need-loop-holds Inv-loop μ-loop
 loop-holds c = (omega arith, refl)
 
-mul-below : tie.Need-mul-below Inv-loop μ-loop
-mul-below c = search needs
-
-shared-slice-read-below : tie.Need-shared-slice-read-below Inv-loop μ-loop
-shared-slice-read-below c = search needs
-
-mul-below-2 : tie.Need-mul-below-2 Inv-loop μ-loop
-mul-below-2 c = search needs
-
 shared-slice-read-below-2 : tie.Need-shared-slice-read-below-2 Inv-loop μ-loop
 shared-slice-read-below-2 c = omega (arith, c .before .before .before .before .pre)
 
 cast-below : tie.Need-cast-below Inv-loop μ-loop
 cast-below c = omega (arith, c .shared-slice-known2 .given (c .before .before .before .loop .i))
-
-add-i : tie.Need-add-i Inv-loop μ-loop
-add-i c = search needs
-
-loop-less : tie.Need-loop-less Inv-loop μ-loop
-loop-less c = search needs
 
 loop-again : tie.Need-loop-again Inv-loop μ-loop
 loop-again c =
@@ -64,18 +49,4 @@ returns c =
     sym (l .inv .1 ∙ rw (drop-of-length-le (a .positions .now) {i = l .i} (omega arith), drop-of-length-le (a .sizes .now) {i = l .i} (omega (arith, s .pre))) (and-true (l .below)))
 
 pub all-below-spec : {M : Type 1} → statement M
-all-below-spec =
-    tie.close
-    (tie.spec
-    Inv-loop
-    μ-loop
-    loop-holds
-    mul-below
-    shared-slice-read-below
-    mul-below-2
-    shared-slice-read-below-2
-    cast-below
-    add-i
-    loop-less
-    loop-again
-    returns)
+all-below-spec = tie.close (tie.spec Inv-loop μ-loop loop-holds (search needs) (search needs) (search needs) shared-slice-read-below-2 cast-below (search needs) (search needs) loop-again returns)

@@ -31,44 +31,17 @@ module _ (s : tie.Start) where
   allpasses-r : length (s .args .n .«allpass_r») ≡ 4
   allpasses-r = search needs
 
-slice-aggregate-lines-zero : tie.Need-slice-aggregate-lines-zero
-slice-aggregate-lines-zero c = search needs
-
 lines-zero-requires : tie.Need-lines-zero-requires
 lines-zero-requires c κs = let s = c .before .before .before .before .before .before in (omega (arith, combs-l s, s .pre .1), λ k. omega (arith, s .pre .0 .combs left k))
-
-slice-aggregate-lines-zero-2 : tie.Need-slice-aggregate-lines-zero-2
-slice-aggregate-lines-zero-2 c = search needs
 
 lines-zero-requires-2 : tie.Need-lines-zero-requires-2
 lines-zero-requires-2 c κs = let s = c .before .before .before .before .before .before .before .before .before in (omega (arith, allpasses-l s, s .pre .1), λ k. omega (arith, s .pre .0 .allpasses left k))
 
-slice-aggregate-lines-zero-3 : tie.Need-slice-aggregate-lines-zero-3
-slice-aggregate-lines-zero-3 c = search needs
-
 lines-zero-requires-3 : tie.Need-lines-zero-requires-3
 lines-zero-requires-3 c κs = let s = c .before .before .before .before .before .before .before .before .before .before in (omega (arith, combs-r s, s .pre .1), λ k. omega (arith, s .pre .0 .combs right k))
 
-slice-aggregate-lines-zero-4 : tie.Need-slice-aggregate-lines-zero-4
-slice-aggregate-lines-zero-4 c = search needs
-
 lines-zero-requires-4 : tie.Need-lines-zero-requires-4
 lines-zero-requires-4 c κs = let s = c .before .before .before .before .before .before .before .before .before .before .before in (omega (arith, allpasses-r s, s .pre .1), λ k. omega (arith, s .pre .0 .allpasses right k))
-
-mul-all-zero : tie.Need-mul-all-zero
-mul-all-zero c = search needs
-
-sub-all-zero : tie.Need-sub-all-zero
-sub-all-zero c = search needs
-
-part-all-zero-start : tie.Need-part-all-zero-start
-part-all-zero-start c = search needs
-
-part-all-zero-end : tie.Need-part-all-zero-end
-part-all-zero-end c = search needs
-
-all-zero-requires : tie.Need-all-zero-requires
-all-zero-requires c κs = search needs
 
 -- the tests so far: each is made only where those before it passed
 two : (c : tie.Joined1) → let s = c .before .before .before .before .before .before .before .before in c .if1 .if2 ≡ combs left s && allpasses left s
@@ -102,21 +75,4 @@ unfolding silence
 returns-2 c = rw (sym (four (c .before)) ∙ c .if4 .left) (c .if4 .left)
 
 pub all-silent-spec : {M : Type 1} → statement M
-all-silent-spec =
-    tie.close
-    (tie.spec
-    slice-aggregate-lines-zero
-    lines-zero-requires
-    slice-aggregate-lines-zero-2
-    lines-zero-requires-2
-    slice-aggregate-lines-zero-3
-    lines-zero-requires-3
-    slice-aggregate-lines-zero-4
-    lines-zero-requires-4
-    mul-all-zero
-    sub-all-zero
-    part-all-zero-start
-    part-all-zero-end
-    all-zero-requires
-    returns
-    returns-2)
+all-silent-spec = tie.close (tie.spec (λ c. search needs) lines-zero-requires (λ c. search needs) lines-zero-requires-2 (λ c. search needs) lines-zero-requires-3 (λ c. search needs) lines-zero-requires-4 (search needs) (search needs) (search needs) (search needs) (search needs) returns returns-2)

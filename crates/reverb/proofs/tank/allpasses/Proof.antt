@@ -44,57 +44,12 @@ module _ (q : tie.After-positions-r Inv-loop μ-loop) where
   fits : InLines 4 allpassMost lines
   fits = start .pre .0
 
-mul-o : tie.Need-mul-o Inv-loop μ-loop
-mul-o c = search needs
-
-add-o : tie.Need-add-o Inv-loop μ-loop
-add-o c = search needs
-
-mul-w : tie.Need-mul-w Inv-loop μ-loop
-mul-w c = search needs
-
-array-read-w : tie.Need-array-read-w Inv-loop μ-loop
-array-read-w c = search needs
-
-mul-allpass-at : tie.Need-mul-allpass-at Inv-loop μ-loop
-mul-allpass-at c = search needs
-
-element-copy-out-allpass-at : tie.Need-element-copy-out-allpass-at Inv-loop μ-loop
-element-copy-out-allpass-at c = search needs
-
-cast-allpass-at : tie.Need-cast-allpass-at Inv-loop μ-loop
-cast-allpass-at c = search needs
-
 allpass-at-requires : tie.Need-allpass-at-requires Inv-loop μ-loop
 allpass-at-requires c κs =
     let t = c .before .before in
     let l = t .before .loop in
     let q = t .before .before in
     allpass-asks (fits q) left (l .i) (length (l .mem)) (t .loop-test .taken) (omega (arith, l .inv .1, start q .pre .1))
-
-mul-pos-l : tie.Need-mul-pos-l Inv-loop μ-loop
-mul-pos-l c = search needs
-
-element-write-pos-l : tie.Need-element-write-pos-l Inv-loop μ-loop
-element-write-pos-l c = search needs
-
-mul-o-2 : tie.Need-mul-o-2 Inv-loop μ-loop
-mul-o-2 c = search needs
-
-add-o-2 : tie.Need-add-o-2 Inv-loop μ-loop
-add-o-2 c = search needs
-
-mul-w-2 : tie.Need-mul-w-2 Inv-loop μ-loop
-mul-w-2 c = search needs
-
-array-read-w-2 : tie.Need-array-read-w-2 Inv-loop μ-loop
-array-read-w-2 c = search needs
-
-mul-allpass-at-2 : tie.Need-mul-allpass-at-2 Inv-loop μ-loop
-mul-allpass-at-2 c = search needs
-
-element-copy-out-allpass-at-2 : tie.Need-element-copy-out-allpass-at-2 Inv-loop μ-loop
-element-copy-out-allpass-at-2 c = search needs
 
 cast-allpass-at-2 : tie.Need-cast-allpass-at-2 Inv-loop μ-loop
 cast-allpass-at-2 c =
@@ -107,18 +62,6 @@ allpass-at-requires-2 c κs =
     let l = t .before .loop in
     let q = t .before .before in
     allpass-asks (fits q) right (l .i) _ (t .loop-test .taken) (omega (arith, c .before .before .before .before .allpass-at .kept .0, l .inv .1, start q .pre .1))
-
-mul-pos-r : tie.Need-mul-pos-r Inv-loop μ-loop
-mul-pos-r c = search needs
-
-element-write-pos-r : tie.Need-element-write-pos-r Inv-loop μ-loop
-element-write-pos-r c = search needs
-
-add-i : tie.Need-add-i Inv-loop μ-loop
-add-i c = search needs
-
-loop-less : tie.Need-loop-less Inv-loop μ-loop
-loop-less c = search needs
 
 loop-again : tie.Need-loop-again Inv-loop μ-loop
 unfolding allpassWrite
@@ -174,34 +117,4 @@ returns c =
     }
 
 pub allpasses-spec : {M : Type 1} → statement M
-allpasses-spec =
-    tie.close
-    (tie.spec
-    Inv-loop
-    μ-loop
-    loop-holds
-    mul-o
-    add-o
-    mul-w
-    array-read-w
-    mul-allpass-at
-    element-copy-out-allpass-at
-    cast-allpass-at
-    allpass-at-requires
-    mul-pos-l
-    element-write-pos-l
-    mul-o-2
-    add-o-2
-    mul-w-2
-    array-read-w-2
-    mul-allpass-at-2
-    element-copy-out-allpass-at-2
-    cast-allpass-at-2
-    allpass-at-requires-2
-    mul-pos-r
-    element-write-pos-r
-    add-i
-    loop-less
-    loop-again
-    same-length
-    returns)
+allpasses-spec = tie.close (tie.spec Inv-loop μ-loop loop-holds (λ c. search needs) (λ c. search needs) (λ c. search needs) (λ c. search needs) (λ c. search needs) (λ c. search needs) (λ c. search needs) allpass-at-requires (λ c. search needs) (λ c. search needs) (λ c. search needs) (λ c. search needs) (λ c. search needs) (λ c. search needs) (λ c. search needs) (λ c. search needs) cast-allpass-at-2 allpass-at-requires-2 (λ c. search needs) (λ c. search needs) (λ c. search needs) (λ c. search needs) loop-again same-length returns)

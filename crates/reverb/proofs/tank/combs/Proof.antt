@@ -56,30 +56,6 @@ module _ (q : tie.After-positions-r Inv-loop μ-loop) where
   eight left = start .good .1 .1 .0 .1 .0 .1
   eight right = start .good .1 .1 .1 .0 .1 .0 .1
 
-mul-o : tie.Need-mul-o Inv-loop μ-loop
-mul-o c = search needs
-
-mul-w : tie.Need-mul-w Inv-loop μ-loop
-mul-w c = search needs
-
-array-read-w : tie.Need-array-read-w Inv-loop μ-loop
-array-read-w c = search needs
-
-mul-size : tie.Need-mul-size Inv-loop μ-loop
-mul-size c = search needs
-
-element-copy-out-size : tie.Need-element-copy-out-size Inv-loop μ-loop
-element-copy-out-size c = search needs
-
-cast-size : tie.Need-cast-size Inv-loop μ-loop
-cast-size c = search needs
-
-mul-comb-at : tie.Need-mul-comb-at Inv-loop μ-loop
-mul-comb-at c = search needs
-
-array-read-comb-at : tie.Need-array-read-comb-at Inv-loop μ-loop
-array-read-comb-at c = search needs
-
 comb-at-requires : tie.Need-comb-at-requires Inv-loop μ-loop
 comb-at-requires c κs =
     let t = c .before .before in
@@ -87,46 +63,10 @@ comb-at-requires c κs =
     let q = t .before .before in
     comb-asks (fits q) left (l .i) (length (l .mem)) (t .loop-test .taken) (omega (arith, l .inv .1, start q .pre .1))
 
-mul-pos-l : tie.Need-mul-pos-l Inv-loop μ-loop
-mul-pos-l c = search needs
-
-element-write-pos-l : tie.Need-element-write-pos-l Inv-loop μ-loop
-element-write-pos-l c = search needs
-
-mul-next-l : tie.Need-mul-next-l Inv-loop μ-loop
-mul-next-l c = search needs
-
-array-write-next-l : tie.Need-array-write-next-l Inv-loop μ-loop
-array-write-next-l c = search needs
-
-mul-o-2 : tie.Need-mul-o-2 Inv-loop μ-loop
-mul-o-2 c = search needs
-
-add-o : tie.Need-add-o Inv-loop μ-loop
-add-o c = search needs
-
-mul-w-2 : tie.Need-mul-w-2 Inv-loop μ-loop
-mul-w-2 c = search needs
-
-array-read-w-2 : tie.Need-array-read-w-2 Inv-loop μ-loop
-array-read-w-2 c = search needs
-
-mul-size-2 : tie.Need-mul-size-2 Inv-loop μ-loop
-mul-size-2 c = search needs
-
-element-copy-out-size-2 : tie.Need-element-copy-out-size-2 Inv-loop μ-loop
-element-copy-out-size-2 c = search needs
-
 cast-size-2 : tie.Need-cast-size-2 Inv-loop μ-loop
 cast-size-2 c =
     let t = c .before .before .before .before .before .before .before in
     omega (arith, comb-asks (fits (t .before .before)) right (t .before .loop .i) tankSize (t .loop-test .taken) (omega arith) .1 .0)
-
-mul-comb-at-2 : tie.Need-mul-comb-at-2 Inv-loop μ-loop
-mul-comb-at-2 c = search needs
-
-array-read-comb-at-2 : tie.Need-array-read-comb-at-2 Inv-loop μ-loop
-array-read-comb-at-2 c = search needs
 
 comb-at-requires-2 : tie.Need-comb-at-requires-2 Inv-loop μ-loop
 comb-at-requires-2 c κs =
@@ -134,24 +74,6 @@ comb-at-requires-2 c κs =
     let l = t .before .loop in
     let q = t .before .before in
     comb-asks (fits q) right (l .i) _ (t .loop-test .taken) (omega (arith, c .before .before .before .before .before .comb-at .kept .0, l .inv .1, start q .pre .1))
-
-mul-pos-r : tie.Need-mul-pos-r Inv-loop μ-loop
-mul-pos-r c = search needs
-
-element-write-pos-r : tie.Need-element-write-pos-r Inv-loop μ-loop
-element-write-pos-r c = search needs
-
-mul-next-r : tie.Need-mul-next-r Inv-loop μ-loop
-mul-next-r c = search needs
-
-array-write-next-r : tie.Need-array-write-next-r Inv-loop μ-loop
-array-write-next-r c = search needs
-
-add-i : tie.Need-add-i Inv-loop μ-loop
-add-i c = search needs
-
-loop-less : tie.Need-loop-less Inv-loop μ-loop
-loop-less c = search needs
 
 loop-again : tie.Need-loop-again Inv-loop μ-loop
 unfolding combWrite
@@ -213,41 +135,4 @@ returns c =
     }
 
 pub combs-spec : {M : Type 1} → statement M
-combs-spec =
-    tie.close
-    (tie.spec
-    Inv-loop
-    μ-loop
-    loop-holds
-    mul-o
-    mul-w
-    array-read-w
-    mul-size
-    element-copy-out-size
-    cast-size
-    mul-comb-at
-    array-read-comb-at
-    comb-at-requires
-    mul-pos-l
-    element-write-pos-l
-    mul-next-l
-    array-write-next-l
-    mul-o-2
-    add-o
-    mul-w-2
-    array-read-w-2
-    mul-size-2
-    element-copy-out-size-2
-    cast-size-2
-    mul-comb-at-2
-    array-read-comb-at-2
-    comb-at-requires-2
-    mul-pos-r
-    element-write-pos-r
-    mul-next-r
-    array-write-next-r
-    add-i
-    loop-less
-    loop-again
-    same-length
-    returns)
+combs-spec = tie.close (tie.spec Inv-loop μ-loop loop-holds (λ c. search needs) (λ c. search needs) (λ c. search needs) (λ c. search needs) (λ c. search needs) (λ c. search needs) (λ c. search needs) (λ c. search needs) comb-at-requires (λ c. search needs) (λ c. search needs) (λ c. search needs) (λ c. search needs) (λ c. search needs) (λ c. search needs) (λ c. search needs) (λ c. search needs) (λ c. search needs) (λ c. search needs) cast-size-2 (λ c. search needs) (λ c. search needs) comb-at-requires-2 (λ c. search needs) (λ c. search needs) (λ c. search needs) (λ c. search needs) (λ c. search needs) (λ c. search needs) loop-again same-length returns)

@@ -25,12 +25,6 @@ loop-holds c =
     let a = s .args in
     (omega arith, room-all (length (a .sizes .now)) (a .o) (a .apart) (length (a .mem .now)) (s .pre .0), refl)
 
-mul-end : tie.Need-mul-end Inv-loop μ-loop
-mul-end c = search needs
-
-shared-slice-read-end : tie.Need-shared-slice-read-end Inv-loop μ-loop
-shared-slice-read-end c = search needs
-
 -- the line of this turn
 module _ (c : tie.In-loop Inv-loop μ-loop) where
   abbrev start : tie.Start Inv-loop μ-loop
@@ -73,20 +67,8 @@ cast-end c = omega (arith, c .shared-slice-known3 .given (c .before .before .loo
 add-end : tie.Need-add-end Inv-loop μ-loop
 add-end c = omega (arith, line-end (c .before))
 
-mul-all-zero : tie.Need-mul-all-zero Inv-loop μ-loop
-mul-all-zero c = search needs
-
-sub-all-zero : tie.Need-sub-all-zero Inv-loop μ-loop
-sub-all-zero c = search needs
-
-part-all-zero-start : tie.Need-part-all-zero-start Inv-loop μ-loop
-part-all-zero-start c = search needs
-
 part-all-zero-end : tie.Need-part-all-zero-end Inv-loop μ-loop
 part-all-zero-end c = omega (arith, line-end (c .before))
-
-all-zero-requires : tie.Need-all-zero-requires Inv-loop μ-loop
-all-zero-requires c κs = search needs
 
 returns : tie.Need-returns Inv-loop μ-loop
 returns c =
@@ -98,9 +80,6 @@ add-at c = omega (arith, next-end (c .before .before .before .before))
 
 add-i : tie.Need-add-i Inv-loop μ-loop
 add-i c = omega arith
-
-loop-less : tie.Need-loop-less Inv-loop μ-loop
-loop-less c = search needs
 
 loop-again : tie.Need-loop-again Inv-loop μ-loop
 loop-again c =
@@ -115,24 +94,4 @@ returns-2 c =
     sym (l .inv .2 ∙ rw (drop-of-length-le (a .sizes .now) {i = l .i} (c .loop-test .left)))
 
 pub lines-zero-spec : {M : Type 1} → statement M
-lines-zero-spec =
-    tie.close
-    (tie.spec
-    Inv-loop
-    μ-loop
-    loop-holds
-    mul-end
-    shared-slice-read-end
-    cast-end
-    add-end
-    mul-all-zero
-    sub-all-zero
-    part-all-zero-start
-    part-all-zero-end
-    all-zero-requires
-    returns
-    add-at
-    add-i
-    loop-less
-    loop-again
-    returns-2)
+lines-zero-spec = tie.close (tie.spec Inv-loop μ-loop loop-holds (search needs) (search needs) cast-end add-end (search needs) (search needs) (search needs) part-all-zero-end (search needs) returns add-at add-i (search needs) loop-again returns-2)

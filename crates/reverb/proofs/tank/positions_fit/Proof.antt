@@ -22,26 +22,14 @@ module _ (s : tie.Start) where
   allpasses-r : length (s .args .n .«allpass_r») ≡ 4
   allpasses-r = search needs
 
-slice-aggregate-all-below : tie.Need-slice-aggregate-all-below
-slice-aggregate-all-below c = search needs
-
 all-below-requires : tie.Need-all-below-requires
 all-below-requires c κs = c .before .all-below-arg .given .0 ∙ sym (combs-l (c .before .before .before .before .before .before))
-
-slice-aggregate-all-below-2 : tie.Need-slice-aggregate-all-below-2
-slice-aggregate-all-below-2 c = search needs
 
 all-below-requires-2 : tie.Need-all-below-requires-2
 all-below-requires-2 c κs = c .before .all-below-arg2 .given .0 ∙ sym (allpasses-l (c .before .before .before .before .before .before .before .before .before))
 
-slice-aggregate-all-below-3 : tie.Need-slice-aggregate-all-below-3
-slice-aggregate-all-below-3 c = search needs
-
 all-below-requires-3 : tie.Need-all-below-requires-3
 all-below-requires-3 c κs = c .before .all-below-arg3 .given .0 ∙ sym (combs-r (c .before .before .before .before .before .before .before .before .before .before .before .before))
-
-slice-aggregate-all-below-4 : tie.Need-slice-aggregate-all-below-4
-slice-aggregate-all-below-4 c = search needs
 
 all-below-requires-4 : tie.Need-all-below-requires-4
 all-below-requires-4 c κs = c .before .all-below-arg4 .given .0 ∙ sym (allpasses-r (c .before .before .before .before .before .before .before .before .before .before .before .before .before .before .before))
@@ -56,15 +44,4 @@ returns c =
     && ((left .before .before .before .all-below .ensures i && left .all-below2 .ensures i) && (right .all-below3 .ensures i && c .all-below4 .ensures i))
 
 pub positions-fit-spec : {M : Type 1} → statement M
-positions-fit-spec =
-    tie.close
-    (tie.spec
-    slice-aggregate-all-below
-    all-below-requires
-    slice-aggregate-all-below-2
-    all-below-requires-2
-    slice-aggregate-all-below-3
-    all-below-requires-3
-    slice-aggregate-all-below-4
-    all-below-requires-4
-    returns)
+positions-fit-spec = tie.close (tie.spec (λ c. search needs) all-below-requires (λ c. search needs) all-below-requires-2 (λ c. search needs) all-below-requires-3 (λ c. search needs) all-below-requires-4 returns)

@@ -5,9 +5,6 @@ use borrow.Author.Needs.{needs}
 use Rattle.reverb.proofs.tunings.beside.Statement.{statement}
 use Rattle.reverb.proofs.tunings.beside.Tie as tie
 
-add-sum : tie.Need-add-sum
-add-sum c = search needs
-
 returns : tie.Need-returns
 unfolding beside
 returns c = omega arith
@@ -17,4 +14,4 @@ unfolding beside
 returns-2 c = omega arith
 
 pub beside-spec : {M : Type 1} → statement M
-beside-spec = tie.close (tie.spec add-sum returns returns-2)
+beside-spec = tie.close (tie.spec (search needs) returns returns-2)

@@ -41,12 +41,5 @@ returns-6 : tie.Need-returns-6
 unfolding ratio scaled spread beside inRange roundHalfAway mul div le ofBits ofInt toUnsigned Ieee.fits
 returns-6 c = let s = c .before .before .before .before .before .before in lengths-at 176400 refl (equal-whole (s .args .rate) 176400 (held s) (omega arith) (omega arith) (c .if6 .taken))
 
-scaled-lengths-requires : tie.Need-scaled-lengths-requires
-scaled-lengths-requires c κs = search needs
-
-returns-7 : tie.Need-returns-7
-returns-7 c = search needs
-
 pub lengths-at-spec : {M : Type 1} → statement M
-lengths-at-spec =
-    tie.close (tie.spec returns returns-2 returns-3 returns-4 returns-5 returns-6 scaled-lengths-requires returns-7)
+lengths-at-spec = tie.close (tie.spec returns returns-2 returns-3 returns-4 returns-5 returns-6 (search needs) (λ c. search needs))

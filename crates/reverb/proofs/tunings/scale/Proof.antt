@@ -22,12 +22,6 @@ abbrev μ-loop : tie.MeasureT-loop
 loop-holds : tie.Need-loop-holds Inv-loop μ-loop
 loop-holds c = (omega arith, refl, refl, tabled-none _ _, tabled-none _ _)
 
-mul-scaled : tie.Need-mul-scaled Inv-loop μ-loop
-mul-scaled c = search needs
-
-shared-slice-read-scaled : tie.Need-shared-slice-read-scaled Inv-loop μ-loop
-shared-slice-read-scaled c = search needs
-
 scaled-requires : tie.Need-scaled-requires Inv-loop μ-loop
 scaled-requires c κs =
     let s = c .before .before .before .before .before .before in
@@ -37,9 +31,6 @@ scaled-requires c κs =
 cast-left : tie.Need-cast-left Inv-loop μ-loop
 unfolding scaled
 cast-left c = omega (arith, c .scaled .ensures, c .before .before .before .before .before .before .before .pre .1 .1 .1 .0)
-
-mul-left : tie.Need-mul-left Inv-loop μ-loop
-mul-left c = search needs
 
 slice-write-left : tie.Need-slice-write-left Inv-loop μ-loop
 slice-write-left c = omega (arith, c .before .before .before .loop .inv .1, c .before .before .before .before .before .before .before .pre .1 .1 .1 .1 .0)
@@ -54,17 +45,8 @@ cast-right : tie.Need-cast-right Inv-loop μ-loop
 unfolding beside
 cast-right c = omega (arith, c .beside .ensures, c .before .before .before .before .before .before .before .before .pre .1 .1 .1 .0)
 
-mul-right : tie.Need-mul-right Inv-loop μ-loop
-mul-right c = search needs
-
 slice-write-right : tie.Need-slice-write-right Inv-loop μ-loop
 slice-write-right c = omega (arith, c .before .before .before .before .loop .inv .2, c .before .before .before .before .before .before .before .before .pre .1 .1 .1 .1 .1)
-
-add-i : tie.Need-add-i Inv-loop μ-loop
-add-i c = search needs
-
-loop-less : tie.Need-loop-less Inv-loop μ-loop
-loop-less c = search needs
 
 loop-again : tie.Need-loop-again Inv-loop μ-loop
 loop-again c =
@@ -97,25 +79,4 @@ returns c =
     )
 
 pub scale-spec : {M : Type 1} → statement M
-scale-spec =
-    tie.close
-    (tie.spec
-    Inv-loop
-    μ-loop
-    loop-holds
-    mul-scaled
-    shared-slice-read-scaled
-    scaled-requires
-    cast-left
-    mul-left
-    slice-write-left
-    beside-requires
-    cast-right
-    mul-right
-    slice-write-right
-    add-i
-    loop-less
-    loop-again
-    same-length
-    same-length-2
-    returns)
+scale-spec = tie.close (tie.spec Inv-loop μ-loop loop-holds (search needs) (search needs) scaled-requires cast-left (search needs) slice-write-left beside-requires cast-right (search needs) slice-write-right (search needs) (search needs) loop-again same-length same-length-2 returns)

@@ -6,9 +6,6 @@ use borrow.Author.Needs.{needs}
 use Rattle.reverb.proofs.tunings.scaled.Statement.{statement}
 use Rattle.reverb.proofs.tunings.scaled.Tie as tie
 
-int-to-float-whole-part-small : tie.Need-int-to-float-whole-part-small
-int-to-float-whole-part-small c = search needs
-
 whole-part-small-requires : tie.Need-whole-part-small-requires
 whole-part-small-requires c κs = let s = c .before in product-small (s .args .ratio) (s .args .base) (s .pre .0) (s .pre .1 .0) (s .pre .1 .1)
 
@@ -24,5 +21,4 @@ unfolding scaled
 returns-2 c = omega (arith, c .before .whole-part-small .ensures)
 
 pub scaled-spec : {M : Type 1} → statement M
-scaled-spec =
-    tie.close (tie.spec int-to-float-whole-part-small whole-part-small-requires cast-n returns returns-2)
+scaled-spec = tie.close (tie.spec (search needs) whole-part-small-requires cast-n returns returns-2)

@@ -13,9 +13,6 @@ use borrow.Author.Needs.{needs}
 use Rattle.reverb.proofs.tunings.scaled_lengths.Statement.{statement}
 use Rattle.reverb.proofs.tunings.scaled_lengths.Tie as tie
 
-rate-fits-requires : tie.Need-rate-fits-requires
-rate-fits-requires c κs = search needs
-
 returns : tie.Need-returns
 returns c = rw (sym (c .before .rate-fits .ensures) ∙ not-true _ (c .if1 .taken))
 
@@ -23,32 +20,11 @@ returns c = rw (sym (c .before .rate-fits .ensures) ∙ not-true _ (c .if1 .take
 rate-passed : (c : tie.Else1) → rateFits (c .before .before .args .rate) ≡ true
 rate-passed c = sym (c .before .rate-fits .ensures) ∙ not-false _ (c .if1 .left)
 
-stereo-spread-requires : tie.Need-stereo-spread-requires
-stereo-spread-requires c κs = search needs
-
-slice-aggregate-scale : tie.Need-slice-aggregate-scale
-slice-aggregate-scale c = search needs
-
-slice-aggregate-scale-2 : tie.Need-slice-aggregate-scale-2
-slice-aggregate-scale-2 c = search needs
-
-slice-aggregate-scale-3 : tie.Need-slice-aggregate-scale-3
-slice-aggregate-scale-3 c = search needs
-
 scale-requires : tie.Need-scale-requires
 unfolding tuned ratio ofBits ofInt
 scale-requires c κs =
     let p = c .before .before .before .before in
     (refl, (ratio-fits (p .before .before .args .rate) (rate-passed p), (omega (arith, c .before .before .before .stereo-spread .ensures), (omega arith, (refl, refl)))))
-
-slice-aggregate-scale-4 : tie.Need-slice-aggregate-scale-4
-slice-aggregate-scale-4 c = search needs
-
-slice-aggregate-scale-5 : tie.Need-slice-aggregate-scale-5
-slice-aggregate-scale-5 c = search needs
-
-slice-aggregate-scale-6 : tie.Need-slice-aggregate-scale-6
-slice-aggregate-scale-6 c = search needs
 
 scale-requires-2 : tie.Need-scale-requires-2
 unfolding tuned ratio ofBits ofInt
@@ -74,18 +50,4 @@ returns-2 c =
     })
 
 pub scaled-lengths-spec : {M : Type 1} → statement M
-scaled-lengths-spec =
-    tie.close
-    (tie.spec
-    rate-fits-requires
-    returns
-    stereo-spread-requires
-    slice-aggregate-scale
-    slice-aggregate-scale-2
-    slice-aggregate-scale-3
-    scale-requires
-    slice-aggregate-scale-4
-    slice-aggregate-scale-5
-    slice-aggregate-scale-6
-    scale-requires-2
-    returns-2)
+scaled-lengths-spec = tie.close (tie.spec (search needs) returns (search needs) (search needs) (search needs) (search needs) scale-requires (search needs) (search needs) (search needs) scale-requires-2 returns-2)
