@@ -14,7 +14,7 @@ use Rattle.effect.specs.Demand1.{Demand1}
 use Rattle.effect.proofs.Table.{none-1}
 use Rattle.effect.proofs.Laws.{Laws, Within}
 use Rattle.effect.proofs.Demand1.{demand-1}
-use Rattle.reverb.specs.declared.Controls.{Controls}
+use Rattle.reverb.specs.declared.tick.Controls.{Controls}
 use Rattle.reverb.specs.declared.Reverb.{Reverb}
 use Rattle.reverb.specs.Tunings.{Side, left, right, predelaySize, combMost, allpassMost, combTunings, allpassTunings, tuned}
 use Rattle.reverb.specs.Tank.{combStart, allpassStart, tankSize, placeOf, moved, bySides, combsHeld, combWrite, allpassesHeld, allpassWrite, InUse, of-comb, of-allpass, of-predelay}

@@ -17,7 +17,7 @@ use Rattle.effect.proofs.Memory.{laid-append}
 use Rattle.reverb.specs.declared.tunings.Lengths.{Lengths}
 use Rattle.reverb.specs.declared.tank.Sides.{Sides}
 use Rattle.reverb.specs.declared.tank.Summed.{Summed}
-use Rattle.reverb.specs.declared.Controls.{Controls}
+use Rattle.reverb.specs.declared.tick.Controls.{Controls}
 use Rattle.reverb.specs.declared.Reverb.{Reverb}
 use Rattle.reverb.specs.Tunings.{Side, left, right, sided, predelaySize, lengthsAt}
 use Rattle.reverb.specs.Tank.{Lines, combLines, allpassLines, combStart, allpassStart, predelayStart, placeOf, held, moved, bySides, combsHeld, sumOf, combStored, combWrite, CombsStep, allpassesHeld, passedOn, allpassWrite, AllpassesStep}

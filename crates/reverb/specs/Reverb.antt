@@ -12,7 +12,7 @@ use Rattle.port.specs.Answer.{Reply, played}
 use Rattle.common.specs.Signal.{sanitized, blended}
 use Rattle.common.specs.Line.{zeros, nextPlace, table}
 use Rattle.effect.specs.Effect.{Effect, Write, laid}
-use Rattle.reverb.specs.declared.Controls.{Controls}
+use Rattle.reverb.specs.declared.tick.Controls.{Controls}
 use Rattle.reverb.specs.declared.Reverb.{Reverb}
 use Rattle.reverb.specs.Tunings.{Side, left, right, sided, predelaySize, lengthsAt}
 use Rattle.reverb.specs.Tank.{Lines, combLines, allpassLines, predelayStart, tankSize, positionsFit, moved, bySides, combsHeld, sumOf, combStored, combWrite, allpassesHeld, passedOn, allpassWrite, delaySamples, delayed, InUse, silence}

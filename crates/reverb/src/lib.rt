@@ -1,20 +1,18 @@
 // The reverb: a predelay, and on each side eight combs in parallel and four all-passes in series, in one lent tank. The state goes in and out by value.
 ghost use mathlib.Core.Path.{_≡_};
-ghost use mathlib.Core.Bool.{true, cond};
-ghost use Prim.Native.Nat.{_≤_};
-ghost use lib.ListN as ListN;
-ghost use Rattle.float64.specs.Number.{isNumber, rateFits};
-ghost use Rattle.port.specs.Port.{valueOr};
+ghost use mathlib.Core.Bool.{cond};
+ghost use Rattle.float64.specs.Number.{rateFits};
 ghost use Rattle.port.specs.Answer.{numberOf, outcomeReply, answerReply, silenceReply};
 ghost use Rattle.effect.specs.Run.{tick, retune, reset, ask, ifNone, startNumber, numberIn};
 ghost use Rattle.effect.specs.Contract.{Does, Starts};
 ghost use Rattle.effect.specs.Needed.{placesNeeded};
-ghost use Rattle.reverb.specs.Tunings.{lengthsAt, lengthsFor};
+ghost use Rattle.reverb.specs.Tunings.{lengthsFor};
 ghost use Rattle.reverb.specs.Tank.{tankSize};
-ghost use Rattle.reverb.specs.Reverb.{reverb, tickOf, controlsOf, stateOf, fresh, stateFits, Advances};
+ghost use Rattle.reverb.specs.Reverb.{reverb, tickOf, stateOf, fresh, stateFits};
 
 mod filters;
 mod tank;
+mod tick;
 mod tunings;
 
 use crate::tunings::Lengths;
@@ -46,22 +44,6 @@ pub struct Cleared {
 pub struct Ticked {
     pub state: Reverb,
     pub answer: Answer,
-}
-
-// The numbers that a tick takes from its ports.
-pub struct Controls {
-    pub audio: f64,
-    pub size: f64,
-    pub damping: f64,
-    pub mix: f64,
-    pub predelay: f64,
-}
-
-// A port's number, or the default.
-fn number_or(port: Port, default: f64) -> f64
-    ensures { λ r. ⌜ r ≡ valueOr port default ⌝ }
-{
-    if let Port::Set(x) = port { x } else { default }
 }
 
 impl Reverb {
@@ -121,19 +103,13 @@ impl Reverb {
     fn fresh(rate: f64) -> Reverb
         ensures { λ r. ⌜ r ≡ fresh rate ⌝ }
     {
-        let comb_pos_l: [u64; 8] = [0; 8];
-        let comb_pos_r: [u64; 8] = [0; 8];
-        let comb_filter_state_l: [f64; 8] = [0.0; 8];
-        let comb_filter_state_r: [f64; 8] = [0.0; 8];
-        let allpass_pos_l: [u64; 4] = [0; 4];
-        let allpass_pos_r: [u64; 4] = [0; 4];
         Reverb {
-            comb_pos_l,
-            comb_pos_r,
-            comb_filter_state_l,
-            comb_filter_state_r,
-            allpass_pos_l,
-            allpass_pos_r,
+            comb_pos_l: [0; 8],
+            comb_pos_r: [0; 8],
+            comb_filter_state_l: [0.0; 8],
+            comb_filter_state_r: [0.0; 8],
+            allpass_pos_l: [0; 4],
+            allpass_pos_r: [0; 4],
             predelay_pos: 0,
             sample_rate: rate,
         }
@@ -232,83 +208,13 @@ impl Reverb {
         }
     }
 
-    // The number of each port, or its default.
-    fn controls_of(audio: Port, size: Port, damping: Port, mix: Port, predelay: Port) -> Controls
-        ensures { λ r. ⌜ r ≡ controlsOf (tickOf audio size damping mix predelay) ⌝ }
-    {
-        Controls {
-            audio: number_or(audio, 0.0),
-            size: number_or(size, 0.5),
-            damping: number_or(damping, 0.5),
-            mix: number_or(mix, 0.5),
-            predelay: number_or(predelay, 0.0),
-        }
-    }
-
-    // An accepted tick. The predelay writes before it reads, every other line reads first.
-    fn advance(
-        comb_pos_l: &mut [u64; 8],
-        comb_pos_r: &mut [u64; 8],
-        stores_l: &mut [f64; 8],
-        stores_r: &mut [f64; 8],
-        allpass_pos_l: &mut [u64; 4],
-        allpass_pos_r: &mut [u64; 4],
-        predelay_pos: &mut u64,
-        rate: f64,
-        n: Lengths,
-        mem: &mut [f64],
-        c: Controls,
-    ) -> Answer
-        requires { ⌜ n ≡ lengthsAt rate ⌝ }
-        requires { ⌜ stateFits (stateOf (now «comb_pos_l») (now «comb_pos_r») (now «stores_l») (now «stores_r»)
-            (now «allpass_pos_l») (now «allpass_pos_r») (now «predelay_pos») rate) ≡ true ⌝ }
-        requires { ⌜ tankSize ≤ ListN.length (now mem) ⌝ }
-        requires { ⌜ isNumber (c .predelay) ≡ true ⌝ }
-        ensures { λ r. ⌜ Advances c (stateOf (now («comb_pos_l» .entry)) (now («comb_pos_r» .entry))
-            (now («stores_l» .entry)) (now («stores_r» .entry)) (now («allpass_pos_l» .entry))
-            (now («allpass_pos_r» .entry)) (now («predelay_pos» .entry)) rate) (now (mem .entry))
-            (stateOf (now («comb_pos_l» .exit)) (now («comb_pos_r» .exit)) (now («stores_l» .exit)) (now («stores_r» .exit))
-            (now («allpass_pos_l» .exit)) (now («allpass_pos_r» .exit)) (now («predelay_pos» .exit)) rate) (now (mem .exit))
-            (answerReply r) ⌝ }
-    {
-        let input = common::sanitize_audio(c.audio);
-        let feedback = 0.28 + float64::clamp(c.size, 0.0, 1.0) * 0.7;
-        let damping = float64::clamp(c.damping, 0.0, 1.0) * 0.4;
-        let wet = float64::clamp(c.mix, 0.0, 1.0);
-        let samples = filters::predelay_samples(float64::clamp(c.predelay, 0.0, 1.0), rate);
-        let w = *predelay_pos;
-        let delayed = filters::predelay(mem, w, samples, input);
-        *predelay_pos = common::next_place(Reverb::MAX_PREDELAY_SIZE as u64, w);
-        let sums = tank::combs(
-            comb_pos_l,
-            comb_pos_r,
-            *stores_l,
-            *stores_r,
-            n,
-            mem,
-            delayed,
-            feedback,
-            damping,
-        );
-        let next_l = sums.stores_l;
-        let next_r = sums.stores_r;
-        *stores_l = next_l;
-        *stores_r = next_r;
-        let into_l = sums.left * 0.125;
-        let into_r = sums.right * 0.125;
-        let passed = tank::allpasses(allpass_pos_l, allpass_pos_r, n, mem, into_l, into_r);
-        let left = common::blend(input, passed.left, wet);
-        let right = common::blend(input, passed.right, wet);
-        Answer::Two(left, right)
-    }
-
     // One sample, on a state that is lent in its parts: it is moved where it lies, and left as it was by a tick that is refused. A state by value would be
     // copied whole, in and out, at each tick.
     pub fn tick_in_place(
         comb_pos_l: &mut [u64; 8],
         comb_pos_r: &mut [u64; 8],
-        stores_l: &mut [f64; 8],
-        stores_r: &mut [f64; 8],
+        comb_filter_state_l: &mut [f64; 8],
+        comb_filter_state_r: &mut [f64; 8],
         allpass_pos_l: &mut [u64; 4],
         allpass_pos_r: &mut [u64; 4],
         predelay_pos: &mut u64,
@@ -321,9 +227,9 @@ impl Reverb {
         predelay: Port,
     ) -> Answer
         ensures { λ r. ⌜ Does reverb (tick (tickOf audio size damping mix predelay))
-            (stateOf (now («comb_pos_l» .entry)) (now («comb_pos_r» .entry)) (now («stores_l» .entry)) (now («stores_r» .entry))
+            (stateOf (now («comb_pos_l» .entry)) (now («comb_pos_r» .entry)) (now («comb_filter_state_l» .entry)) (now («comb_filter_state_r» .entry))
             (now («allpass_pos_l» .entry)) (now («allpass_pos_r» .entry)) (now («predelay_pos» .entry)) rate) (now (mem .entry))
-            (stateOf (now («comb_pos_l» .exit)) (now («comb_pos_r» .exit)) (now («stores_l» .exit)) (now («stores_r» .exit))
+            (stateOf (now («comb_pos_l» .exit)) (now («comb_pos_r» .exit)) (now («comb_filter_state_l» .exit)) (now («comb_filter_state_r» .exit))
             (now («allpass_pos_l» .exit)) (now («allpass_pos_r» .exit)) (now («predelay_pos» .exit)) rate) (now (mem .exit))
             (answerReply r) ⌝ }
     {
@@ -343,7 +249,7 @@ impl Reverb {
         if let Outcome::Refused(cause) = memory {
             return Answer::Refused(cause);
         }
-        let c = Reverb::controls_of(audio, size, damping, mix, predelay);
+        let c = tick::controls_of(audio, size, damping, mix, predelay);
         let causes = common::tick_causes(
             float64::is_nan(c.size)
                 | (float64::is_nan(c.damping)
@@ -353,11 +259,11 @@ impl Reverb {
         if let Outcome::Refused(cause) = causes {
             return Answer::Refused(cause);
         }
-        Reverb::advance(
+        tick::advance(
             comb_pos_l,
             comb_pos_r,
-            stores_l,
-            stores_r,
+            comb_filter_state_l,
+            comb_filter_state_r,
             allpass_pos_l,
             allpass_pos_r,
             predelay_pos,
@@ -383,16 +289,16 @@ impl Reverb {
     {
         let mut comb_pos_l = self.comb_pos_l;
         let mut comb_pos_r = self.comb_pos_r;
-        let mut stores_l = self.comb_filter_state_l;
-        let mut stores_r = self.comb_filter_state_r;
+        let mut comb_filter_state_l = self.comb_filter_state_l;
+        let mut comb_filter_state_r = self.comb_filter_state_r;
         let mut allpass_pos_l = self.allpass_pos_l;
         let mut allpass_pos_r = self.allpass_pos_r;
         let mut predelay_pos = self.predelay_pos;
         let answer = Reverb::tick_in_place(
             &mut comb_pos_l,
             &mut comb_pos_r,
-            &mut stores_l,
-            &mut stores_r,
+            &mut comb_filter_state_l,
+            &mut comb_filter_state_r,
             &mut allpass_pos_l,
             &mut allpass_pos_r,
             &mut predelay_pos,
@@ -408,8 +314,8 @@ impl Reverb {
             state: Reverb {
                 comb_pos_l,
                 comb_pos_r,
-                comb_filter_state_l: stores_l,
-                comb_filter_state_r: stores_r,
+                comb_filter_state_l,
+                comb_filter_state_r,
                 allpass_pos_l,
                 allpass_pos_r,
                 predelay_pos,

@@ -58,7 +58,8 @@ pub fn positions_fit(
     (predelay < Reverb::MAX_PREDELAY_SIZE as u64) & (left & right)
 }
 
-// The eight combs of each side, with the same input: they move the lent positions, and answer their sums and next stores.
+// The eight combs of each side, with the same input: they move the lent positions, and answer their sums and next stores. The
+// stores come by value, since the prover knows how long an array is that comes so, and not one that is lent; it costs no instruction.
 pub fn combs(
     pos_l: &mut [u64; 8],
     pos_r: &mut [u64; 8],

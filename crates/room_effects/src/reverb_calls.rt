@@ -13,13 +13,15 @@ fn put_reverb(
     state: Reverb,
     comb_pos_l: &mut [u64; 8],
     comb_pos_r: &mut [u64; 8],
-    stores_l: &mut [f64; 8],
-    stores_r: &mut [f64; 8],
+    comb_filter_state_l: &mut [f64; 8],
+    comb_filter_state_r: &mut [f64; 8],
     allpass_pos_l: &mut [u64; 4],
     allpass_pos_r: &mut [u64; 4],
     predelay_pos: &mut u64,
 )
-    ensures { λ _. ⌜ reverbOf (now («comb_pos_l» .exit)) (now («comb_pos_r» .exit)) (now («stores_l» .exit)) (now («stores_r» .exit)) (now («allpass_pos_l» .exit)) (now («allpass_pos_r» .exit)) (now («predelay_pos» .exit)) (state .«sample_rate») ≡ state ⌝ }
+    ensures { λ _. ⌜ reverbOf (now («comb_pos_l» .exit)) (now («comb_pos_r» .exit)) (now («comb_filter_state_l» .exit))
+        (now («comb_filter_state_r» .exit)) (now («allpass_pos_l» .exit)) (now («allpass_pos_r» .exit))
+        (now («predelay_pos» .exit)) (state .«sample_rate») ≡ state ⌝ }
 {
     let combs_l = state.comb_pos_l;
     let combs_r = state.comb_pos_r;
@@ -29,8 +31,8 @@ fn put_reverb(
     let passes_r = state.allpass_pos_r;
     *comb_pos_l = combs_l;
     *comb_pos_r = combs_r;
-    *stores_l = damping_l;
-    *stores_r = damping_r;
+    *comb_filter_state_l = damping_l;
+    *comb_filter_state_r = damping_r;
     *allpass_pos_l = passes_l;
     *allpass_pos_r = passes_r;
     *predelay_pos = state.predelay_pos;
@@ -39,61 +41,70 @@ fn put_reverb(
 // Start of a reverb. A refused one writes the state of zeros too, and leaves the memory as it was.
 #[no_mangle]
 pub extern "C" fn room_raw_reverb_start(
-    sample_rate: f64,
+    new_sample_rate: f64,
     memory: &mut [f64],
     comb_pos_l: &mut [u64; 8],
     comb_pos_r: &mut [u64; 8],
-    stores_l: &mut [f64; 8],
-    stores_r: &mut [f64; 8],
+    comb_filter_state_l: &mut [f64; 8],
+    comb_filter_state_r: &mut [f64; 8],
     allpass_pos_l: &mut [u64; 4],
     allpass_pos_r: &mut [u64; 4],
     predelay_pos: &mut u64,
-    rate: &mut f64,
+    sample_rate: &mut f64,
 ) -> u32
-    ensures { λ r. ⌜ StartReturns reverb «sample_rate» (now (memory .entry)) (reverbUnit (now («comb_pos_l» .exit)) (now («comb_pos_r» .exit)) (now («stores_l» .exit)) (now («stores_r» .exit)) (now («allpass_pos_l» .exit)) (now («allpass_pos_r» .exit)) (now («predelay_pos» .exit)) (now (rate .exit)) (now (memory .exit))) r ⌝ }
+    ensures { λ r. ⌜ StartReturns reverb «new_sample_rate» (now (memory .entry))
+        (reverbUnit (now («comb_pos_l» .exit)) (now («comb_pos_r» .exit)) (now («comb_filter_state_l» .exit))
+        (now («comb_filter_state_r» .exit)) (now («allpass_pos_l» .exit)) (now («allpass_pos_r» .exit))
+        (now («predelay_pos» .exit)) (now («sample_rate» .exit)) (now (memory .exit))) r ⌝ }
 {
-    let started = Reverb::new(sample_rate, memory);
+    let started = Reverb::new(new_sample_rate, memory);
     put_reverb(
         started.state,
         comb_pos_l,
         comb_pos_r,
-        stores_l,
-        stores_r,
+        comb_filter_state_l,
+        comb_filter_state_r,
         allpass_pos_l,
         allpass_pos_r,
         predelay_pos,
     );
-    *rate = started.state.sample_rate;
+    *sample_rate = started.state.sample_rate;
     let outcome = started.outcome;
     outcome.number()
 }
 
 #[no_mangle]
 pub extern "C" fn room_raw_reverb_retune(
-    sample_rate: f64,
+    new_sample_rate: f64,
     memory: &mut [f64],
     comb_pos_l: &mut [u64; 8],
     comb_pos_r: &mut [u64; 8],
-    stores_l: &mut [f64; 8],
-    stores_r: &mut [f64; 8],
+    comb_filter_state_l: &mut [f64; 8],
+    comb_filter_state_r: &mut [f64; 8],
     allpass_pos_l: &mut [u64; 4],
     allpass_pos_r: &mut [u64; 4],
     predelay_pos: &mut u64,
-    rate: &mut f64,
+    sample_rate: &mut f64,
 ) -> u32
-    ensures { λ r. ⌜ CallReturns reverb (retune «sample_rate») (reverbUnit (now («comb_pos_l» .entry)) (now («comb_pos_r» .entry)) (now («stores_l» .entry)) (now («stores_r» .entry)) (now («allpass_pos_l» .entry)) (now («allpass_pos_r» .entry)) (now («predelay_pos» .entry)) (now (rate .entry)) (now (memory .entry))) (reverbUnit (now («comb_pos_l» .exit)) (now («comb_pos_r» .exit)) (now («stores_l» .exit)) (now («stores_r» .exit)) (now («allpass_pos_l» .exit)) (now («allpass_pos_r» .exit)) (now («predelay_pos» .exit)) (now (rate .exit)) (now (memory .exit))) r ⌝ }
+    ensures { λ r. ⌜ CallReturns reverb (retune «new_sample_rate»)
+        (reverbUnit (now («comb_pos_l» .entry)) (now («comb_pos_r» .entry)) (now («comb_filter_state_l» .entry))
+        (now («comb_filter_state_r» .entry)) (now («allpass_pos_l» .entry)) (now («allpass_pos_r» .entry))
+        (now («predelay_pos» .entry)) (now («sample_rate» .entry)) (now (memory .entry)))
+        (reverbUnit (now («comb_pos_l» .exit)) (now («comb_pos_r» .exit)) (now («comb_filter_state_l» .exit))
+        (now («comb_filter_state_r» .exit)) (now («allpass_pos_l» .exit)) (now («allpass_pos_r» .exit))
+        (now («predelay_pos» .exit)) (now («sample_rate» .exit)) (now (memory .exit))) r ⌝ }
 {
     let state = Reverb {
         comb_pos_l: *comb_pos_l,
         comb_pos_r: *comb_pos_r,
-        comb_filter_state_l: *stores_l,
-        comb_filter_state_r: *stores_r,
+        comb_filter_state_l: *comb_filter_state_l,
+        comb_filter_state_r: *comb_filter_state_r,
         allpass_pos_l: *allpass_pos_l,
         allpass_pos_r: *allpass_pos_r,
         predelay_pos: *predelay_pos,
-        sample_rate: *rate,
+        sample_rate: *sample_rate,
     };
-    let cleared = state.set_sample_rate(sample_rate, memory);
+    let cleared = state.set_sample_rate(new_sample_rate, memory);
     let outcome = cleared.outcome;
     let number = outcome.number();
     if number != 0 {
@@ -103,13 +114,13 @@ pub extern "C" fn room_raw_reverb_retune(
         cleared.state,
         comb_pos_l,
         comb_pos_r,
-        stores_l,
-        stores_r,
+        comb_filter_state_l,
+        comb_filter_state_r,
         allpass_pos_l,
         allpass_pos_r,
         predelay_pos,
     );
-    *rate = cleared.state.sample_rate;
+    *sample_rate = cleared.state.sample_rate;
     0
 }
 
@@ -118,24 +129,30 @@ pub extern "C" fn room_raw_reverb_reset(
     memory: &mut [f64],
     comb_pos_l: &mut [u64; 8],
     comb_pos_r: &mut [u64; 8],
-    stores_l: &mut [f64; 8],
-    stores_r: &mut [f64; 8],
+    comb_filter_state_l: &mut [f64; 8],
+    comb_filter_state_r: &mut [f64; 8],
     allpass_pos_l: &mut [u64; 4],
     allpass_pos_r: &mut [u64; 4],
     predelay_pos: &mut u64,
-    rate: f64,
+    sample_rate: f64,
 ) -> u32
-    ensures { λ r. ⌜ CallReturns reverb reset (reverbUnit (now («comb_pos_l» .entry)) (now («comb_pos_r» .entry)) (now («stores_l» .entry)) (now («stores_r» .entry)) (now («allpass_pos_l» .entry)) (now («allpass_pos_r» .entry)) (now («predelay_pos» .entry)) rate (now (memory .entry))) (reverbUnit (now («comb_pos_l» .exit)) (now («comb_pos_r» .exit)) (now («stores_l» .exit)) (now («stores_r» .exit)) (now («allpass_pos_l» .exit)) (now («allpass_pos_r» .exit)) (now («predelay_pos» .exit)) rate (now (memory .exit))) r ⌝ }
+    ensures { λ r. ⌜ CallReturns reverb reset
+        (reverbUnit (now («comb_pos_l» .entry)) (now («comb_pos_r» .entry)) (now («comb_filter_state_l» .entry))
+        (now («comb_filter_state_r» .entry)) (now («allpass_pos_l» .entry)) (now («allpass_pos_r» .entry))
+        (now («predelay_pos» .entry)) «sample_rate» (now (memory .entry)))
+        (reverbUnit (now («comb_pos_l» .exit)) (now («comb_pos_r» .exit)) (now («comb_filter_state_l» .exit))
+        (now («comb_filter_state_r» .exit)) (now («allpass_pos_l» .exit)) (now («allpass_pos_r» .exit))
+        (now («predelay_pos» .exit)) «sample_rate» (now (memory .exit))) r ⌝ }
 {
     let state = Reverb {
         comb_pos_l: *comb_pos_l,
         comb_pos_r: *comb_pos_r,
-        comb_filter_state_l: *stores_l,
-        comb_filter_state_r: *stores_r,
+        comb_filter_state_l: *comb_filter_state_l,
+        comb_filter_state_r: *comb_filter_state_r,
         allpass_pos_l: *allpass_pos_l,
         allpass_pos_r: *allpass_pos_r,
         predelay_pos: *predelay_pos,
-        sample_rate: rate,
+        sample_rate,
     };
     let cleared = state.reset(memory);
     let outcome = cleared.outcome;
@@ -147,8 +164,8 @@ pub extern "C" fn room_raw_reverb_reset(
         cleared.state,
         comb_pos_l,
         comb_pos_r,
-        stores_l,
-        stores_r,
+        comb_filter_state_l,
+        comb_filter_state_r,
         allpass_pos_l,
         allpass_pos_r,
         predelay_pos,
@@ -162,12 +179,12 @@ pub extern "C" fn room_raw_reverb_reset(
 pub extern "C" fn room_raw_reverb_tick(
     comb_pos_l: &mut [u64; 8],
     comb_pos_r: &mut [u64; 8],
-    stores_l: &mut [f64; 8],
-    stores_r: &mut [f64; 8],
+    comb_filter_state_l: &mut [f64; 8],
+    comb_filter_state_r: &mut [f64; 8],
     allpass_pos_l: &mut [u64; 4],
     allpass_pos_r: &mut [u64; 4],
     predelay_pos: &mut u64,
-    rate: f64,
+    sample_rate: f64,
     memory: &mut [f64],
     set: u32,
     audio: f64,
@@ -177,17 +194,24 @@ pub extern "C" fn room_raw_reverb_tick(
     predelay: f64,
     out: &mut [f64; 2],
 ) -> u32
-    ensures { λ r. ⌜ TickReturns reverb 2 (tickOf (portAt set 1 audio) (portAt set 2 size) (portAt set 4 damping) (portAt set 8 mix) (portAt set 16 predelay)) (reverbUnit (now («comb_pos_l» .entry)) (now («comb_pos_r» .entry)) (now («stores_l» .entry)) (now («stores_r» .entry)) (now («allpass_pos_l» .entry)) (now («allpass_pos_r» .entry)) (now («predelay_pos» .entry)) rate (now (memory .entry))) (reverbUnit (now («comb_pos_l» .exit)) (now («comb_pos_r» .exit)) (now («stores_l» .exit)) (now («stores_r» .exit)) (now («allpass_pos_l» .exit)) (now («allpass_pos_r» .exit)) (now («predelay_pos» .exit)) rate (now (memory .exit))) (now (out .exit)) r ⌝ }
+    ensures { λ r. ⌜ TickReturns reverb 2
+        (tickOf (portAt set 1 audio) (portAt set 2 size) (portAt set 4 damping) (portAt set 8 mix) (portAt set 16 predelay))
+        (reverbUnit (now («comb_pos_l» .entry)) (now («comb_pos_r» .entry)) (now («comb_filter_state_l» .entry))
+        (now («comb_filter_state_r» .entry)) (now («allpass_pos_l» .entry)) (now («allpass_pos_r» .entry))
+        (now («predelay_pos» .entry)) «sample_rate» (now (memory .entry)))
+        (reverbUnit (now («comb_pos_l» .exit)) (now («comb_pos_r» .exit)) (now («comb_filter_state_l» .exit))
+        (now («comb_filter_state_r» .exit)) (now («allpass_pos_l» .exit)) (now («allpass_pos_r» .exit))
+        (now («predelay_pos» .exit)) «sample_rate» (now (memory .exit))) (now (out .exit)) r ⌝ }
 {
     let answer = Reverb::tick_in_place(
         comb_pos_l,
         comb_pos_r,
-        stores_l,
-        stores_r,
+        comb_filter_state_l,
+        comb_filter_state_r,
         allpass_pos_l,
         allpass_pos_r,
         predelay_pos,
-        rate,
+        sample_rate,
         memory,
         port_at(set, 1, audio),
         port_at(set, 2, size),
@@ -203,26 +227,29 @@ pub extern "C" fn room_raw_reverb_tick(
 pub extern "C" fn room_raw_reverb_silent(
     comb_pos_l: &[u64; 8],
     comb_pos_r: &[u64; 8],
-    stores_l: &[f64; 8],
-    stores_r: &[f64; 8],
+    comb_filter_state_l: &[f64; 8],
+    comb_filter_state_r: &[f64; 8],
     allpass_pos_l: &[u64; 4],
     allpass_pos_r: &[u64; 4],
     predelay_pos: u64,
-    rate: f64,
+    sample_rate: f64,
     memory: &[f64],
     out: &mut u32,
 ) -> u32
-    ensures { λ r. ⌜ AskReturns reverb (reverbUnit (now («comb_pos_l» .entry)) (now («comb_pos_r» .entry)) (now («stores_l» .entry)) (now («stores_r» .entry)) (now («allpass_pos_l» .entry)) (now («allpass_pos_r» .entry)) «predelay_pos» rate (now (memory .entry))) (now (out .exit)) r ⌝ }
+    ensures { λ r. ⌜ AskReturns reverb
+        (reverbUnit (now («comb_pos_l» .entry)) (now («comb_pos_r» .entry)) (now («comb_filter_state_l» .entry))
+        (now («comb_filter_state_r» .entry)) (now («allpass_pos_l» .entry)) (now («allpass_pos_r» .entry))
+        «predelay_pos» «sample_rate» (now (memory .entry))) (now (out .exit)) r ⌝ }
 {
     let state = Reverb {
         comb_pos_l: *comb_pos_l,
         comb_pos_r: *comb_pos_r,
-        comb_filter_state_l: *stores_l,
-        comb_filter_state_r: *stores_r,
+        comb_filter_state_l: *comb_filter_state_l,
+        comb_filter_state_r: *comb_filter_state_r,
         allpass_pos_l: *allpass_pos_l,
         allpass_pos_r: *allpass_pos_r,
         predelay_pos,
-        sample_rate: rate,
+        sample_rate,
     };
     let silence = state.silent(memory);
     *out = silence.flag();

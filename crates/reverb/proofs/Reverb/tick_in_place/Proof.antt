@@ -17,7 +17,7 @@ use Rattle.effect.specs.Effect.{laid}
 use Rattle.effect.specs.Run.{tick, memoryNumber, numberIn}
 use Rattle.effect.proofs.Table.{enough}
 use Rattle.effect.proofs.Contract.{refuses, accepts, state-refused, tick-memory, tick-number}
-use Rattle.reverb.specs.declared.Controls.{Controls}
+use Rattle.reverb.specs.declared.tick.Controls.{Controls}
 use Rattle.reverb.specs.declared.Reverb.{Reverb}
 use Rattle.reverb.specs.Tank.{tankSize}
 use Rattle.reverb.specs.Reverb.{reverb, Tick, tickOf, controlsOf, stateOf, stateFits, tickNumber, next, writes, samples}
@@ -36,7 +36,7 @@ handed s =
 abbrev self : tie.Start → Reverb
 self s =
     let a = s .args in
-    stateOf (a .comb-pos-l .now) (a .comb-pos-r .now) (a .stores-l .now) (a .stores-r .now) (a .allpass-pos-l .now) (a .allpass-pos-r .now) (a .predelay-pos .now) (a .rate)
+    stateOf (a .comb-pos-l .now) (a .comb-pos-r .now) (a .comb-filter-state-l .now) (a .comb-filter-state-r .now) (a .allpass-pos-l .now) (a .allpass-pos-r .now) (a .predelay-pos .now) (a .rate)
 
 -- the state test
 module _ (c : tie.After-positions-fit) where

@@ -15,31 +15,16 @@ use Rattle.room_effects.proofs.reverb_calls.room_raw_reverb_reset.Tie a
 abbrev unit : tie.Start → Device Reverb
 unit s =
     let a = s .args in
-    reverbUnit (a .comb-pos-l .now) (a .comb-pos-r .now) (a .stores-l .now) (a .stores-r .now) (a .allpass-pos-l .now) (a .allpass-pos-r .now) (a .predelay-pos .now) (a .rate) (a .memory .now)
-
-reset-requires : tie.Need-reset-requires
-reset-requires c κs = search needs
+    reverbUnit (a .comb-pos-l .now) (a .comb-pos-r .now) (a .comb-filter-state-l .now) (a .comb-filter-state-r .now) (a .allpass-pos-l .now) (a .allpass-pos-r .now) (a .predelay-pos .now) (a .sample-rate) (a .memory .now)
 
 -- the call that is made
 abbrev start : tie.After-reset → tie.Start
 start c = c .before .before .before .before .before .before .before .before .before .before
 
-number-requires : tie.Need-number-requires
-number-requires c κs = search needs
-
-same-length : tie.Need-same-length
-same-length c = search needs
-
 returns : tie.Need-returns
 returns c =
     let inner = c .before .before .before .before in
     kept reverb reset (unit (start inner)) (inner .reset .ensures) (c .before .number .ensures) (c .if1 .taken)
-
-put-reverb-requires : tie.Need-put-reverb-requires
-put-reverb-requires c κs = search needs
-
-same-length-2 : tie.Need-same-length-2
-same-length-2 c = search needs
 
 returns-2 : tie.Need-returns-2
 returns-2 c =
@@ -51,4 +36,4 @@ returns-2 c =
     (ap next (reset-settings reverb laws (inner .reset .ensures)) ∙ c .put-reverb .ensures)
 
 pub room-raw-reverb-reset-spec : {M : Type 1} → statement M
-room-raw-reverb-reset-spec = tie.close (tie.spec reset-requires number-requires same-length returns put-reverb-requires same-length-2 returns-2)
+room-raw-reverb-reset-spec = tie.close (tie.spec (search needs) (search needs) (search needs) returns (search needs) (search needs) returns-2)

@@ -23,7 +23,7 @@ handed s =
 abbrev unit : tie.Start → Device Reverb
 unit s =
     let a = s .args in
-    reverbUnit (a .comb-pos-l .now) (a .comb-pos-r .now) (a .stores-l .now) (a .stores-r .now) (a .allpass-pos-l .now) (a .allpass-pos-r .now) (a .predelay-pos .now) (a .rate) (a .memory .now)
+    reverbUnit (a .comb-pos-l .now) (a .comb-pos-r .now) (a .comb-filter-state-l .now) (a .comb-filter-state-r .now) (a .allpass-pos-l .now) (a .allpass-pos-r .now) (a .predelay-pos .now) (a .sample-rate) (a .memory .now)
 
 -- the inner tick, with the ports as the mask has them
 module _ (c : tie.After-tick-in-place) where
@@ -34,43 +34,13 @@ module _ (c : tie.After-tick-in-place) where
   abbrev next : Device Reverb
   next =
       let l = c .tick-in-place .last in
-      reverbUnit (l .0) (l .1 .0) (l .1 .1 .0) (l .1 .1 .1 .0) (l .1 .1 .1 .1 .0) (l .1 .1 .1 .1 .1 .0) (l .1 .1 .1 .1 .1 .1 .0) (start .args .rate) (l .1 .1 .1 .1 .1 .1 .1 .1 .0)
+      reverbUnit (l .0) (l .1 .0) (l .1 .1 .0) (l .1 .1 .1 .0) (l .1 .1 .1 .1 .0) (l .1 .1 .1 .1 .1 .0) (l .1 .1 .1 .1 .1 .1 .0) (start .args .sample-rate) (l .1 .1 .1 .1 .1 .1 .1 .1 .0)
 
   does : Does reverb (tick (handed start)) (unit start .state) (unit start .memory) (next .state) (next .memory) (answerReply (c .tick-in-place .result))
   does =
       of-tick reverb (unit start .state) {t₀ = handed start}
       (λ i. tickOf (c .before .before .before .before .before .port-at .ensures i) (c .before .before .before .before .port-at2 .ensures i) (c .before .before .before .port-at3 .ensures i) (c .before .before .port-at4 .ensures i) (c .before .port-at5 .ensures i))
       (c .tick-in-place .ensures)
-
-port-at-requires : tie.Need-port-at-requires
-port-at-requires c κs = search needs
-
-port-at-requires-2 : tie.Need-port-at-requires-2
-port-at-requires-2 c κs = search needs
-
-port-at-requires-3 : tie.Need-port-at-requires-3
-port-at-requires-3 c κs = search needs
-
-port-at-requires-4 : tie.Need-port-at-requires-4
-port-at-requires-4 c κs = search needs
-
-port-at-requires-5 : tie.Need-port-at-requires-5
-port-at-requires-5 c κs = search needs
-
-tick-in-place-requires : tie.Need-tick-in-place-requires
-tick-in-place-requires c κs = search needs
-
-first-requires : tie.Need-first-requires
-first-requires c κs = search needs
-
-second-requires : tie.Need-second-requires
-second-requires c κs = search needs
-
-number-requires : tie.Need-number-requires
-number-requires c κs = search needs
-
-same-length : tie.Need-same-length
-same-length c = search needs
 
 returns : tie.Need-returns
 returns c =
@@ -80,17 +50,4 @@ returns c =
     played reverb 2 (does inner) (stored reverb (tick (handed s)) (unit s) (does inner) (c .number .ensures) {s = next inner .state} refl) (λ i. second .before .first .ensures i ∷ second .second .ensures i ∷ [])
 
 pub room-raw-reverb-tick-spec : {M : Type 1} → statement M
-room-raw-reverb-tick-spec =
-    tie.close
-    (tie.spec
-    port-at-requires
-    port-at-requires-2
-    port-at-requires-3
-    port-at-requires-4
-    port-at-requires-5
-    tick-in-place-requires
-    first-requires
-    second-requires
-    number-requires
-    same-length
-    returns)
+room-raw-reverb-tick-spec = tie.close (tie.spec (search needs) (search needs) (search needs) (search needs) (search needs) (search needs) (search needs) (search needs) (search needs) (search needs) returns)

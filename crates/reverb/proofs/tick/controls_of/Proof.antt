@@ -1,8 +1,8 @@
--- `Reverb::controls_of` is the definition of that name. Assumes nothing.
+-- `tick::controls_of` is the definition of that name. Assumes nothing.
 use lib.Ieee.{ofBits, round}
 use borrow.Author.Needs.{needs}
-use Rattle.reverb.proofs.Reverb.controls_of.Statement.{statement}
-use Rattle.reverb.proofs.Reverb.controls_of.Tie as tie
+use Rattle.reverb.proofs.tick.controls_of.Statement.{statement}
+use Rattle.reverb.proofs.tick.controls_of.Tie as tie
 
 returns : tie.Need-returns
 unfolding ofBits round

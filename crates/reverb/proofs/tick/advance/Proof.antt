@@ -1,4 +1,4 @@
--- `Reverb::advance` is an accepted tick: the predelay writes and reads, then the combs step, then the all-passes. Assumes nothing.
+-- `tick::advance` is an accepted tick: the predelay writes and reads, then the combs step, then the all-passes. Assumes nothing.
 use Prim.Native.Nat.{_+_}
 use mathlib.Core.Path.{_≡_, refl, sym, ap, subst, _∙_}
 use mathlib.Core.List.{List}
@@ -18,15 +18,15 @@ use Rattle.reverb.proofs.Laws.{Fits, fits-parts}
 use Rattle.reverb.proofs.Predelay.{delay-less}
 use Rattle.reverb.proofs.Apart.{by-sides}
 use Rattle.reverb.proofs.Ticks.{m1, advances}
-use Rattle.reverb.proofs.Reverb.advance.Statement.{statement}
-use Rattle.reverb.proofs.Reverb.advance.Tie as tie
+use Rattle.reverb.proofs.tick.advance.Statement.{statement}
+use Rattle.reverb.proofs.tick.advance.Tie as tie
 
 module _ (s : tie.Start) where
   -- what is lent, as a state
   abbrev self : Reverb
   self =
       let a = s .args in
-      stateOf (a .comb-pos-l .now) (a .comb-pos-r .now) (a .stores-l .now) (a .stores-r .now) (a .allpass-pos-l .now) (a .allpass-pos-r .now) (a .predelay-pos .now) (a .rate)
+      stateOf (a .comb-pos-l .now) (a .comb-pos-r .now) (a .comb-filter-state-l .now) (a .comb-filter-state-r .now) (a .allpass-pos-l .now) (a .allpass-pos-r .now) (a .predelay-pos .now) (a .rate)
 
   unit : Fits self
   unit = fits-parts self (s .pre .1 .0)
