@@ -19,7 +19,8 @@ use Rattle.float64.proofs.Clamped.{at-most-in}
 use Rattle.common.specs.Line.{lineAt, place}
 use Rattle.common.proofs.Ring.{place-low, place-high, place-other, part-at}
 use Rattle.reverb.specs.Tunings.{predelaySize}
-use Rattle.reverb.specs.Tank.{delaySamples, delayed}
+use Rattle.reverb.specs.Tank.{delayed}
+use Rattle.reverb.specs.Reverb.{delaySamples}
 
 -- ---- the delay
 

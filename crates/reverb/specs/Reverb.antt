@@ -1,11 +1,11 @@
 -- The reverb: a predelay, and on each side eight combs in parallel, summed, and four all-passes in series. Definitions only. Assumes nothing.
-use Prim.Native.Nat.{ℕ, _+_}
+use Prim.Native.Nat.{ℕ, _+_, _-_}
 use mathlib.Core.Path.{_≡_}
 use mathlib.Core.Bool.{Bool, _&&_, _||_, cond}
 use mathlib.Core.List.{List, [], _∷_, _++_}
 use lib.ListN.{replicate}
 use lib.Ieee.{Float, binary64, add, mul}
-use Rattle.float64.specs.Number.{plusZero, ofNat, fraction, half, rateFits, clampOf}
+use Rattle.float64.specs.Number.{plusZero, ofNat, fraction, half, rateFits, clampOf, atMost, wholePart}
 use Rattle.port.specs.declared.Port.{Port}
 use Rattle.port.specs.Port.{valueOr, isNanSet}
 use Rattle.port.specs.Answer.{Reply, played}
@@ -15,7 +15,7 @@ use Rattle.effect.specs.Effect.{Effect, Write, laid}
 use Rattle.reverb.specs.declared.tick.Controls.{Controls}
 use Rattle.reverb.specs.declared.Reverb.{Reverb}
 use Rattle.reverb.specs.Tunings.{Side, left, right, sided, predelaySize, lengthsAt}
-use Rattle.reverb.specs.Tank.{Lines, combLines, allpassLines, predelayStart, tankSize, positionsFit, moved, bySides, combsHeld, sumOf, combStored, combWrite, allpassesHeld, passedOn, allpassWrite, delaySamples, delayed, InUse, silence}
+use Rattle.reverb.specs.Tank.{Lines, combLines, allpassLines, predelayStart, tankSize, positionsFit, moved, bySides, combsHeld, sumOf, combStored, combWrite, allpassesHeld, passedOn, allpassWrite, delayed, InUse, silence}
 
 -- what a tick is handed: its ports; no curve number
 pub record Tick : Type 0 where
@@ -100,7 +100,10 @@ damping c = mul binary64 (clampOf (c .damping) plusZero (ofNat 1)) (fraction 4 1
 abbrev pub mix : Controls → Float
 mix c = clampOf (c .mix) plusZero (ofNat 1)
 
--- the predelay's delay in samples, by the control, and of a tick
+-- the predelay's delay in samples: the whole part of control × 0.1 × rate, less than the line's length; and of a tick
+unfoldable pub delaySamples : Float → Float → ℕ
+delaySamples control rate = wholePart (atMost (mul binary64 (mul binary64 control (fraction 1 10)) rate) (ofNat (predelaySize - 1)))
+
 abbrev pub delayBy : Controls → Float → ℕ
 delayBy c rate = delaySamples (clampOf (c .predelay) plusZero (ofNat 1)) rate
 

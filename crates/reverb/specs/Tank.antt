@@ -1,13 +1,13 @@
 -- The tank: eight left combs, eight right, four left all-passes, four right, and the predelay. What a step of its lines leaves and answers, and when they are
 -- silent. Definitions only. Assumes nothing.
-use Prim.Native.Nat.{ℕ, zero, suc, _+_, _-_, _*_, _<_}
+use Prim.Native.Nat.{ℕ, zero, suc, _+_, _*_, _<_}
 use mathlib.Core.Path.{_≡_}
 use mathlib.Core.Bool.{Bool, true, false, _&&_, cond}
 use mathlib.Core.List.{List, [], _∷_, _++_}
 use lib.Dec.{ltb, eqb}
 use lib.ListN.{length, getD, take, drop}
-use lib.Ieee.{Float, nan, binary64, add, mul}
-use Rattle.float64.specs.Number.{plusZero, ofNat, fraction, atMost, wholePart}
+use lib.Ieee.{Float, nan, binary64, add}
+use Rattle.float64.specs.Number.{plusZero}
 use Rattle.common.specs.Line.{nextPlace, lineAt, table, allZero}
 use Rattle.effect.specs.Effect.{Write, laid}
 use Rattle.reverb.specs.declared.tunings.Lengths.{Lengths}
@@ -127,10 +127,6 @@ pub record AllpassesStep (x : Side → Float) (l : Lines) (m : List Float) (w' :
   pub outputs : (side : Side) → sided (r .left) (r .right) side ≡ passedOn (x side) (allpassesHeld l m side) 4
 
 -- ---- the predelay
-
--- the delay, in samples: the whole part of control × 0.1 × rate, less than the line's length
-unfoldable pub delaySamples : Float → Float → ℕ
-delaySamples control rate = wholePart (atMost (mul binary64 (mul binary64 control (fraction 1 10)) rate) (ofNat (predelaySize - 1)))
 
 -- The line from place o on, at the position w, with the audio x and a delay of d samples. It writes the audio first, so that a delay of 0 passes the audio
 -- itself; every other place holds what it held before the tick.

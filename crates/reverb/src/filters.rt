@@ -5,7 +5,8 @@ ghost use lib.ListN as ListN;
 ghost use lib.Ieee.{nan};
 ghost use Rattle.reverb.specs.Tunings.{combSize, allpassSize, predelaySize};
 ghost use Rattle.reverb.specs.Freeverb.{combed, combLine, passed, passLine};
-ghost use Rattle.reverb.specs.Tank.{predelayStart, tankSize, delaySamples, delayed};
+ghost use Rattle.reverb.specs.Tank.{predelayStart, tankSize, delayed};
+ghost use Rattle.reverb.specs.Reverb.{delaySamples};
 use crate::Reverb;
 
 // What a step of a comb answers, with its next store and position.

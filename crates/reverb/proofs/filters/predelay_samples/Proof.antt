@@ -1,6 +1,6 @@
 -- `filters::predelay_samples` is `delaySamples`. Assumes nothing.
 use lib.Ieee.{ofBits, ofInt, round}
-use Rattle.reverb.specs.Tank.{delaySamples}
+use Rattle.reverb.specs.Reverb.{delaySamples}
 use borrow.Author.Needs.{needs}
 use Rattle.reverb.proofs.filters.predelay_samples.Statement.{statement}
 use Rattle.reverb.proofs.filters.predelay_samples.Tie as tie

@@ -11,8 +11,8 @@ use Rattle.common.specs.Signal.{blended}
 use Rattle.reverb.specs.declared.tunings.Lengths.{Lengths}
 use Rattle.reverb.specs.declared.Reverb.{Reverb}
 use Rattle.reverb.specs.Tunings.{Side, sided, combMost, allpassMost}
-use Rattle.reverb.specs.Tank.{InLines, combLines, allpassLines, predelayStart, delaySamples, delayed}
-use Rattle.reverb.specs.Reverb.{stateOf, input, feedback, damping, predelayed}
+use Rattle.reverb.specs.Tank.{InLines, combLines, allpassLines, predelayStart, delayed}
+use Rattle.reverb.specs.Reverb.{stateOf, delaySamples, input, feedback, damping, predelayed}
 use Rattle.reverb.specs.Reverb as page
 use Rattle.reverb.proofs.Laws.{Fits, fits-parts}
 use Rattle.reverb.proofs.Predelay.{delay-less}
