@@ -71,10 +71,10 @@ module _ {count most : ℕ} {l : Lines} (f : InLines count most l) where
   lines-long side = below-long (l .positions side) (l .sizes side) (f .below side) ∙ f .counted side
 
 module _ {l : Lines} (f : InLines 8 combMost l) where
-  -- what a step of comb i of a side asks, in a memory of k places
-  pub comb-asks : (side : Side) (i k : ℕ) → i < 8 → tankSize ≤ k
-      → (getD (l .positions side) i 0 < getD (l .sizes side) i 0) × ((getD (l .sizes side) i 0 ≤ combSize) × (combStart side i + combSize ≤ k))
-  comb-asks side i k h room = let b = line-below f side i h in (b .0, (omega (arith, b .1), go side))
+  -- what a step of comb i of a side at the position w asks, in a memory of k places
+  pub comb-asks : {w : ℕ} (side : Side) (i k : ℕ) → w ≡ getD (l .positions side) i 0 → i < 8 → tankSize ≤ k
+      → (w < getD (l .sizes side) i 0) × ((getD (l .sizes side) i 0 ≤ combSize) × (combStart side i + combSize ≤ k))
+  comb-asks {w} side i k at h room = let b = line-below f side i h in (omega (arith, at, b .0), (omega (arith, b .1), go side))
     where
       go : (v : Side) → combStart v i + combSize ≤ k
       go left = omega arith
@@ -96,9 +96,9 @@ module _ {l : Lines} (f : InLines 8 combMost l) where
   comb-across i h = omega (arith, line-below f left i h)
 
 module _ {l : Lines} (f : InLines 4 allpassMost l) where
-  pub allpass-asks : (side : Side) (i k : ℕ) → i < 4 → tankSize ≤ k
-      → (getD (l .positions side) i 0 < getD (l .sizes side) i 0) × ((getD (l .sizes side) i 0 ≤ allpassSize) × (allpassStart side i + allpassSize ≤ k))
-  allpass-asks side i k h room = let b = line-below f side i h in (b .0, (omega (arith, b .1), go side))
+  pub allpass-asks : {w : ℕ} (side : Side) (i k : ℕ) → w ≡ getD (l .positions side) i 0 → i < 4 → tankSize ≤ k
+      → (w < getD (l .sizes side) i 0) × ((getD (l .sizes side) i 0 ≤ allpassSize) × (allpassStart side i + allpassSize ≤ k))
+  allpass-asks {w} side i k at h room = let b = line-below f side i h in (omega (arith, at, b .0), (omega (arith, b .1), go side))
     where
       go : (v : Side) → allpassStart v i + allpassSize ≤ k
       go left = omega arith
@@ -119,44 +119,44 @@ module _ {l : Lines} (f : InLines 4 allpassMost l) where
   pub allpass-across : (i : ℕ) → i < 4 → placeOf allpassStart l right i ≢ placeOf allpassStart l left i
   allpass-across i h = omega (arith, line-below f left i h)
 
--- ---- a step of line i of a side, after stores in other lines, so that its place holds what it held in m
+-- ---- a step of line i of a side, at the position v, after stores in other lines, so that its place holds what it held in m
 
--- what it reads
-read : (start : Side → ℕ → ℕ) (count : ℕ) (l : Lines) (m : List Float) (side : Side) (i : ℕ) → i < count → (m' : List Float)
-    → getD m' (placeOf start l side i) nan ≡ getD m (placeOf start l side i) nan
-    → getD m' (placeOf start l side i) nan ≡ getD (held start count l m side) i nan
-unfolding held
-read start count l m side i h m' same = same ∙ sym (getD-table (λ k. getD m (placeOf start l side k) nan) count i nan h)
+module _ (start : Side → ℕ → ℕ) (count : ℕ) (l : Lines) (m : List Float) (side : Side) (i : ℕ) (h : i < count) (m' : List Float) {v : ℕ} (at : v ≡ getD (l .positions side) i 0) (same : getD m' (placeOf start l side i) nan ≡ getD m (placeOf start l side i) nan) where
+  read : getD m' (start side i + v) nan ≡ getD (held start count l m side) i nan
+  unfolding held
+  read = ap (λ (w : ℕ). getD m' (start side i + w) nan) at ∙ same ∙ sym (getD-table (λ k. getD m (placeOf start l side k) nan) count i nan h)
 
--- a comb
-module _ (x d f : Float) (l : Lines) (z : Side → List Float) (m : List Float) (side : Side) (i : ℕ) (h : i < 8) (m' : List Float) (same : getD m' (placeOf combStart l side i) nan ≡ getD m (placeOf combStart l side i) nan) where
+-- a comb, whose store is read as y
+module _ (x d f : Float) (l : Lines) (z : Side → List Float) (m : List Float) (side : Side) (i : ℕ) (h : i < 8) (m' : List Float) {v : ℕ} {y : Float} (at : v ≡ getD (l .positions side) i 0) (kept : y ≡ getD (z side) i nan) (same : getD m' (placeOf combStart l side i) nan ≡ getD m (placeOf combStart l side i) nan) where
   -- its answer, store and position
-  pub comb-gives : {r : Combed} → r ≡ combed (getD m' (placeOf combStart l side i) nan) (getD (l .sizes side) i 0) (getD (l .positions side) i 0) (getD (z side) i nan) d
+  pub comb-gives : {r : Combed} → r ≡ combed (getD m' (combStart side i + v) nan) (getD (l .sizes side) i 0) v y d
       → r ≡ record { output = getD (combsHeld l m side) i nan; «filter_state» = combStored d z (combsHeld l m) side i; pos = moved l side i }
   unfolding combed combStored moved
   comb-gives e =
-      let b = read combStart 8 l m side i h m' same in
-      e ∙ (λ j. record { output = b j; «filter_state» = combStore (b j) (getD (z side) i nan) d; pos = nextPlace (getD (l .sizes side) i 0) (getD (l .positions side) i 0) })
+      let b = read combStart 8 l m side i h m' at same in
+      e ∙ (λ j. record { output = b j; «filter_state» = combStore (b j) (kept j) d; pos = nextPlace (getD (l .sizes side) i 0) (at j) })
 
   -- and its write
-  pub comb-writes : combLine m' (placeOf combStart l side i) (getD (z side) i nan) x d f
+  pub comb-writes : combLine m' (combStart side i + v) y x d f
       ≡ set m' (combWrite x d f l z (combsHeld l m) i side .place) (combWrite x d f l z (combsHeld l m) i side .value)
   unfolding combLine combWrite combStored
-  comb-writes = λ j. set m' (placeOf combStart l side i) (combFed x (combStore (read combStart 8 l m side i h m' same j) (getD (z side) i nan) d) f)
+  comb-writes =
+      let b = read combStart 8 l m side i h m' at same in
+      λ j. set m' (combStart side i + at j) (combFed x (combStore (b j) (kept j) d) f)
 
 -- an all-pass, with y into it
-module _ (x : Side → Float) (l : Lines) (m : List Float) (side : Side) (i : ℕ) (h : i < 4) (m' : List Float) (y : Float) (same : getD m' (placeOf allpassStart l side i) nan ≡ getD m (placeOf allpassStart l side i) nan) (into : y ≡ passedOn (x side) (allpassesHeld l m side) i) where
-  pub pass-gives : {r : Passed} → r ≡ passed (getD m' (placeOf allpassStart l side i) nan) (getD (l .sizes side) i 0) (getD (l .positions side) i 0) y
+module _ (x : Side → Float) (l : Lines) (m : List Float) (side : Side) (i : ℕ) (h : i < 4) (m' : List Float) (y : Float) {v : ℕ} (at : v ≡ getD (l .positions side) i 0) (same : getD m' (placeOf allpassStart l side i) nan ≡ getD m (placeOf allpassStart l side i) nan) (into : y ≡ passedOn (x side) (allpassesHeld l m side) i) where
+  pub pass-gives : {r : Passed} → r ≡ passed (getD m' (allpassStart side i + v) nan) (getD (l .sizes side) i 0) v y
       → r ≡ record { output = passedOn (x side) (allpassesHeld l m side) (i + 1); pos = moved l side i }
   unfolding passed passedOn moved
   pass-gives e =
-      let b = read allpassStart 4 l m side i h m' same in
-      rw (add-one i) (e ∙ (λ j. record { output = passOutput (into j) (b j); pos = nextPlace (getD (l .sizes side) i 0) (getD (l .positions side) i 0) }))
+      let b = read allpassStart 4 l m side i h m' at same in
+      rw (add-one i) (e ∙ (λ j. record { output = passOutput (into j) (b j); pos = nextPlace (getD (l .sizes side) i 0) (at j) }))
 
-  pub pass-writes : passLine m' (placeOf allpassStart l side i) y
+  pub pass-writes : passLine m' (allpassStart side i + v) y
       ≡ set m' (allpassWrite x l (allpassesHeld l m) i side .place) (allpassWrite x l (allpassesHeld l m) i side .value)
   unfolding passLine allpassWrite
-  pass-writes = λ j. set m' (placeOf allpassStart l side i) (passFed (into j) (read allpassStart 4 l m side i h m' same j))
+  pass-writes = let b = read allpassStart 4 l m side i h m' at same in λ j. set m' (allpassStart side i + at j) (passFed (into j) (b j))
 
 -- ---- sums
 

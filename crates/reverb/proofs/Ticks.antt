@@ -16,7 +16,6 @@ use Rattle.effect.specs.Effect.{laid}
 use Rattle.effect.proofs.Memory.{laid-append}
 use Rattle.reverb.specs.declared.tunings.Lengths.{Lengths}
 use Rattle.reverb.specs.declared.tank.Sides.{Sides}
-use Rattle.reverb.specs.declared.tank.Summed.{Summed}
 use Rattle.reverb.specs.declared.tick.Controls.{Controls}
 use Rattle.reverb.specs.declared.Reverb.{Reverb}
 use Rattle.reverb.specs.Tunings.{Side, left, right, sided, predelaySize, lengthsAt}
@@ -54,7 +53,7 @@ module _ (c : Controls) (s : Reverb) (m : List Float) (f : Fits s) where
       ∙ getD-set-other m _ p (input c) nan (omega (arith, b .1))) j
 
   -- what the code has: the lengths n, the input y of the combs, damping d, feedback b, the memory n1 after the predelay's store, and the combs' step
-  module _ {n : Lengths} (sizes : n ≡ lengthsAt (s .«sample_rate»)) {y d b : Float} {n1 : List Float} (into : y ≡ predelayed c s m) (damped : d ≡ damping c) (fed : b ≡ feedback c) (first : n1 ≡ m1) {ws : Side → List ℕ} {n2 : List Float} {sums : Summed} (step : CombsStep y d b (combLines (s .«comb_pos_l») (s .«comb_pos_r») n) (stores s) n1 ws n2 sums) where
+  module _ {n : Lengths} (sizes : n ≡ lengthsAt (s .«sample_rate»)) {y d b : Float} {n1 : List Float} (into : y ≡ predelayed c s m) (damped : d ≡ damping c) (fed : b ≡ feedback c) (first : n1 ≡ m1) {ws : Side → List ℕ} {zs : Side → List Float} {n2 : List Float} {sums : Sides} (step : CombsStep y d b (combLines (s .«comb_pos_l») (s .«comb_pos_r») n) (stores s) n1 ws zs n2 sums) where
     combs-are : combLines (s .«comb_pos_l») (s .«comb_pos_r») n ≡ combs s
     combs-are = λ j. combLines (s .«comb_pos_l») (s .«comb_pos_r») (sizes j)
 
@@ -94,11 +93,11 @@ module _ (c : Controls) (s : Reverb) (m : List Float) (f : Fits s) where
       pub advances : {p : ℕ} {l r : Float} → p ≡ nextPlace predelaySize (s .«predelay_pos»)
           → l ≡ blended (input c) (outs .left) (mix c)
           → r ≡ blended (input c) (outs .right) (mix c)
-          → Advances c s m (stateOf (ws left) (ws right) (sums .«stores_l») (sums .«stores_r») (vs left) (vs right) p (s .«sample_rate»)) m' (played (l ∷ r ∷ []))
+          → Advances c s m (stateOf (ws left) (ws right) (zs left) (zs right) (vs left) (vs right) p (s .«sample_rate»)) m' (played (l ∷ r ∷ []))
       unfolding page.next page.samples
       advances p l r =
           let comb : (side : Side) → ws side ≡ table (moved (combs s) side) 8 = λ side. step .positions side ∙ (λ j. table (moved (combs-are j) side) 8) in
-          let store : (side : Side) → sided (sums .«stores_l») (sums .«stores_r») side ≡ table (combStored (damping c) (stores s) (combsHeld (combs s) m) side) 8 =
+          let store : (side : Side) → zs side ≡ table (combStored (damping c) (stores s) (combsHeld (combs s) m) side) 8 =
           λ side. step .stores side ∙ (λ j. table (combStored (damped j) (stores s) (held-is j) side) 8) in
           let pass : (side : Side) → vs side ≡ table (moved (allpasses s) side) 4 = λ side. on .positions side ∙ (λ j. table (moved (allpasses-are j) side) 4) in
           record {

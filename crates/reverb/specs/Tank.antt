@@ -12,7 +12,6 @@ use Rattle.common.specs.Line.{nextPlace, lineAt, table, allZero}
 use Rattle.effect.specs.Effect.{Write, laid}
 use Rattle.reverb.specs.declared.tunings.Lengths.{Lengths}
 use Rattle.reverb.specs.declared.tank.Sides.{Sides}
-use Rattle.reverb.specs.declared.tank.Summed.{Summed}
 use Rattle.reverb.specs.Freeverb.{combStore, combFed, passOutput, passFed}
 use Rattle.reverb.specs.Tunings.{Side, left, right, sided, combSize, allpassSize, predelaySize, combLengths, allpassLengths, Capped}
 
@@ -99,10 +98,10 @@ combStored d z h side i = combStore (getD (h side) i nan) (getD (z side) i nan) 
 unfoldable pub combWrite : Float → Float → Float → Lines → (Side → List Float) → (Side → List Float) → ℕ → Side → Write
 combWrite x d f l z h i side = record { place = placeOf combStart l side i; value = combFed x (combStored d z h side i) f }
 
--- a step of all combs l with the stores z, in the memory m: positions and memory that it leaves, and the stores and sums that it answers
-pub record CombsStep (x d f : Float) (l : Lines) (z : Side → List Float) (m : List Float) (w' : Side → List ℕ) (m' : List Float) (r : Summed) : Type 0 where
+-- a step of all combs l with the stores z, in the memory m: positions, stores and memory that it leaves, and the sums that it answers
+pub record CombsStep (x d f : Float) (l : Lines) (z : Side → List Float) (m : List Float) (w' : Side → List ℕ) (z' : Side → List Float) (m' : List Float) (r : Sides) : Type 0 where
   pub positions : (side : Side) → w' side ≡ table (moved l side) 8
-  pub stores : (side : Side) → sided (r .«stores_l») (r .«stores_r») side ≡ table (combStored d z (combsHeld l m) side) 8
+  pub stores : (side : Side) → z' side ≡ table (combStored d z (combsHeld l m) side) 8
   pub memory : m' ≡ laid (bySides (combWrite x d f l z (combsHeld l m)) 8) m
   pub sums : (side : Side) → sided (r .left) (r .right) side ≡ sumOf (combsHeld l m side) 8
 

@@ -15,14 +15,6 @@ pub struct Sides {
     pub right: f64,
 }
 
-// What a step of the combs answers: their sums, and their next stores.
-pub struct Summed {
-    pub left: f64,
-    pub right: f64,
-    pub stores_l: [f64; 8],
-    pub stores_r: [f64; 8],
-}
-
 // Whether each position is below its line's length. No branch at each: a tick asks this of 24 lines.
 fn all_below(positions: &[u64], sizes: &[u16]) -> bool
     requires { ⌜ ListN.length (now positions) ≡ ListN.length (now sizes) ⌝ }
@@ -58,53 +50,51 @@ pub fn positions_fit(
     (predelay < Reverb::MAX_PREDELAY_SIZE as u64) & (left & right)
 }
 
-// The eight combs of each side, with the same input: they move the lent positions, and answer their sums and next stores. The
-// stores come by value, since the prover knows how long an array is that comes so, and not one that is lent; it costs no instruction.
+// The eight combs of each side, with the same input: they move the lent positions and stores, and answer their sums. The stores
+// are slices, since the prover learns how long a lent array is where it is lent on as a slice.
 pub fn combs(
     pos_l: &mut [u64; 8],
     pos_r: &mut [u64; 8],
-    stores_l: [f64; 8],
-    stores_r: [f64; 8],
+    filter_state_l: &mut [f64],
+    filter_state_r: &mut [f64],
     n: Lengths,
     mem: &mut [f64],
     input: f64,
     feedback: f64,
     damping: f64,
-) -> Summed
+) -> Sides
     requires { ⌜ InLines 8 combMost (combLines (now «pos_l») (now «pos_r») n) ⌝ }
+    requires { ⌜ ListN.length (now «filter_state_l») ≡ 8 ⌝ }
+    requires { ⌜ ListN.length (now «filter_state_r») ≡ 8 ⌝ }
     requires { ⌜ tankSize ≤ ListN.length (now mem) ⌝ }
     ensures { λ r. ⌜ CombsStep input damping feedback (combLines (now («pos_l» .entry)) (now («pos_r» .entry)) n)
-        (sided «stores_l» «stores_r») (now (mem .entry)) (sided (now («pos_l» .exit)) (now («pos_r» .exit))) (now (mem .exit)) r ⌝ }
+        (sided (now («filter_state_l» .entry)) (now («filter_state_r» .entry))) (now (mem .entry))
+        (sided (now («pos_l» .exit)) (now («pos_r» .exit))) (sided (now («filter_state_l» .exit)) (now («filter_state_r» .exit)))
+        (now (mem .exit)) r ⌝ }
 {
-    let positions_l = *pos_l;
-    let positions_r = *pos_r;
-    let mut next_l = stores_l;
-    let mut next_r = stores_r;
     let mut sum_l = 0.0;
     let mut sum_r = 0.0;
     let mut i: usize = 0;
     while i < 8 {
         let o = i * Reverb::MAX_COMB_SIZE;
-        let w = positions_l[i];
+        let w = pos_l[i];
         let size = n.comb_l[i] as u64;
-        let l = comb_at(mem, o, w, stores_l[i], input, size, feedback, damping);
+        let l = comb_at(mem, o, w, filter_state_l[i], input, size, feedback, damping);
         pos_l[i] = l.pos;
-        next_l[i] = l.filter_state;
+        filter_state_l[i] = l.filter_state;
         sum_l = sum_l + l.output;
         let o = Reverb::COMBS_R + i * Reverb::MAX_COMB_SIZE;
-        let w = positions_r[i];
+        let w = pos_r[i];
         let size = n.comb_r[i] as u64;
-        let r = comb_at(mem, o, w, stores_r[i], input, size, feedback, damping);
+        let r = comb_at(mem, o, w, filter_state_r[i], input, size, feedback, damping);
         pos_r[i] = r.pos;
-        next_r[i] = r.filter_state;
+        filter_state_r[i] = r.filter_state;
         sum_r = sum_r + r.output;
         i += 1;
     }
-    Summed {
+    Sides {
         left: sum_l,
         right: sum_r,
-        stores_l: next_l,
-        stores_r: next_r,
     }
 }
 
@@ -122,19 +112,17 @@ pub fn allpasses(
     ensures { λ r. ⌜ AllpassesStep (sided «input_l» «input_r») (allpassLines (now («pos_l» .entry)) (now («pos_r» .entry)) n)
         (now (mem .entry)) (sided (now («pos_l» .exit)) (now («pos_r» .exit))) (now (mem .exit)) r ⌝ }
 {
-    let positions_l = *pos_l;
-    let positions_r = *pos_r;
     let mut output_l = input_l;
     let mut output_r = input_r;
     let mut i: usize = 0;
     while i < 4 {
         let o = Reverb::ALLPASSES_L + i * Reverb::MAX_ALLPASS_SIZE;
-        let w = positions_l[i];
+        let w = pos_l[i];
         let l = allpass_at(mem, o, w, output_l, n.allpass_l[i] as u64);
         pos_l[i] = l.pos;
         output_l = l.output;
         let o = Reverb::ALLPASSES_R + i * Reverb::MAX_ALLPASS_SIZE;
-        let w = positions_r[i];
+        let w = pos_r[i];
         let r = allpass_at(mem, o, w, output_r, n.allpass_r[i] as u64);
         pos_r[i] = r.pos;
         output_r = r.output;

@@ -84,18 +84,14 @@ pub fn advance(
     let sums = combs(
         comb_pos_l,
         comb_pos_r,
-        *comb_filter_state_l,
-        *comb_filter_state_r,
+        comb_filter_state_l,
+        comb_filter_state_r,
         n,
         mem,
         delayed,
         feedback,
         damping,
     );
-    let next_l = sums.stores_l;
-    let next_r = sums.stores_r;
-    *comb_filter_state_l = next_l;
-    *comb_filter_state_r = next_r;
     let into_l = sums.left * 0.125;
     let into_r = sums.right * 0.125;
     let passed = allpasses(allpass_pos_l, allpass_pos_r, n, mem, into_l, into_r);

@@ -97,11 +97,11 @@ combs-requires c κs =
     let p = c .before .before .before .before .before .before .before .before in
     let s = start p in
     let a = s .args in
-    (subst (λ (n : Lengths). InLines 8 combMost (combLines (a .comb-pos-l .now) (a .comb-pos-r .now) n)) (sym (s .pre .0)) (unit s .combs), rw (first-is p) (simp length-set (s .pre .1 .1 .0)))
+    (subst (λ (n : Lengths). InLines 8 combMost (combLines (a .comb-pos-l .now) (a .comb-pos-r .now) n)) (sym (s .pre .0)) (unit s .combs), (c .before .before .combs-arg3 .given .0 .1, (c .before .combs-arg4 .given .0 .1, rw (first-is p) (simp length-set (s .pre .1 .1 .0)))))
 
 allpasses-requires : tie.Need-allpasses-requires
 allpasses-requires c κs =
-    let k = c .before .before .before .before .before .before .before .before .before in
+    let k = c .before .before .before .before .before .before .before in
     let p = k .before .before .before .before .before .before .before .before .before in
     let s = start p in
     let a = s .args in
@@ -116,7 +116,7 @@ blend-requires-2 c κs = tt
 same-length : tie.Need-same-length
 same-length c =
     let q = c .before .before .before .before in
-    let k = q .before .before .before .before .before .before .before .before .before .before in
+    let k = q .before .before .before .before .before .before .before .before in
     let p = k .before .before .before .before .before .before .before .before .before in
     let a = start p .args in
     q .allpasses .kept .1 .1 .1 .0 ∙ k .combs .kept .1 .1 .1 .1 .1 .0 ∙ ap (λ (l : List Float). length l) (first-is p) ∙ length-set (a .mem .now) (predelayStart + a .predelay-pos .now) (input (a .c))
@@ -125,7 +125,7 @@ returns : tie.Need-returns
 unfolding ofBits round
 returns c =
     let q = c .before .before .before .before in
-    let k = q .before .before .before .before .before .before .before .before .before .before in
+    let k = q .before .before .before .before .before .before .before .before in
     let p = k .before .before .before .before .before .before .before .before .before in
     let s = start p in
     let sums = k .combs .result in
