@@ -105,20 +105,20 @@ module _ (E : Effect) (laws : Laws E) where
   along P [] i p keep = p
   along P {h} (c ∷ cs) i p keep = along P cs (step-in c i) (step-cases E P c i p (λ e. keep h c i p)) keep
 
-  -- ---- state and memory are told by the arguments
+  -- ---- state and memory are those of the trace
 
   all-places : (n : ℕ) (t : Trace (E .State)) → length (laid (t .written) (zeros n)) ≡ n
   all-places n t = length-laid (t .written) (zeros n) ∙ length-replicate n plusZero
 
-  changed-told : (n : ℕ) (t : Trace (E .State)) (c : CallOf E)
+  changed-traced : (n : ℕ) (t : Trace (E .State)) (c : CallOf E)
       → changed E c (laidOut n t) ≡ laidOut n (record { state = changed E c (laidOut n t) .state; written = added E c (laidOut n t) (t .written) })
-  changed-told n t (tick a) =
+  changed-traced n t (tick a) =
       let m = laid (t .written) (zeros n) in
       let e = laid-append (t .written) (E .writes a (t .state) m) (zeros n) in
       λ i. record { state = E .next a (t .state) m; memory = sym e i }
-  changed-told n t (retune r) = λ i. record { state = E .retuned (E .retuneSettings r (E .settings (t .state))) (t .state); memory = zeros (all-places n t i) }
-  changed-told n t reset = λ i. record { state = E .fresh (E .settings (t .state)); memory = zeros (all-places n t i) }
-  changed-told n t ask = refl
+  changed-traced n t (retune r) = λ i. record { state = E .retuned (E .retuneSettings r (E .settings (t .state))) (t .state); memory = zeros (all-places n t i) }
+  changed-traced n t reset = λ i. record { state = E .fresh (E .settings (t .state)); memory = zeros (all-places n t i) }
+  changed-traced n t ask = refl
 
   step-traced : {n : ℕ} (c : CallOf E) (t : Trace (E .State)) → InRun E n (laidOut n t) → step E c (laidOut n t) ≡ laidOut n (trace E n c t)
   step-traced {n} c t i = rw (number-is E c i refl) (go (numberFor E c n (E .settings (t .state))))
@@ -127,7 +127,7 @@ module _ (E : Effect) (laws : Laws E) where
       t' = record { state = changed E c (laidOut n t) .state; written = added E c (laidOut n t) (t .written) }
 
       go : (k : ℕ) → ifNone k (changed E c (laidOut n t)) (laidOut n t) ≡ laidOut n (ifNone k t' t)
-      go zero = changed-told n t c
+      go zero = changed-traced n t c
       go (suc k) = refl
 
   after-traced : {n : ℕ} (cs : List (CallOf E)) (t : Trace (E .State)) → InRun E n (laidOut n t) → after E cs (laidOut n t) ≡ laidOut n (tracedFrom E n cs t)

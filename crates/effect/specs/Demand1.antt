@@ -1,4 +1,4 @@
--- Demand 1 of document 01, for any effect: what any list of calls after an accepted start leaves, refused calls included, whatever the memory held
+-- Demand 1 (docs/DEMANDS.md), clean memory, for any effect: what any list of calls after an accepted start leaves, refused calls included, whatever the memory held
 -- before the start. Definitions only. Assumes nothing.
 use Prim.Native.Nat.{ℕ, _≤_, _<_}
 use mathlib.Core.Path.{_≡_}
@@ -32,7 +32,7 @@ initial E x = start E (x .handed) (x .memory)
 pub record Demand1 (E : Effect) : Type 0 where
   -- ---- what a run leaves
 
-  -- State and memory are told by the arguments: every place, spare ones too, is as the writes of the accepted ticks since the last clearing leave it,
+  -- State and memory are those of the run's trace, which reads the arguments: every place, spare ones too, is as the writes of the accepted ticks since the last clearing leave it,
   -- laid in order over +0.
   pub memory : (x : Run E) → final E x ≡ laidOut (length (x .memory)) (traced E (x .handed) (length (x .memory)) (x .calls))
   -- a clearing leaves +0 in every place

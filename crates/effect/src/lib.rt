@@ -41,7 +41,7 @@ pub fn check_state(fits: bool, others: Outcome) -> Outcome
     Outcome::Refused(Refusal::State)
 }
 
-// The places needed, as a controller is told them: 2^64 - 1 for a refused rate, which is known by its 0 places.
+// The places needed, as a controller is answered: 2^64 - 1 for a refused rate, which is known by its 0 places.
 pub fn places_or_none(needed: u64) -> u64
     ensures { λ r. ⌜ r ≡ placesOrNone needed ⌝ }
 {

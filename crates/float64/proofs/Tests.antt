@@ -16,15 +16,6 @@ use Rattle.float64.specs.Number.{plusZero}
 pub clash : {A : Type 0} {b : Bool} → b ≡ true → b ≡ false → A
 clash p q = absurd (subst T (sym p ∙ q) tt)
 
--- not above -1: nothing is left of it
-pub whole-low : (x : Float) → Ieee.lt (Ieee.neg (Ieee.ofBits binary64 0x3ff0_0000_0000_0000)) x ≡ false → Ieee.toUnsigned 64 x ≡ 0
-unfolding Ieee.lt Ieee.neg Ieee.ofBits Ieee.toUnsigned
-whole-low nan h = refl
-whole-low (inf true) h = refl
-whole-low (inf false) h = clash refl h
-whole-low (fin true m e) h = refl
-whole-low (fin false m e) h = clash (lt-ltb 0 (1 * 1 * down e + m * up e * 1) (let p : 0 < down e = down-pos e in omega arith)) h
-
 -- 2 ^ 64 or more: held to the largest
 pub whole-high : (x : Float) → Ieee.lt (Ieee.neg (Ieee.ofBits binary64 0x3ff0_0000_0000_0000)) x ≡ true → Ieee.lt x (Ieee.ofBits binary64 0x43f0_0000_0000_0000) ≡ false → Ieee.toUnsigned 64 x ≡ 18446744073709551615
 unfolding Ieee.lt Ieee.neg Ieee.ofBits Ieee.toUnsigned

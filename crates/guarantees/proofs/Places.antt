@@ -1,4 +1,4 @@
--- What a controller is told is what a start asks, effect by effect. Assumes nothing.
+-- What a controller is answered is what a start asks, effect by effect. Assumes nothing.
 use Prim.Native.Nat.{ℕ, _≤_}
 use native.Mathlib.Omega.{arith}
 use mathlib.Core.Path.{_≡_, refl, _∙_}

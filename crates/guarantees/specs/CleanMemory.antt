@@ -1,4 +1,4 @@
--- Demand 1 of document 01: clean memory, for each effect. What `Demand1` says is in effect/specs/Demand1.antt: of any list of calls after an accepted start,
+-- Demand 1 (docs/DEMANDS.md): clean memory, for each effect. What `Demand1` says is in effect/specs/Demand1.antt: of any list of calls after an accepted start,
 -- refused ones included, whatever the memory held before. Definitions only. Assumes nothing.
 use Rattle.effect.specs.Demand1.{Demand1}
 use Rattle.delay_line.specs.DelayLine.{delayLine}

@@ -1,4 +1,4 @@
--- The places needed that a controller is told, by an effect's number, are those that a start of the effect asks: with settings that are accepted it refuses,
+-- The places needed that a controller is answered, by an effect's number, are those that a start of the effect asks: with settings that are accepted it refuses,
 -- with 3, just the memories that have fewer. A refused rate and another number give 2 ^ 64 − 1. Definitions only. Assumes nothing.
 use Prim.Native.Nat.{ℕ, _≤_}
 use mathlib.Core.Path.{_≡_}
@@ -16,7 +16,7 @@ use Rattle.tremolo.specs.Tremolo.{tremolo}
 use Rattle.reverb.specs.Reverb.{reverb}
 use Rattle.room_effects.specs.Needed.{neededBy}
 
--- `told` is what the controller is told for a start that is handed x
+-- `needed` is what the controller is answered for a start that is handed x
 pub record Asks (E : Effect) (needed : E .Start → ℕ) : Type 0 where
   pub accepted : (x : E .Start) (n : ℕ) → E .settingsNumber (E .startSettings x) ≡ 0 → startNumber E x n ≡ memoryNumber (needed x) n
 

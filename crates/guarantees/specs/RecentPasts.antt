@@ -1,4 +1,4 @@
--- Demand 3 of document 01, 'Recent pasts': lines are their recent pasts, for two choruses and for two vibratos.
+-- Demand 3 (docs/DEMANDS.md), with the terms of document 01, 'Recent pasts': lines are their recent pasts, for two choruses and for two vibratos.
 --
 -- x and y are any two whole runs: an accepted start in memory of its own, whatever that held and of any length, and then any list of ticks, retunes, resets
 -- and silent questions, refused ones among them (`Run`, effect/specs/Run.antt). `Demand3` (effect/specs/Demand3.antt) says of them: each line, read newest to
