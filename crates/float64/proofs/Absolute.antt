@@ -13,7 +13,7 @@ use borrow.Author.Tests.{ltb-false}
 use Rattle.float64.specs.Number.{plusZero, absolute}
 use Rattle.float64.proofs.Units.{one, cap, one-pos, cap-pos, sign, mag, mag-cross, mag-rep, mag-lt}
 use Rattle.float64.proofs.Round.{difference-exact}
-use Rattle.float64.proofs.Keys.{moved, sub-at}
+use Rattle.float64.proofs.Keys.{rekeyed, sub-at}
 use Rattle.float64.proofs.Order.{plusZero-at, sign-size}
 use Rattle.float64.proofs.Same.{same-key}
 use Rattle.float64.proofs.Tests.{clash}
@@ -49,9 +49,9 @@ turned m e a b =
     let y = fin false (suc m) e in
     let n = mag B y in
     let l : n < cap B = mag-lt B y b tt in
-    let x' = moved (sign-size B (fin true (suc m) e) a tt) (ap (λ (k : ℕ). cap B - k) (mag-sign B (suc m) e)) in
+    let x' = rekeyed (sign-size B (fin true (suc m) e) a tt) (ap (λ (k : ℕ). cap B - k) (mag-sign B (suc m) e)) in
     let r = sub-at (plusZero-at B) x' (omega (arith, cap-pos B), omega (arith, cap-pos B)) (omega arith, omega arith) in
-    same-key (moved r (difference-exact B (cap B + 0) (cap B - n) n (mag-rep B y b tt) l (omega arith))) (sign-size B y b tt) (mag-pos B false m e b) l
+    same-key (rekeyed r (difference-exact B (cap B + 0) (cap B - n) n (mag-rep B y b tt) l (omega arith))) (sign-size B y b tt) (mag-pos B false m e b) l
 
 pub not-above : (x : Float) → T (fits binary64 x) → lt plusZero x ≡ false → sub binary64 plusZero x ≡ absolute x
 unfolding lt sub fits

@@ -12,7 +12,7 @@ use Rattle.float64.proofs.Tests.{clash, both}
 use Rattle.float64.proofs.Ranges.{yes}
 use Rattle.float64.proofs.Units.{one, cap, one-pos, key}
 use Rattle.float64.proofs.Round.{whole-lt}
-use Rattle.float64.proofs.Keys.{at, moved, of-le, le-num-l, ofInt-at}
+use Rattle.float64.proofs.Keys.{at, rekeyed, of-le, le-num-l, ofInt-at}
 use Rattle.float64.proofs.Same.{same-key}
 
 or-right : (a b : Bool) → b ≡ true → T (a || b)
@@ -56,4 +56,4 @@ equal-whole x n f p w h =
     let x' = at binary64 x f (le-num-l x (ofNat n) l) in
     let y' = ofInt-at binary64 n w in
     let e : key binary64 x ≡ cap binary64 + n * one binary64 = omega (arith, of-le x' y' l, of-le y' x' (at-most (ofNat n) x (eq-swaps x (ofNat n) h))) in
-    same-key (moved x' e) y' (mul-pos p (one-pos binary64)) (whole-lt binary64 n w)
+    same-key (rekeyed x' e) y' (mul-pos p (one-pos binary64)) (whole-lt binary64 n w)

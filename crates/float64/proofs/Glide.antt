@@ -12,7 +12,7 @@ use Rattle.float64.specs.Number.{ofNat, coefficientFits}
 use Rattle.float64.proofs.Units.{one, cap, one-pos, cap-pos, Rep}
 use Rattle.float64.proofs.Round.{rounded, rounded-exact, rounded-le, rounded-rep, rounded-units-mono, difference-le, difference-ge, difference-pos, difference-neg, rep-whole, whole-lt}
 use Rattle.float64.proofs.Near.{rep-sub, no-overshoot}
-use Rattle.float64.proofs.Keys.{At, moved, le-of, le-of-size, size-of-le, add-at, sub-at, mul-at, ofInt-at, rep-at}
+use Rattle.float64.proofs.Keys.{At, rekeyed, le-of, le-of-size, size-of-le, add-at, sub-at, mul-at, ofInt-at, rep-at}
 use Rattle.float64.proofs.Order.{size-of}
 use Rattle.float64.proofs.Interval.{In, box, in-finite}
 use Rattle.float64.proofs.Ranges.{unit-in}
@@ -59,13 +59,13 @@ module _ (M U D C : ℕ) (t d c : Float) (hM : suc M ≤ 2 ^ 52) (t-at : At bina
       let E = rounded B (D - U) o in
       let E-le : E ≤ M * o = rounded-le B (D - U) o (M * o) (one-pos B) end-rep end-lt (mul-le-mul-right o (le-trans (sub-le D U) d-hi)) in
       let E-lt : E < K = lt-of-le-of-lt E-le end-lt in
-      let s' : At B (sub B d t) (K + E) = moved (sub-at d-at t-at (above D d-lt) (above U t-lt)) (difference-pos B (K + D) (K + U) (omega arith) ∙ ap (λ (z : ℕ). K + rounded B z o) (shift K D U)) in
+      let s' : At B (sub B d t) (K + E) = rekeyed (sub-at d-at t-at (above D d-lt) (above U t-lt)) (difference-pos B (K + D) (K + U) (omega arith) ∙ ap (λ (z : ℕ). K + rounded B z o) (shift K D U)) in
       let m = rounded B (E * C) (o * o) in
       let m-le : m ≤ E = part-le E C (rounded-rep B (D - U) o E-lt) E-lt c-hi in
       let m-lt : m < K = lt-of-le-of-lt m-le E-lt in
       let m' : At B (mul B (sub B d t) c) (K + m) = mul-at false false E C s' c-at E-lt c-lt in
       let r' : At B (add B t (mul B (sub B d t) c)) (K + rounded B (U + m) o) =
-      moved (add-at t-at m' (above U t-lt) (above m m-lt)) (difference-pos B (K + U + (K + m)) (K + K) (omega arith) ∙ ap (λ (z : ℕ). K + rounded B z o) (apart K U m)) in
+      rekeyed (add-at t-at m' (above U t-lt) (above m m-lt)) (difference-pos B (K + U + (K + m)) (K + K) (omega arith) ∙ ap (λ (z : ℕ). K + rounded B z o) (apart K U m)) in
       let top : E ≤ rounded B (M * o - U) o = rounded-units-mono B (D - U) (M * o - U) (omega arith) in
       let high : rounded B (U + m) o ≤ M * o = le-trans (rounded-units-mono B (U + m) (U + rounded B (M * o - U) o) (omega arith)) (no-overshoot B M hM U t-hi) in
       let low : o ≤ rounded B (U + m) o = le-trans (le-of-eq (sym (rounded-exact B o one-rep one-lt))) (rounded-units-mono B o (U + m) (omega arith)) in
@@ -85,7 +85,7 @@ module _ (M U D C : ℕ) (t d c : Float) (hM : suc M ≤ 2 ^ 52) (t-at : At bina
       let L-lt : U - 1 * o < K = lt-of-le-of-lt (sub-le U (1 * o)) t-lt in
       let E-le : E ≤ U - 1 * o = rounded-le B (U - D) o (U - 1 * o) (one-pos B) L-rep L-lt (mul-le-mul-right o (omega arith)) in
       let E-lt : E < K = lt-of-le-of-lt E-le L-lt in
-      let s' : At B (sub B d t) (K - E) = moved (sub-at d-at t-at (above D d-lt) (above U t-lt)) (difference-neg B (K + D) (K + U) (omega arith) ∙ ap (λ (z : ℕ). K - rounded B z o) (shift K U D)) in
+      let s' : At B (sub B d t) (K - E) = rekeyed (sub-at d-at t-at (above D d-lt) (above U t-lt)) (difference-neg B (K + D) (K + U) (omega arith) ∙ ap (λ (z : ℕ). K - rounded B z o) (shift K U D)) in
       let m = rounded B (E * C) (o * o) in
       let m-le : m ≤ E = part-le E C (rounded-rep B (U - D) o E-lt) E-lt c-hi in
       let m-lt : m < K = lt-of-le-of-lt m-le E-lt in

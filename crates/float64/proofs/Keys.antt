@@ -23,8 +23,8 @@ pub record At (f : Format) (x : Float) (k : ℕ) : Type 0 where
 pub at : (f : Format) (x : Float) → T (fits f x) → T (not (isNan x)) → At f x (key f x)
 at f x a b = record { fit = a; num = b; is = refl }
 
-pub moved : {f : Format} {x : Float} {j k : ℕ} → At f x j → j ≡ k → At f x k
-moved a e = record { fit = a .fit; num = a .num; is = a .is ∙ e }
+pub rekeyed : {f : Format} {x : Float} {j k : ℕ} → At f x j → j ≡ k → At f x k
+rekeyed a e = record { fit = a .fit; num = a .num; is = a .is ∙ e }
 
 pub round-at : (f : Format) (s : Bool) (a c : ℕ) → At f (round f s a c) (signed (cap f) s (rounded f a c))
 round-at f s a c = record { fit = round-fits f s a c; num = round-num f s a c; is = round-key f s a c }
@@ -126,31 +126,31 @@ le-over o c a b X Y C h k l = le-of-mul-le-mul-right (le-trans (le-of-eq (sym h)
 module _ (f : Format) (a b c X Y : ℕ) (C : 0 < c) (h : a * one f ≡ X * c) (k : b * one f ≡ Y * c) (x : X < cap f) (y : Y < cap f) where
   sum-at : (s t : Bool) → At f (sum f s a t b c) (difference f (signed (cap f) s X + signed (cap f) t Y) (cap f + cap f))
   unfolding sum
-  sum-at false false = moved (round-at f false (a + b) c) (ap (λ (z : ℕ). cap f + z) (plus f a b c X Y C h k x y) ∙ sym (pos-is f (cap f + X + (cap f + Y)) (cap f + cap f) (X + Y) (omega arith)))
-  sum-at true true = moved (round-at f true (a + b) c) (ap (λ (z : ℕ). cap f - z) (plus f a b c X Y C h k x y) ∙ sym (neg-is f (cap f - X + (cap f - Y)) (cap f + cap f) (X + Y) (omega arith)))
+  sum-at false false = rekeyed (round-at f false (a + b) c) (ap (λ (z : ℕ). cap f + z) (plus f a b c X Y C h k x y) ∙ sym (pos-is f (cap f + X + (cap f + Y)) (cap f + cap f) (X + Y) (omega arith)))
+  sum-at true true = rekeyed (round-at f true (a + b) c) (ap (λ (z : ℕ). cap f - z) (plus f a b c X Y C h k x y) ∙ sym (neg-is f (cap f - X + (cap f - Y)) (cap f + cap f) (X + Y) (omega arith)))
   sum-at false true = go (ltb a b) (ltb→lt a b) (nltb→le a b)
     where
       go : (t : Bool) → (T t → a < b) → (T (not t) → b ≤ a) → At f (cond t (round f true (b - a) c) (round f false (a - b) c)) (difference f (cap f + X + (cap f - Y)) (cap f + cap f))
       go true p q =
           let l = lt-over (one f) c a b X Y (one-pos f) h k (p tt) in
-          moved (round-at f true (b - a) c) (ap (λ (z : ℕ). cap f - z) (less f b a c Y X C k h) ∙ sym (neg-is f (cap f + X + (cap f - Y)) (cap f + cap f) (Y - X) (omega arith)))
+          rekeyed (round-at f true (b - a) c) (ap (λ (z : ℕ). cap f - z) (less f b a c Y X C k h) ∙ sym (neg-is f (cap f + X + (cap f - Y)) (cap f + cap f) (Y - X) (omega arith)))
       go false p q =
           let l = le-over (one f) c b a Y X C k h (q tt) in
-          moved (round-at f false (a - b) c) (ap (λ (z : ℕ). cap f + z) (less f a b c X Y C h k) ∙ sym (pos-is f (cap f + X + (cap f - Y)) (cap f + cap f) (X - Y) (omega arith)))
+          rekeyed (round-at f false (a - b) c) (ap (λ (z : ℕ). cap f + z) (less f a b c X Y C h k) ∙ sym (pos-is f (cap f + X + (cap f - Y)) (cap f + cap f) (X - Y) (omega arith)))
   sum-at true false = go (ltb a b) (ltb b a) (ltb→lt a b) (nltb→le a b) (nltb→le b a)
     where
       go : (t u : Bool) → (T t → a < b) → (T (not t) → b ≤ a) → (T (not u) → a ≤ b)
           → At f (cond t (round f false (b - a) c) (round f u (a - b) c)) (difference f (cap f - X + (cap f + Y)) (cap f + cap f))
       go true u p q r =
           let l = lt-over (one f) c a b X Y (one-pos f) h k (p tt) in
-          moved (round-at f false (b - a) c) (ap (λ (z : ℕ). cap f + z) (less f b a c Y X C k h) ∙ sym (pos-is f (cap f - X + (cap f + Y)) (cap f + cap f) (Y - X) (omega arith)))
+          rekeyed (round-at f false (b - a) c) (ap (λ (z : ℕ). cap f + z) (less f b a c Y X C k h) ∙ sym (pos-is f (cap f - X + (cap f + Y)) (cap f + cap f) (Y - X) (omega arith)))
       go false true p q r =
           let l = le-over (one f) c b a Y X C k h (q tt) in
-          moved (round-at f true (a - b) c) (ap (λ (z : ℕ). cap f - z) (less f a b c X Y C h k) ∙ sym (neg-is f (cap f - X + (cap f + Y)) (cap f + cap f) (X - Y) (omega arith)))
+          rekeyed (round-at f true (a - b) c) (ap (λ (z : ℕ). cap f - z) (less f a b c X Y C h k) ∙ sym (neg-is f (cap f - X + (cap f + Y)) (cap f + cap f) (X - Y) (omega arith)))
       go false false p q r =
           let l = le-over (one f) c b a Y X C k h (q tt) in
           let m = le-over (one f) c a b X Y C h k (r tt) in
-          moved (round-at f false (a - b) c) (ap (λ (z : ℕ). cap f + z) (less f a b c X Y C h k) ∙ sym (pos-is f (cap f - X + (cap f + Y)) (cap f + cap f) (X - Y) (omega arith)))
+          rekeyed (round-at f false (a - b) c) (ap (λ (z : ℕ). cap f + z) (less f a b c X Y C h k) ∙ sym (pos-is f (cap f - X + (cap f + Y)) (cap f + cap f) (X - Y) (omega arith)))
 
 -- a key strictly between those of the infinities is a finite value's
 abbrev pub Fin : Format → ℕ → Type 0
@@ -172,7 +172,7 @@ add-fin f (fin s m e) (fin t n d) a b p q u v =
 
 pub add-at : {f : Format} {x y : Float} {j k : ℕ} → At f x j → At f y k → Fin f j → Fin f k → At f (add f x y) (difference f (j + k) (cap f + cap f))
 add-at {f} {x} {y} {j} {k} a b p q =
-    moved (add-fin f x y (a .fit) (b .fit) (a .num) (b .num) (subst (Fin f) (sym (a .is)) p) (subst (Fin f) (sym (b .is)) q))
+    rekeyed (add-fin f x y (a .fit) (b .fit) (a .num) (b .num) (subst (Fin f) (sym (a .is)) p) (subst (Fin f) (sym (b .is)) q))
     (ap (λ (z : ℕ). difference f (z + key f y) (cap f + cap f)) (a .is) ∙ ap (λ (z : ℕ). difference f (j + z) (cap f + cap f)) (b .is))
 
 -- ---- the negation, and a difference
@@ -192,7 +192,7 @@ neg-at {f} {x} a =
 
 pub sub-at : {f : Format} {x y : Float} {j k : ℕ} → At f x j → At f y k → Fin f j → Fin f k → At f (sub f x y) (difference f j k)
 unfolding sub
-sub-at {f} {x} {y} {j} {k} a b p q = moved (add-at a (neg-at b) p (omega arith, omega arith)) (difference-same f (j + (cap f + cap f - k)) (cap f + cap f) j k (omega arith))
+sub-at {f} {x} {y} {j} {k} a b p q = rekeyed (add-at a (neg-at b) p (omega arith, omega arith)) (difference-same f (j + (cap f + cap f - k)) (cap f + cap f) j k (omega arith))
 
 -- ---- a product, and a quotient
 pub same-size : (c X a : ℕ) (s t : Bool) → X < c → a < c → signed c s X ≡ signed c t a → X ≡ a
@@ -247,7 +247,7 @@ mul-fin f (fin s' m e) (fin t' n d) s t a b x' y' p q u v =
     ∙ ap (λ (z : ℕ). rounded f (z * Y) (one f * one f)) ea ∙ ap (λ (z : ℕ). rounded f (a * z) (one f * one f)) eb in
     let za : a ≡ 0 → G ≡ 0 = λ z. ap (λ (w : ℕ). rounded f (w * b) (one f * one f)) z ∙ ap (λ (w : ℕ). rounded f w (one f * one f)) (zero-mul b) ∙ rounded-zero f (one f * one f) P in
     let zb : b ≡ 0 → G ≡ 0 = λ z. ap (λ (w : ℕ). rounded f (a * w) (one f * one f)) z ∙ ap (λ (w : ℕ). rounded f w (one f * one f)) (mul-zero a) ∙ rounded-zero f (one f * one f) P in
-    moved (round-at f (unlike s' t') (m * up e * (n * up d)) (down e * down d))
+    rekeyed (round-at f (unlike s' t') (m * up e * (n * up d)) (down e * down d))
     (ap (λ (z : ℕ). signed c (unlike s' t') z) size
     ∙ same-parts c X a G s' s (λ w. unlike w t') xl p (x' .is) za
     ∙ same-parts c Y b G t' t (λ w. unlike s w) yl q (y' .is) zb)
@@ -306,7 +306,7 @@ div-fin f (fin s' m e) (fin t' (suc n) d) s t a b x' y' p q B u v =
     let za : a ≡ 0 → G ≡ 0 = λ z. ap (λ (w : ℕ). rounded f w b) z ∙ rounded-zero f b B in
     let zb : b ≡ 0 → G ≡ 0 = λ z. absurd (ne-of-gt B z) in
     subst (λ (z : Bool). At f (cond z (cond (eqb m 0) nan (inf (unlike s' t'))) (round f (unlike s' t') (m * up e * down d) (suc n * up d * down e))) (signed c (unlike s t) G)) (sym (ne-eqb (suc n) 0 (λ z. omega arith)))
-    (moved (round-at f (unlike s' t') (m * up e * down d) (suc n * up d * down e))
+    (rekeyed (round-at f (unlike s' t') (m * up e * down d) (suc n * up d * down e))
     (ap (λ (z : ℕ). signed c (unlike s' t') z) size
     ∙ same-parts c X a G s' s (λ w. unlike w t') xl p (x' .is) za
     ∙ same-parts c Y b G t' t (λ w. unlike s w) yl q (y' .is) zb))
@@ -319,7 +319,7 @@ div-at {f} {x} {y} s t a b x' y' p q B = div-fin f x y s t a b x' y' p q B (subs
 pub ofInt-at : (f : Format) (n : ℕ) → n < 2 ^ prec f → At f (ofInt f (pos n)) (cap f + n * one f)
 unfolding ofInt
 ofInt-at f n h =
-    moved (round-at f false n 1) (ap (λ (z : ℕ). cap f + z) (rounded-same f n 1 (n * one f) (one f) (zero-lt-suc 0) (one-pos f) (sym (mul-one (n * one f))) ∙ rounded-exact f (n * one f) (rep-whole f n h) (whole-lt f n h)))
+    rekeyed (round-at f false n 1) (ap (λ (z : ℕ). cap f + z) (rounded-same f n 1 (n * one f) (one f) (zero-lt-suc 0) (one-pos f) (sym (mul-one (n * one f))) ∙ rounded-exact f (n * one f) (rep-whole f n h) (whole-lt f n h)))
 
 cut-fin : (f : Format) (w : ℕ) (x : Float) (a : ℕ) → At f x (cap f + a) → a < cap f → Fin f (key f x) → toUnsigned w x ≡ min (a / one f) (2 ^ w - 1)
 unfolding toUnsigned isNan key sign mag

@@ -12,7 +12,7 @@ use lib.Ieee.Scale.{finite}
 use Rattle.float64.specs.Number.{plusZero}
 use Rattle.float64.proofs.Units.{one, cap, one-pos, sign, mag, signed, key, mag-lt, mag-cross}
 use Rattle.float64.proofs.Round.{rounded, rounded-mono, rounded-zero, difference-mono}
-use Rattle.float64.proofs.Keys.{At, at, moved, le-of, of-le, of-nle, lt-of, of-lt, of-nlt, le-of-size, size-of-le, size-of-lt, le-num-l, le-num-r, lt-num-l, lt-num-r, Fin, inf-key, signed-fin, add-at, sub-at, mul-at, div-at, toUnsigned-at}
+use Rattle.float64.proofs.Keys.{At, at, rekeyed, le-of, of-le, of-nle, lt-of, of-lt, of-nlt, le-of-size, size-of-le, size-of-lt, le-num-l, le-num-r, lt-num-l, lt-num-r, Fin, inf-key, signed-fin, add-at, sub-at, mul-at, div-at, toUnsigned-at}
 
 -- ---- the order
 module _ (f : Format) where
@@ -96,7 +96,7 @@ plusZero-fits f = tt
 pub plusZero-at : (f : Format) → At f plusZero (cap f + 0)
 unfolding sign
 plusZero-at f =
-    moved (sign-size f plusZero (plusZero-fits f) tt)
+    rekeyed (sign-size f plusZero (plusZero-fits f) tt)
     (ap (λ (n : ℕ). cap f + n) (eq-of-mul-eq-mul-right 1 (pow-pos 0) (mag f plusZero) 0 (sym (mag-cross f false 0 (pos 0) (plusZero-fits f)) ∙ zero-mul (one f))))
 
 pub size-of : (f : Format) (x : Float) → T (fits f x) → T (finite x) → T (le plusZero x) → (n : ℕ) × (n < cap f) × At f x (cap f + n)
@@ -105,7 +105,7 @@ size-of f x a p h =
     let l = of-le (plusZero-at f) x' h in
     let k = finite-key f x a p in
     let e : key f x ≡ cap f + (key f x - cap f) = omega arith in
-    (key f x - cap f, omega (arith, k .1), moved x' e)
+    (key f x - cap f, omega (arith, k .1), rekeyed x' e)
 
 -- ---- the operations
 signed-mono : (c X Y G H : ℕ) (s t : Bool) → signed c s X ≤ signed c t Y → (X ≤ Y → G ≤ H) → (Y ≤ X → H ≤ G) → (X ≡ 0 → G ≡ 0) → (Y ≡ 0 → H ≡ 0) → X < c → Y < c → signed c s G ≤ signed c t H
@@ -180,7 +180,7 @@ module _ (f : Format) where
       let v = mul-at (sign b) false B C b' (n .2) (mag-lt f b y q) (n .1) in
       let mono : (X Y : ℕ) → X ≤ Y → rounded f (X * C) o ≤ rounded f (Y * C) o = λ X Y w. rounded-mono f (X * C) o (Y * C) o O O (mul-le-mul-right o (mul-le-mul-right C w)) in
       let none : (X : ℕ) → X ≡ 0 → rounded f (X * C) o ≡ 0 = λ X w. ap (λ (i : ℕ). rounded f (i * C) o) w ∙ ap (λ (i : ℕ). rounded f i o) (zero-mul C) ∙ rounded-zero f o O in
-      le-of (moved u (ap (λ (i : Bool). signed (cap f) i (rounded f (A * C) o)) (unlike-false (sign a)))) (moved v (ap (λ (i : Bool). signed (cap f) i (rounded f (B * C) o)) (unlike-false (sign b))))
+      le-of (rekeyed u (ap (λ (i : Bool). signed (cap f) i (rounded f (A * C) o)) (unlike-false (sign a)))) (rekeyed v (ap (λ (i : Bool). signed (cap f) i (rounded f (B * C) o)) (unlike-false (sign b))))
       (signed-mono (cap f) A B (rounded f (A * C) o) (rounded f (B * C) o) (sign a) (sign b) (of-le a' b' l) (mono A B) (mono B A) (none A) (none B) (mag-lt f a x p) (mag-lt f b y q))
 
   -- 0 ≤ a ≤ b, cut to whole numbers

@@ -15,7 +15,7 @@ use lib.Ieee.Nearest.{div-same}
 use Rattle.float64.specs.Number.{plusZero, ofNat, half, wholePart, fractionPart, roundHalfAway}
 use Rattle.float64.proofs.Units.{one, cap, one-pos, sign, mag, Rep, mag-cross, fits-small}
 use Rattle.float64.proofs.Round.{rounded-same, rounded-exact}
-use Rattle.float64.proofs.Keys.{At, moved, le-of, of-nle, size-of-le, size-of-lt, round-at, ofInt-at}
+use Rattle.float64.proofs.Keys.{At, rekeyed, le-of, of-nle, size-of-le, size-of-lt, round-at, ofInt-at}
 use Rattle.float64.proofs.Order.{plusZero-at, sign-size, sub-mono, le-transitive}
 use Rattle.float64.proofs.Ranges.{yes, no}
 use Rattle.float64.proofs.Wholes.{one-lt, whole-le, whole-is, fraction-at}
@@ -43,7 +43,7 @@ half-units =
     let e : one binary64 ≡ h * 2 = pow-suc 2 1073 in
     let r : Rep binary64 h = record { q = 1; j = 1073; small = lit< tt; is = sym (one-mul h) } in
     let l : h < cap binary64 = lt-of-le-of-lt (le-trans (le-mul-of-pos-right h (zero-lt-suc 1)) (le-of-eq (sym e))) one-lt in
-    (h, e, moved (round-at binary64 false 1 2) (ap (λ (n : ℕ). cap binary64 + n) (rounded-same binary64 1 2 h (one binary64) (lit< tt) (one-pos binary64) (one-mul (one binary64) ∙ e) ∙ rounded-exact binary64 h r l)))
+    (h, e, rekeyed (round-at binary64 false 1 2) (ap (λ (n : ℕ). cap binary64 + n) (rounded-same binary64 1 2 h (one binary64) (lit< tt) (one-pos binary64) (one-mul (one binary64) ∙ e) ∙ rounded-exact binary64 h r l)))
 
 -- ---- below 2 ^ 52, and not below 0: n units
 module _ (m : ℕ) (e : ℤ) (a : T (fits binary64 (fin false m e))) (l : lt (fin false m e) (ofNat 4503599627370496) ≡ true) where

@@ -10,12 +10,12 @@ use Rattle.float64.specs.Number.{ofNat, wholePart, fractionPart}
 use Rattle.float64.proofs.Units.{one, cap, one-pos, key, Rep}
 use Rattle.float64.proofs.Round.{difference-exact, rep-whole, whole-lt}
 use Rattle.float64.proofs.Near.{rep-sub}
-use Rattle.float64.proofs.Keys.{At, at, moved, Fin, of-le, le-num-r, sub-at, ofInt-at, toUnsigned-at, rep-at}
+use Rattle.float64.proofs.Keys.{At, at, rekeyed, Fin, of-le, le-num-r, sub-at, ofInt-at, toUnsigned-at, rep-at}
 use Rattle.float64.proofs.Interval.{In}
 
 -- ---- 1
 pub one-at : At binary64 (ofNat 1) (cap binary64 + one binary64)
-one-at = moved (ofInt-at binary64 1 (lit< tt)) (ap (λ (n : ℕ). cap binary64 + n) (one-mul (one binary64)))
+one-at = rekeyed (ofInt-at binary64 1 (lit< tt)) (ap (λ (n : ℕ). cap binary64 + n) (one-mul (one binary64)))
 
 pub one-rep : Rep binary64 (one binary64)
 one-rep = subst (Rep binary64) (one-mul (one binary64)) (rep-whole binary64 1 (lit< tt))
@@ -42,7 +42,7 @@ count M {x} h i =
     let l = of-le one-at x' (i .lower) in
     let u = of-le x' (ofInt-at binary64 M h) (i .upper) in
     let e : k ≡ c + (k - c) = omega arith in
-    record { n = k - c; low = omega arith; high = omega arith; place = moved x' e }
+    record { n = k - c; low = omega arith; high = omega arith; place = rekeyed x' e }
 
 -- ---- the whole part and the fraction of a value with n units, up to a whole number M
 module _ {x : Float} {n : ℕ} (M : ℕ) (w : M < 2 ^ 53) (h : n ≤ M * one binary64) (a : At binary64 x (cap binary64 + n)) where
@@ -66,4 +66,4 @@ module _ {x : Float} {n : ℕ} (M : ℕ) (w : M < 2 ^ 53) (h : n ≤ M * one bin
       let rep : Rep binary64 (n % o) = subst (Rep binary64) r (rep-sub binary64 n d (rep-at a below-cap) (lt-of-le-of-lt h (mul-lt-mul-of-pos-right w (one-pos binary64)))) in
       let lt : n % o < c = omega (arith, below-cap) in
       subst (λ (k : ℕ). At binary64 (sub binary64 x (ofNat k)) (c + n % o)) (sym whole-is)
-      (moved (sub-at a (ofInt-at binary64 d d-wide) (above n below-cap) (above (d * o) (whole-lt binary64 d d-wide))) (difference-exact binary64 (c + n) (c + d * o) (n % o) rep lt (omega arith)))
+      (rekeyed (sub-at a (ofInt-at binary64 d d-wide) (above n below-cap) (above (d * o) (whole-lt binary64 d d-wide))) (difference-exact binary64 (c + n) (c + d * o) (n % o) rep lt (omega arith)))

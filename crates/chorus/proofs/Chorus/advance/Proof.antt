@@ -145,8 +145,8 @@ returns c =
     let first = second .before .before .before in
     let amount = first .before .before in
     let audio = amount .before in
-    let moved = audio .before in
-    let s = moved .before .before in
+    let stepped = audio .before in
+    let s = stepped .before .before in
     let a = s .args in
     let n = a .n in
     let m = a .mem .now in
@@ -157,7 +157,7 @@ returns c =
     let d0 = voice-is t (a .self) m e 0 n 0 (a .sine0) refl (omega arith) (omega (arith, room s)) (inside s) d (first .voice .ensures) in
     let d1 = voice-is t (a .self) m e 1 (n + n - n) n (a .sine1) (omega arith) (omega arith) (omega (arith, room s)) (inside s) d (second .voice2 .ensures) in
     let d2 = voice-is t (a .self) m e 2 (n + n + n - (n + n)) (n + n) (a .sine2) (omega arith) (omega arith) (room s) (inside s) d (third .voice3 .ensures) in
-    let next = moved .next .ensures in
+    let next = stepped .next .ensures in
     accepts chorus (tick t) (a .self) m (s .pre .1)
     (next-is t (a .self) m e (next .0) (next .1 .0) (next .1 .1))
     (stored-is t (a .self) m e x)

@@ -116,8 +116,8 @@ returns c =
     let fed = mixed .before in
     let amount = fed .before in
     let audio = amount .before in
-    let moved = audio .before in
-    let s = moved .before .before in
+    let stepped = audio .before in
+    let s = stepped .before .before in
     let a = s .args in
     let n = a .n in
     let m = a .mem .now in
@@ -126,7 +126,7 @@ returns c =
     let x = audio .sanitize-audio .ensures in
     let d0 = tap-is t (a .self) m e 0 n 0 (a .sine0) refl (omega arith) (omega (arith, room s)) (inside s) (amount .clamp .ensures) (left .tap .ensures) in
     let d1 = tap-is t (a .self) m e 1 (n + n - n) n (a .sine1) (omega arith) (omega arith) (room s) (inside s) (amount .clamp .ensures) (right .tap2 .ensures) in
-    let next = moved .next .ensures in
+    let next = stepped .next .ensures in
     accepts flanger (tick t) (a .self) m (s .pre .1)
     (next-is t (a .self) m e (next .0) (next .1 .0) (next .1 .1))
     (stored-is t (a .self) m e x d0 d1 (fed .clamp2 .ensures))

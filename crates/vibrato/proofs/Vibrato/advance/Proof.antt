@@ -86,13 +86,13 @@ returns c =
     let far = read .before .before in
     let mixed = far .before in
     let amount = mixed .before in
-    let moved = amount .before in
-    let s = moved .before .before in
+    let stepped = amount .before in
+    let s = stepped .before .before in
     let a = s .args in
     let m = a .mem .now in
     let t = handed s in
     let e = s .pre .0 in
-    let next = moved .next .ensures in
+    let next = stepped .next .ensures in
     let delayed = delayed-is t (a .self) m e (room s) (inside s) (amount .clamp .ensures) (far .distance .ensures) (read .read-interpolated .ensures) in
     accepts vibrato (tick t) (a .self) m (s .pre .1)
     (next-is t (a .self) m e (next .0) (next .1 .0) (next .1 .1))
