@@ -29,7 +29,7 @@
  *   1  the sample rate is NaN or outside 8,000 to 192,000
  *   2  the glide coefficient is NaN, below 0, or 1 or more (delay only)
  *   3  the memory has fewer places than the effect needs at its rate, for a retune at the new one (effects with lines)
- *   4  the state is not one that a start could lead to
+ *   4  a field of the state is outside what its struct's comments say
  *   5  a control that this tick reads is set and is NaN
  *   6  a curve number is NaN, a sine is outside -1 to 1, or a frequency is outside 0 to 32
  *
@@ -84,7 +84,7 @@
  *
  * The library holds no memory, no state and no lock of its own: the archive has no section that can be written, and everything
  * is in what a call is handed. So calls may be made in any thread and at the same time, as long as no two of them at a time
- * are of the same unit. No call waits, allocates or calls the system. One that is cut off before it returns may have written
+ * are of the same unit; a unit that goes from one thread to another needs the host's own synchronisation. No call waits, allocates or calls the system. One that is cut off before it returns may have written
  * part of its state and places; its unit is then started anew.
  *
  * By the frames of the compiled functions a call takes at most 632 bytes of stack (the reverb's retune; its other calls at most
@@ -93,8 +93,10 @@
  *
  * What calls cost
  *
- * A tick takes the same time however long the lines are, some 5 ns (tremolo) to 35 ns (reverb at 48,000) on an AMD EPYC, longer
- * where a swept delay is read outside the caches. Start, retune and reset write all places that are lent, at memset's speed;
+ * A tick takes some 5 ns (tremolo) to 35 ns (reverb at 44,100 to 96,000) on an AMD EPYC, whatever the length of the lines, but
+ * for two. The reverb takes 48 ns at rates whose lengths are not at hand (at hand are 44,100, 48,000, 88,200, 96,000, 176,400
+ * and 192,000), and 80 ns at 192,000, where its combs fall into one set of the cache. A delay whose time is swept over a line
+ * that no cache holds takes up to 100 ns. Start, retune and reset write all places that are lent, at memset's speed;
  * silent reads the places in use, up to the first part of 512 that sounds. Seen there: reset 6.5 us for the reverb, 1.3 to 2 ms
  * for a delay of 60 s at 192,000; silent, of a unit that is, 4.6 us and 2.7 to 3.4 ms. A sample at 192,000 lasts 5.2 us: these
  * calls belong between takes. docs/BENCHMARKS.md has more.
@@ -109,6 +111,7 @@
 #define ROOM_EFFECTS_H
 
 #include <stdint.h>
+#include <xmmintrin.h>
 
 /*
  * The version of this interface: MAJOR moves where a struct or a call is changed or goes, so that a host has to be looked over;
@@ -129,7 +132,7 @@ enum room_effect {
     ROOM_REVERB = 6
 };
 
-/* What a call returns: why it was refused. */
+/* What a call returns: that it was accepted, or why it was refused. */
 enum room_cause {
     ROOM_ACCEPTED = 0,
     ROOM_REFUSED_SAMPLE_RATE = 1,
@@ -141,27 +144,13 @@ enum room_cause {
 };
 
 /*
- * Whether this thread's floating-point mode is the one that calls are made in: 1 where subnormal numbers are kept, read and
- * made, and sums are rounded to the nearest, ties to even; else 0. It does not see whether exceptions are masked. All its
- * numbers are volatile, so that no compiler works the answer out beforehand, not even with -ffast-math.
+ * Whether this thread's floating-point mode is the one that calls are made in: 1 where sums are rounded to the nearest,
+ * subnormal numbers are kept, read and made, and every exception is masked; else 0. It reads the control word of the unit that
+ * the library computes with, so that no compiler option changes the answer.
  */
 static inline int room_float_mode_ok(void)
 {
-    volatile double smallest = 4.9406564584124654e-324; /* 2^-1074, the smallest subnormal */
-    volatile double normal = 2.2250738585072014e-308;   /* 2^-1022, the smallest that is not subnormal */
-    volatile double two_to_52 = 4503599627370496.0;
-    volatile double quarter = 0.25;
-    volatile double four = 4.0;
-    volatile double half_step = 1.1102230246251565e-16; /* 2^-53, half a step at 1 */
-    volatile double one = 1.0;
-    volatile double odd = 1.0000000000000002;  /* 1 + 2^-52, one step on */
-    volatile double even = 1.0000000000000004; /* 1 + 2^-51, two steps on */
-    volatile double raised = smallest * two_to_52;
-    volatile double lowered = normal * quarter;
-    volatile double back = lowered * four;
-    volatile double down = one + half_step;
-    volatile double up = odd + half_step;
-    return raised == normal && back == normal && down == one && up == even;
+    return (_mm_getcsr() & 0xffc0u) == 0x1f80u;
 }
 
 /* A port: `value`, or unset where `set` is 0. */
@@ -199,7 +188,7 @@ static inline uint32_t room_set_mask(room_port first, room_port second, room_por
 }
 
 /*
- * What the library exports. The functions further down are what a host calls; they put a struct together from these.
+ * What the library exports. The functions further down are what a host calls; they hand a struct's fields to these.
  * A state comes as its fields, by their names, a number that may change by its address; what a start or a retune is handed for
  * a field has `new_` before that name. Ports come as a mask of those that are set and their numbers; memory comes as the
  * address of its first place and the count of places. Numbers returned, and what is written on a refusal, are as said above.

@@ -122,13 +122,14 @@ impl Reverb {
         effect::check_rate(Reverb::tank_size(rate), places)
     }
 
-    // What a start, a retune or a reset returns, by the outcome of its tests: the state `next`, or `kept`.
-    fn settled(outcome: Outcome, next: Reverb, kept: Reverb) -> Cleared
-        ensures { λ r. ⌜ (r .state ≡ ifNone (numberOf outcome) next kept) × (r .outcome ≡ outcome) ⌝ }
+    // What a retune or a reset returns, by the outcome of its tests: the fresh state at the rate, or the one that was there. The
+    // fresh one is made here, as a state is large, and two of them by value would be copied.
+    fn settled(outcome: Outcome, rate: f64, kept: Reverb) -> Cleared
+        ensures { λ r. ⌜ (r .state ≡ ifNone (numberOf outcome) (fresh rate) kept) × (r .outcome ≡ outcome) ⌝ }
     {
         if let Outcome::Accepted = outcome {
             return Cleared {
-                state: next,
+                state: Reverb::fresh(rate),
                 outcome,
             };
         }
@@ -144,7 +145,15 @@ impl Reverb {
     {
         let outcome = Reverb::rate_refusal(sample_rate, mem.len());
         effect::clear(outcome, mem);
-        Reverb::settled(outcome, Reverb::fresh(sample_rate), Reverb::fresh(0.0))
+        let rate = if let Outcome::Accepted = outcome {
+            sample_rate
+        } else {
+            0.0
+        };
+        Cleared {
+            state: Reverb::fresh(rate),
+            outcome,
+        }
     }
 
     // The state test, by every line's length. The stores may hold any float.
@@ -179,7 +188,7 @@ impl Reverb {
         let others = Reverb::rate_refusal(sample_rate, mem.len());
         let outcome = effect::check_state(self.state_fits(n), others);
         effect::clear(outcome, mem);
-        Reverb::settled(outcome, Reverb::fresh(sample_rate), self)
+        Reverb::settled(outcome, sample_rate, self)
     }
 
     // Reset: a clearing at the rate in force.
@@ -189,7 +198,7 @@ impl Reverb {
         let n = tunings::scaled_lengths(self.sample_rate);
         let outcome = self.refusal(n, mem.len());
         effect::clear(outcome, mem);
-        Reverb::settled(outcome, Reverb::fresh(self.sample_rate), self)
+        Reverb::settled(outcome, self.sample_rate, self)
     }
 
     // Silent? Whether every place in use is +0 or -0.

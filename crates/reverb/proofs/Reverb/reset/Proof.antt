@@ -1,8 +1,7 @@
 -- `Reverb::reset` is the reset of `reverb`: causes 4 and 3, or a clearing and the fresh state. Assumes nothing.
-use mathlib.Core.Path.{refl, _∙_}
+use mathlib.Core.Path.{refl}
 use borrow.Author.Needs.{needs}
-use Rattle.port.specs.Answer.{numberOf}
-use Rattle.effect.specs.Run.{reset, ifNone}
+use Rattle.effect.specs.Run.{reset}
 use Rattle.effect.proofs.Contract.{clears}
 use Rattle.reverb.specs.Reverb.{reverb}
 use Rattle.reverb.proofs.Reverb.reset.Statement.{statement}
@@ -10,14 +9,14 @@ use Rattle.reverb.proofs.Reverb.reset.Tie as tie
 
 returns : tie.Need-returns
 returns c =
-    let filled = c .before .before .before .before in
+    let filled = c .before .before .before in
     let tested = filled .before .before in
     let a = tested .before .before .before .args in
     let outcome = tested .refusal .result in
     clears reverb reset (a .self) (a .mem .now) outcome (tested .refusal .ensures) refl
-    (c .settled .ensures .0 ∙ (λ i. ifNone (numberOf outcome) (c .before .fresh .ensures i) (a .self)))
+    (c .settled .ensures .0)
     (filled .clear .ensures)
     (c .settled .ensures .1)
 
 pub reset-spec : {M : Type 1} → statement M
-reset-spec = tie.close (tie.spec (search needs) (λ c κs. search needs) (search needs) (search needs) (search needs) (search needs) returns)
+reset-spec = tie.close (tie.spec (search needs) (λ c κs. search needs) (search needs) (search needs) (search needs) returns)
