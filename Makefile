@@ -32,8 +32,9 @@ bench: kit
 
 # kit.txt has the kit that the proofs were last checked with. Another may prove the same, but nobody has seen it.
 kit:
-	@is=$$(rt version 2>/dev/null) && test "$$is" != "$$(cat kit.txt)" && \
-		echo "warning: this kit is '$$is'; the proofs were last checked with '$$(cat kit.txt)'" || true
+	@is=$$(rt version 2>/dev/null) || { echo "warning: there is no rt on the PATH"; exit 0; }; \
+		test "$$is" = "$$(cat kit.txt)" || \
+		echo "warning: this kit is '$$is'; the proofs were last checked with '$$(cat kit.txt)'"
 
 clean:
 	rm -rf target

@@ -33,11 +33,11 @@ const char *refusal_text(uint32_t number)
     static const char *const texts[] = {
         [ROOM_ACCEPTED] = "accepted",
         [ROOM_REFUSED_SAMPLE_RATE] = "the sample rate is outside 8000 to 192000",
-        [ROOM_REFUSED_GLIDE_COEFFICIENT] = "the glide coefficient is not one",
+        [ROOM_REFUSED_GLIDE_COEFFICIENT] = "the glide coefficient is outside 0 to below 1",
         [ROOM_REFUSED_MEMORY] = "the memory has too few places",
-        [ROOM_REFUSED_STATE] = "the state is not one that a start could lead to",
+        [ROOM_REFUSED_STATE] = "a field of the state is out of its range",
         [ROOM_REFUSED_CONTROL] = "a control is NaN",
-        [ROOM_REFUSED_CURVE] = "a curve number is not one",
+        [ROOM_REFUSED_CURVE] = "a curve number is out of its range",
     };
     return number < sizeof texts / sizeof texts[0] ? texts[number] : "unknown cause";
 }

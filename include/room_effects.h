@@ -2,7 +2,7 @@
  * room_effects.h: the room effects for C99 and C++11 hosts.
  *
  * Link with target/staticlib/libroom_effects.a, which `rt staticlib room_effects` makes, and `make host` too. It is for x86-64
- * Linux: the kit compiles for no other processor. On Arm the proofs can be checked, with the same verdict, and what was
+ * Linux: the Rattle kit compiles for no other processor. On Arm the proofs can be checked, with the same verdict, and what was
  * compiled can be run in an emulator, but the archive links only into x86-64 programs.
  *
  * How to use an effect E
@@ -45,7 +45,7 @@
  *
  * An effect with lines is lent its places with each call: `memory` is the address of the first, `places` how many there are.
  * The host keeps them. It lends a unit the same places each time, writes nothing there between calls, and keeps them apart
- * from the state and from `out`. What they hold before a start is of no account.
+ * from the state and from `out`, and those from each other. What they hold before a start is of no account.
  *
  * A line has L places, by the sample rate: the whole part of n x rate / 1000, plus 10, with n as the effect says; the delay's
  * has the whole part of rate x maximum, plus 1. A unit's lines follow each other from place 0. The reverb's lie in a tank of
@@ -84,11 +84,12 @@
  *
  * The library holds no memory, no state and no lock of its own: the archive has no section that can be written, and everything
  * is in what a call is handed. So calls may be made in any thread and at the same time, as long as no two of them at a time
- * are of the same unit; a unit that goes from one thread to another needs the host's own synchronisation. No call waits, allocates or calls the system. One that is cut off before it returns may have written
- * part of its state and places; its unit is then started anew.
+ * are of the same unit; a unit that goes from one thread to another needs the host's own synchronisation. No call waits,
+ * allocates or calls the system. One that is cut off before it returns may have written part of its state and places; its unit
+ * is then started anew.
  *
- * By the frames of the compiled functions a call takes at most 632 bytes of stack (the reverb's retune; its other calls at most
- * 424, those of the other effects 112), and beside that what memset takes, the one function that the archive needs from
+ * By the frames of the compiled functions a call takes at most 320 bytes of stack (a reverb's; those of the other effects at
+ * most 96), and beside that what memset takes, the one function that the archive needs from
  * elsewhere. Where memset is bound at its first call, that takes some 3 KB more, once.
  *
  * What calls cost
@@ -104,8 +105,8 @@
  * Curve numbers
  *
  * The host computes them before the tick: a frequency in Hz from its rate control, and the sine of 2 pi times the phase that
- * the state holds before the tick. (The flanger's second sine is of a phase further on: see there.) The delay's are others: a
- * time in milliseconds before each tick, and a glide coefficient before each start and retune. The reverb has none.
+ * the state holds before the tick. (The flanger's second sine is of a phase further on: see there.) The delay has
+ * one, a time in milliseconds. (Its glide coefficient goes to start and retune, and is cause 2.) The reverb has none.
  */
 #ifndef ROOM_EFFECTS_H
 #define ROOM_EFFECTS_H
@@ -115,7 +116,7 @@
 
 /*
  * The version of this interface: MAJOR moves where a struct or a call is changed or goes, so that a host has to be looked over;
- * MINOR where an effect or a call is added; PATCH where neither is. A controller is built with the header and the archive of
+ * MINOR where an effect or a call is added; PATCH where neither is. The archive does not tell its version: a controller is built with the header and the archive of
  * one version.
  */
 #define ROOM_EFFECTS_VERSION_MAJOR 1

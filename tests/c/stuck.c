@@ -1,8 +1,8 @@
-/* What feeds back with more than one half never falls silent by itself: a subnormal sample times the feedback rounds back to
+/* What feeds back with more than one half may never fall silent by itself: a subnormal sample times the feedback rounds back to
    itself. A reset ends it. */
 #include "calls.h"
 
-enum { NINE = 9, TANK_PLACES = 87136 };
+enum { DELAY_PLACES = 9, TANK_PLACES = 87136 };
 
 static double lent[TANK_PLACES];
 
@@ -15,7 +15,7 @@ static double echoes(room_delay *state, double feedback, unsigned repeats)
     unsigned i;
     for (i = 0; i <= repeats; i++) {
         const room_port audio = room_set(state->delay_primed == 0u ? 1.0 : 0.0);
-        refused |= room_delay_tick(state, lent, NINE, audio, room_unset(), room_set(feedback), room_set(1.0), 0.0, out);
+        refused |= room_delay_tick(state, lent, DELAY_PLACES, audio, room_unset(), room_set(feedback), room_set(1.0), 0.0, out);
     }
     check(refused == 0u, "ticks of an echo that may stick", 0);
     return out[0];
@@ -24,7 +24,7 @@ static double echoes(room_delay *state, double feedback, unsigned repeats)
 static int delay_sounds(const room_delay *state)
 {
     int silent = 7;
-    check(room_delay_silent(state, lent, NINE, &silent) == 0, "silent after an echo", 0);
+    check(room_delay_silent(state, lent, DELAY_PLACES, &silent) == 0, "silent after an echo", 0);
     return silent == 0;
 }
 
@@ -33,15 +33,15 @@ static void stuck_at(double feedback, unsigned repeats, unsigned steps, unsigned
 {
     room_delay state;
     double last;
-    check(room_delay_start(&state, lent, NINE, 8000.0, 0.001, 0.0, 0u) == 0, "start for an echo that may stick", i);
+    check(room_delay_start(&state, lent, DELAY_PLACES, 8000.0, 0.001, 0.0, 0u) == 0, "start for an echo that may stick", i);
     last = echoes(&state, feedback, repeats - 1u);
     check(bits(last) == steps + 1u, "the echo still falls", i);
-    last = echoes(&state, feedback, NINE);
+    last = echoes(&state, feedback, 0u);
     check(bits(last) == steps, "the echo has come to where it stays", i);
     last = echoes(&state, feedback, 20000u);
     check(bits(last) == steps, "the echo no longer changes", i);
     check(delay_sounds(&state) == (steps != 0u), "it is silent only if it came to 0", i);
-    check(room_delay_reset(&state, lent, NINE) == 0 && !delay_sounds(&state), "a reset makes it silent", i);
+    check(room_delay_reset(&state, lent, DELAY_PLACES) == 0 && !delay_sounds(&state), "a reset makes it silent", i);
 }
 
 static void echoes_stick(void)

@@ -31,7 +31,7 @@ use Rattle.common.proofs.Sweep.{size-is, size-some, size-tests, small, no-cause
 use Rattle.effect.specs.Effect.{laid}
 use Rattle.effect.specs.Run.{tick, first, memoryNumber, numberIn}
 use Rattle.delay_line.specs.declared.DelayLine.{DelayLine}
-use Rattle.delay_line.specs.DelayLine.{Tick, delayLine, tickOf, heldMaximum, maximumFits, lineLength, glideFits, stateFits, tickNumber, delayMs, samplesOf, glided, readsAt, distance, delayedBy, delayed, moved, next, writes}
+use Rattle.delay_line.specs.DelayLine.{Tick, delayLine, tickOf, heldMaximum, settingsNumber, maximumFits, lineLength, glideFits, stateFits, tickNumber, delayMs, samplesOf, glided, readsAt, distance, delayedBy, delayed, moved, next, writes}
 use Rattle.delay_line.specs.DelayLine as page
 
 -- ---- the maximum, and the length of the line
@@ -58,6 +58,21 @@ module _ (rate maximum : Float) (h : rateFits rate ≡ true) (k : maximumFits ma
   pub samples-small : T (le (ofNat 1) (mul binary64 rate maximum)) × T (lt (mul binary64 rate maximum) (ofNat 9007199254740992))
   unfolding Ieee.fits le lt mul ofInt round
   samples-small = small (mul-in (ofNat 1) (ofNat 16777216) tt tt tt (rate-in h) (maximum-in k))
+
+-- where the maximum fits, what `settings_refusal` answers is the table's row: causes 1, 2 and 3
+pub settings-row : (rate coefficient maximum : Float) (n : ℕ) {k : ℕ} → maximumFits maximum ≡ true
+    → k ≡ cond (rateFits rate && maximumFits maximum) (cond (coefficientFits coefficient) (memoryNumber (lineLength rate maximum) n) 2) 1
+    → k ≡ first (settingsNumber rate coefficient) (memoryNumber (lineLength rate maximum) n)
+unfolding settingsNumber
+settings-row rate coefficient maximum n h e = e ∙ (rw h (go (rateFits rate) (coefficientFits coefficient)))
+  where
+    m : ℕ
+    m = memoryNumber (lineLength rate maximum) n
+
+    go : (r c : Bool) → cond (r && true) (cond c m 2) 1 ≡ first (cond r (cond c 0 2) 1) m
+    go true true = refl
+    go true false = refl
+    go false c = refl
 
 -- where the maximum fits, whether there is a length is by the rate alone
 pub rate-size : (rate maximum : Float) {n : ℕ} → maximumFits maximum ≡ true → n ≡ cond (rateFits rate && maximumFits maximum) (lineLength rate maximum) 0

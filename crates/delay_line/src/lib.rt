@@ -5,14 +5,14 @@ ghost use Prim.Native.Nat.{_-_, _≤_, _<_};
 ghost use mathlib.Core.List.{[], _∷_};
 ghost use lib.ListN.{length, set};
 ghost use lib.Ieee.{binary64, add, mul};
-ghost use Rattle.float64.specs.Number.{plusZero, ofNat, fraction, isNumber, rateFits, clampOf};
+ghost use Rattle.float64.specs.Number.{plusZero, ofNat, fraction, isNumber, rateFits, coefficientFits, clampOf};
 ghost use Rattle.port.specs.declared.Port.the-variants.{Set, Unset};
 ghost use Rattle.port.specs.Answer.{played, numberOf, outcomeReply, answerReply, silenceReply};
 ghost use Rattle.common.specs.Signal.{sanitized, blended};
-ghost use Rattle.effect.specs.Run.{tick, retune, reset, ask, first, memoryNumber, numberIn, ifNone};
+ghost use Rattle.effect.specs.Run.{tick, retune, reset, ask, memoryNumber, numberIn, ifNone};
 ghost use Rattle.effect.specs.Contract.{Does, Starts};
 ghost use Rattle.effect.specs.Needed.{placesNeeded};
-ghost use Rattle.delay_line.specs.DelayLine.{delayLine, handing, startSettings, retuning, tickOf, heldMaximum, settingsNumber, maximumFits, lineLength, cleared, glideFits, stateFits, samplesOf, glided, readsAt, delayedBy, moved};
+ghost use Rattle.delay_line.specs.DelayLine.{delayLine, handing, startSettings, retuning, tickOf, heldMaximum, maximumFits, lineLength, cleared, glideFits, stateFits, samplesOf, glided, readsAt, delayedBy, moved};
 use port::Answer;
 use port::Outcome;
 use port::Port;
@@ -102,11 +102,11 @@ impl DelayLine {
         }
     }
 
-    // Causes 1, 2 and 3, where the maximum is in its range.
+    // Causes 1, 2 and 3. A maximum out of range, which only a state that fails its test has, counts as a refused rate: the state
+    // test stands before these, and gives 4.
     fn settings_refusal(rate: f64, coefficient: f64, maximum: f64, places: usize) -> Outcome
-        ensures { λ r. ⌜
-            (maximumFits maximum ≡ true → numberOf r ≡ first (settingsNumber rate coefficient)
-            (memoryNumber (lineLength rate maximum) places)) ⌝ }
+        ensures { λ r. ⌜ numberOf r ≡ cond (rateFits rate && maximumFits maximum)
+            (cond (coefficientFits coefficient) (memoryNumber (lineLength rate maximum) places) 2) 1 ⌝ }
     {
         let n = DelayLine::line_length(rate, maximum);
         if n == 0 {

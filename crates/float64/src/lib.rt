@@ -20,7 +20,7 @@ pub fn is_finite(x: f64) -> bool
     x < infinity && x > -infinity
 }
 
-// Whether x is +0: no for -0. Only a NaN's bits could not be asked for, and no NaN is equal to 0.
+// Whether x is +0: no for -0. A NaN's bits may not be asked for; `x == 0.0` keeps it out.
 pub fn is_plus_zero(x: f64) -> bool
     ensures { λ r. ⌜ r ≡ isPlusZero x ⌝ }
 {
@@ -120,7 +120,7 @@ pub fn from_u32(n: u32) -> f64
     n as f64
 }
 
-// The whole part of a number from 1 to below 2^53: the digits, shifted. The effects' reads use it, where a total one costs more.
+// The whole part of a number from 1 to below 2^53: the digits, shifted. Reads and line lengths use it; `whole_part` is total and costs more.
 pub fn whole_part_small(x: f64) -> u64
     requires { ⌜ T (Ieee.le (ofNat 1) x) ⌝ ∗ ⌜ T (Ieee.lt x (ofNat 9007199254740992)) ⌝ }
     ensures { λ r. ⌜ r ≡ wholePart x ⌝ }
@@ -153,6 +153,7 @@ pub fn round_half_away(x: f64) -> u64
 {
     let down = whole_part(x);
     if x < 4503599627370496.0 {
+        // `down` may have more than 32 bits.
         if x - std::num::nearest_u64_to_f64(down) >= 0.5 {
             return down + 1;
         }

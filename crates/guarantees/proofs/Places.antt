@@ -9,7 +9,7 @@ use lib.Ieee as Ieee
 use borrow.Author.Tests.{ne-eqb}
 use Rattle.float64.specs.Number.{inUnit, rateFits, coefficientFits}
 use Rattle.effect.specs.Needed.{noPlaces}
-use Rattle.effect.proofs.Needed.{start-asks}
+use Rattle.effect.proofs.Needed.{start-needs}
 use Rattle.effect.proofs.Table.{none-1-2}
 use Rattle.delay_line.specs.DelayLine.{delayLine, settingsNumber}
 use Rattle.chorus.specs.Chorus.{chorus}
@@ -18,16 +18,16 @@ use Rattle.vibrato.specs.Vibrato.{vibrato}
 use Rattle.tremolo.specs.Tremolo.{tremolo}
 use Rattle.reverb.specs.Reverb.{reverb}
 use Rattle.room_effects.specs.Needed.{neededBy}
-use Rattle.guarantees.specs.PlacesNeeded.{Asks, PlacesNeeded}
+use Rattle.guarantees.specs.PlacesNeeded.{StartNeeds, PlacesNeeded}
 
 -- the delay's count is worked out with coefficient +0, and is the same with every coefficient that is accepted
-delay-asks : Asks delayLine (λ x. neededBy 1 (x .rate) (x .maximum))
+delay-needs : StartNeeds delayLine (λ x. neededBy 1 (x .rate) (x .maximum))
 unfolding neededBy settingsNumber inUnit le lt ofInt Ieee.fits
-delay-asks =
+delay-needs =
     record {
       accepted = λ x n e.
           let r = none-1-2 (rateFits (x .rate)) (coefficientFits (x .coefficient)) e in
-          start-asks delayLine x n e ∙ (rw (r .0, r .1));
+          start-needs delayLine x n e ∙ (rw (r .0, r .1));
     }
 
 either-way : {A : Type 0} (b : Bool) (x : A) → cond b x x ≡ x
@@ -51,12 +51,12 @@ pub places-needed : PlacesNeeded
 unfolding neededBy
 places-needed =
     record {
-      delay = delay-asks;
-      choruses = λ maximum. record { accepted = start-asks chorus };
-      flangers = λ maximum. record { accepted = start-asks flanger };
-      vibratos = λ maximum. record { accepted = start-asks vibrato };
-      tremolos = λ maximum. record { accepted = start-asks tremolo };
-      reverbs = λ maximum. record { accepted = start-asks reverb };
+      delay = delay-needs;
+      choruses = λ maximum. record { accepted = start-needs chorus };
+      flangers = λ maximum. record { accepted = start-needs flanger };
+      vibratos = λ maximum. record { accepted = start-needs vibrato };
+      tremolos = λ maximum. record { accepted = start-needs tremolo };
+      reverbs = λ maximum. record { accepted = start-needs reverb };
       no-tremolo-places = λ rate maximum h. rw h;
       tank-places = λ rate maximum h. rw h;
       refused-rate = refused-is;

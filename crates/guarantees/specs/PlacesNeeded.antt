@@ -17,17 +17,17 @@ use Rattle.reverb.specs.Reverb.{reverb}
 use Rattle.room_effects.specs.Needed.{neededBy}
 
 -- `needed` is what the controller is answered for a start that is handed x
-pub record Asks (E : Effect) (needed : E .Start → ℕ) : Type 0 where
+pub record StartNeeds (E : Effect) (needed : E .Start → ℕ) : Type 0 where
   pub accepted : (x : E .Start) (n : ℕ) → E .settingsNumber (E .startSettings x) ≡ 0 → startNumber E x n ≡ memoryNumber (needed x) n
 
 -- the numbers of document 01; only the delay's count reads the maximum
 pub record PlacesNeeded : Type 0 where
-  pub delay : Asks delayLine (λ x. neededBy 1 (x .rate) (x .maximum))
-  pub choruses : (maximum : Float) → Asks chorus (λ rate. neededBy 2 rate maximum)
-  pub flangers : (maximum : Float) → Asks flanger (λ rate. neededBy 3 rate maximum)
-  pub vibratos : (maximum : Float) → Asks vibrato (λ rate. neededBy 4 rate maximum)
-  pub tremolos : (maximum : Float) → Asks tremolo (λ rate. neededBy 5 rate maximum)
-  pub reverbs : (maximum : Float) → Asks reverb (λ rate. neededBy 6 rate maximum)
+  pub delay : StartNeeds delayLine (λ x. neededBy 1 (x .rate) (x .maximum))
+  pub choruses : (maximum : Float) → StartNeeds chorus (λ rate. neededBy 2 rate maximum)
+  pub flangers : (maximum : Float) → StartNeeds flanger (λ rate. neededBy 3 rate maximum)
+  pub vibratos : (maximum : Float) → StartNeeds vibrato (λ rate. neededBy 4 rate maximum)
+  pub tremolos : (maximum : Float) → StartNeeds tremolo (λ rate. neededBy 5 rate maximum)
+  pub reverbs : (maximum : Float) → StartNeeds reverb (λ rate. neededBy 6 rate maximum)
   -- two of them are the same at every accepted rate
   pub no-tremolo-places : (rate maximum : Float) → rateFits rate ≡ true → neededBy 5 rate maximum ≡ 0
   pub tank-places : (rate maximum : Float) → rateFits rate ≡ true → neededBy 6 rate maximum ≡ 87136

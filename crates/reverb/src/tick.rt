@@ -27,23 +27,21 @@ pub struct Controls {
     pub predelay: f64,
 }
 
-// A port's number, or the default.
-fn number_or(port: Port, default: f64) -> f64
-    ensures { λ r. ⌜ r ≡ valueOr port default ⌝ }
-{
-    if let Port::Set(x) = port { x } else { default }
-}
-
-// The number of each port, or its default.
+// The tick's ports taken apart: the number of each, or its default.
 pub fn controls_of(audio: Port, size: Port, damping: Port, mix: Port, predelay: Port) -> Controls
     ensures { λ r. ⌜ r ≡ controlsOf (tickOf audio size damping mix predelay) ⌝ }
 {
+    let audio = if let Port::Set(x) = audio { x } else { 0.0 };
+    let size = if let Port::Set(x) = size { x } else { 0.5 };
+    let damping = if let Port::Set(x) = damping { x } else { 0.5 };
+    let mix = if let Port::Set(x) = mix { x } else { 0.5 };
+    let predelay = if let Port::Set(x) = predelay { x } else { 0.0 };
     Controls {
-        audio: number_or(audio, 0.0),
-        size: number_or(size, 0.5),
-        damping: number_or(damping, 0.5),
-        mix: number_or(mix, 0.5),
-        predelay: number_or(predelay, 0.0),
+        audio,
+        size,
+        damping,
+        mix,
+        predelay,
     }
 }
 

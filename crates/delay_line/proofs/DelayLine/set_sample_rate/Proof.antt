@@ -6,7 +6,7 @@ use Rattle.port.specs.Answer.{numberOf}
 use Rattle.effect.specs.Run.{retune, ifNone}
 use Rattle.effect.proofs.Contract.{clears, state-row}
 use Rattle.delay_line.specs.DelayLine.{delayLine, retuning}
-use Rattle.delay_line.proofs.Laws.{fits-parts}
+use Rattle.delay_line.proofs.Laws.{fits-parts, settings-row}
 use Rattle.delay_line.proofs.DelayLine.set_sample_rate.Statement.{statement}
 use Rattle.delay_line.proofs.DelayLine.set_sample_rate.Tie as tie
 
@@ -19,7 +19,7 @@ returns c =
     let call = retune (retuning (a .sample-rate) (a .coefficient)) in
     let outcome = tested .check-state .result in
     clears delayLine call (a .self) (a .mem .now) outcome
-    (state-row delayLine (length (a .mem .now)) (a .self) call (tested .before .state-fits .ensures) (λ f. rest .settings-refusal .ensures (fits-parts (a .self) f .maximum)) (tested .check-state .ensures))
+    (state-row delayLine (length (a .mem .now)) (a .self) call (tested .before .state-fits .ensures) (λ f. settings-row (a .sample-rate) (a .coefficient) (a .self .«max_delay_secs») (length (a .mem .now)) (fits-parts (a .self) f .maximum) (rest .settings-refusal .ensures)) (tested .check-state .ensures))
     refl
     (c .settled .ensures .0 ∙ (λ i. ifNone (numberOf outcome) (c .before .cleared .ensures i) (a .self)))
     (filled .clear .ensures)

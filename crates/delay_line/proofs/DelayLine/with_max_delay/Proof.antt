@@ -8,7 +8,7 @@ use Rattle.port.specs.Answer.{numberOf}
 use Rattle.effect.specs.Run.{first, memoryNumber, ifNone}
 use Rattle.effect.proofs.Contract.{starts-clears}
 use Rattle.delay_line.specs.DelayLine.{delayLine, handing, maximumFits, settingsNumber, lineLength, cleared}
-use Rattle.delay_line.proofs.Laws.{held-fits}
+use Rattle.delay_line.proofs.Laws.{held-fits, settings-row}
 use Rattle.delay_line.proofs.DelayLine.with_max_delay.Statement.{statement}
 use Rattle.delay_line.proofs.DelayLine.with_max_delay.Tie as tie
 
@@ -23,7 +23,7 @@ returns c =
     let outcome = tested .settings-refusal .result in
     let fits = subst (λ (x : Float). maximumFits x ≡ true) (sym held) (held-fits (a .max-delay-secs)) in
     starts-clears delayLine (handing (a .sample-rate) (a .coefficient) (a .max-delay-secs) (a .linear)) (a .mem .now) outcome
-    (tested .settings-refusal .ensures fits
+    (settings-row (a .sample-rate) (a .coefficient) _ (length (a .mem .now)) fits (tested .settings-refusal .ensures)
     ∙ ap (λ (x : Float). first (settingsNumber (a .sample-rate) (a .coefficient)) (memoryNumber (lineLength (a .sample-rate) x) (length (a .mem .now)))) held)
     (c .settled .ensures .0
     ∙ (λ i. ifNone (numberOf outcome) ((next .cleared .ensures ∙ ap (λ (x : Float). cleared (handing (a .sample-rate) (a .coefficient) x (a .linear))) held) i) (c .before .cleared2 .ensures i)))
