@@ -22,8 +22,10 @@ ERROR = re.compile(
     r"(\S+?):(\d+):(\d+): (?:error(?:\[\S+\])?: )?(.*(?:\n  .*)*)", re.M)
 # it says no more than that something else, which has an error of its own, was refused
 RESTS = re.compile(r"` was not admitted \(")
-# what the prover says where a proof's text does not fit the code's steps any more, and no fact is asked for
-UNFIT = re.compile(r"has no field|that can be named from here|no occurrence of|this pattern needs|not in scope|one has `[^`]*\.Lts\.")
+# what the prover says where a proof's text does not fit the code's steps any more, and no fact is asked for; that what it shows cannot be pasted, as a
+# name in it is not in scope, is a hint and no reason
+UNFIT = re.compile(
+    r"has no field|that can be named from here|no occurrence of|this pattern needs|not in scope(?! here, so what is shown)|one has `[^`]*\.Lts\.")
 
 
 class Trees:
