@@ -22,8 +22,12 @@ ERROR = re.compile(
     r"(\S+?):(\d+):(\d+): (?:error(?:\[\S+\])?: )?(.*(?:\n  .*)*)", re.M)
 # it says no more than that something else, which has an error of its own, was refused
 RESTS = re.compile(r"` was not admitted \(")
-# what the prover says where a proof's text does not fit the code's steps any more, and no fact is asked for
-UNFIT = re.compile(r"has no field|that can be named from here|no occurrence of|this pattern needs|not in scope|one has `[^`]*\.Lts\.")
+# what the prover says where a proof's text does not fit the code's steps any more, and no fact is asked for; that what it shows cannot be pasted, as a
+# name in it is not in scope, is a hint and no reason
+UNFIT = re.compile(r"has no field|that can be named from here|no occurrence of|this pattern needs|not in scope(?! here, so what is shown)")
+# the same where two types that have to be equal differ, as they are printed, in the name of a step; unless they are computed and differ elsewhere only
+STEPS = re.compile(r"one has `[^`]*\.Lts\.")
+COMPUTED = re.compile(r"computed as far as they go, the two (?:types|values) differ only where one has `(?![^`]*\.Lts\.)")
 
 
 class Trees:
@@ -131,7 +135,8 @@ def errors(tree, crate, said):
 
 def is_text(error):
     """Whether an error says only that the proof's text does not fit."""
-    return bool(UNFIT.search(" ".join(error.text.split())))
+    text = " ".join(error.text.split())
+    return bool(UNFIT.search(text) or STEPS.search(text) and not COMPUTED.search(text))
 
 
 def first(found, said):
