@@ -4,7 +4,7 @@ use mathlib.Core.Path.{_≡_, refl}
 use mathlib.Core.Bool.{true, false}
 use lib.Ieee.{Float, binary64, le, lt, ofInt, round}
 use lib.Ieee as Ieee
-use Rattle.float64.specs.Number.{plusZero, ofNat, fraction, rateFits, phaseFits, inRange, inUnit}
+use Rattle.float64.specs.Number.{plusZero, floatOf, fraction, rateFits, phaseFits, inRange, inUnit}
 use Rattle.float64.proofs.Interval.{In, point, widen}
 use Rattle.common.proofs.Phases.{detuned-stays}
 use Rattle.common.proofs.Ring.{next-lt}
@@ -43,7 +43,7 @@ low = rw factor-0 (widen plusZero (fraction 11 10) tt (point (fraction 9 10) tt)
 
 middle : In binary64 plusZero (fraction 11 10) (factor 1)
 unfolding le ofInt round Ieee.fits
-middle = rw factor-1 (widen plusZero (fraction 11 10) tt (point (ofNat 1) tt))
+middle = rw factor-1 (widen plusZero (fraction 11 10) tt (point (floatOf 1) tt))
 
 high : In binary64 plusZero (fraction 11 10) (factor 2)
 unfolding le round Ieee.fits

@@ -11,7 +11,7 @@ use lib.ListN.{length, take, drop, set}
 use lib.Ieee.{Float, fin, binary64, add, sub, mul, div, neg, le, lt, ofInt, round}
 use lib.Ieee as Ieee
 use borrow.Author.Tests.{ltb-true, lt-ltb}
-use Rattle.float64.specs.Number.{plusZero, ofNat, fraction, half, rateFits, phaseFits, frequencyFits, sineFits, clampOf}
+use Rattle.float64.specs.Number.{plusZero, floatOf, fraction, half, rateFits, phaseFits, frequencyFits, sineFits, clampOf}
 use Rattle.float64.proofs.Tests.{both}
 use Rattle.float64.proofs.Interval.{In, point, add-in, mul-in, div-in, scale-in}
 use Rattle.float64.proofs.Ranges.{rate-in, sine-in, in-number}
@@ -77,7 +77,7 @@ tenths-high = refl
 pub factor-0 : factor 0 ≡ fraction 9 10
 factor-0 = factor-low ∙ sym tenths-low
 
-pub factor-1 : factor 1 ≡ ofNat 1
+pub factor-1 : factor 1 ≡ floatOf 1
 unfolding factor add sub mul ofInt round
 factor-1 = refl
 
@@ -87,7 +87,7 @@ factor-2 = factor-high ∙ sym tenths-high
 pub phases-by : (frequency rate : Float) (p : Phases)
     → record {
       phase0 = stepped (p .phase0) frequency (fraction 9 10) rate;
-      phase1 = stepped (p .phase1) frequency (ofNat 1) rate;
+      phase1 = stepped (p .phase1) frequency (floatOf 1) rate;
       phase2 = stepped (p .phase2) frequency (fraction 11 10) rate;
     }
     ≡ nextPhases frequency rate p
@@ -159,21 +159,21 @@ tick-fits t e =
 abbrev pub swept : Float → Float → Float → Float
 swept rate depth sine =
     add binary64
-    (div binary64 (mul binary64 (ofNat 7) rate) (ofNat 1000))
-    (mul binary64 (add binary64 (mul binary64 sine half) half) (div binary64 (mul binary64 (mul binary64 depth (ofNat 25)) rate) (ofNat 1000)))
+    (div binary64 (mul binary64 (floatOf 7) rate) (floatOf 1000))
+    (mul binary64 (add binary64 (mul binary64 sine half) half) (div binary64 (mul binary64 (mul binary64 depth (floatOf 25)) rate) (floatOf 1000)))
 
-module _ (rate depth sine : Float) (h : rateFits rate ≡ true) (d : In binary64 plusZero (ofNat 1) depth) (k : sineFits sine ≡ true) where
-  pub swept-in : In binary64 plusZero (ofNat 6144) (swept rate depth sine)
+module _ (rate depth sine : Float) (h : rateFits rate ≡ true) (d : In binary64 plusZero (floatOf 1) depth) (k : sineFits sine ≡ true) where
+  pub swept-in : In binary64 plusZero (floatOf 6144) (swept rate depth sine)
   unfolding Ieee.fits le lt add mul div neg ofInt round
   swept-in =
-      let base = div-in plusZero (ofNat 1344) tt tt tt (mul-in (ofNat 56000) (ofNat 1344000) tt tt tt (point (ofNat 7) tt) (rate-in h)) (point (ofNat 1000) tt) in
-      let delay = mul-in plusZero (ofNat 4800000) tt tt tt (mul-in plusZero (ofNat 25) tt tt tt d (point (ofNat 25) tt)) (rate-in h) in
-      let swing = div-in plusZero (ofNat 4800) tt tt tt delay (point (ofNat 1000) tt) in
-      let turn = add-in plusZero (ofNat 1) tt (scale-in (neg half) half tt tt tt (sine-in k) (point half tt)) (point half tt) in
-      add-in plusZero (ofNat 6144) tt base (mul-in plusZero (ofNat 4800) tt tt tt turn swing)
+      let base = div-in plusZero (floatOf 1344) tt tt tt (mul-in (floatOf 56000) (floatOf 1344000) tt tt tt (point (floatOf 7) tt) (rate-in h)) (point (floatOf 1000) tt) in
+      let delay = mul-in plusZero (floatOf 4800000) tt tt tt (mul-in plusZero (floatOf 25) tt tt tt d (point (floatOf 25) tt)) (rate-in h) in
+      let swing = div-in plusZero (floatOf 4800) tt tt tt delay (point (floatOf 1000) tt) in
+      let turn = add-in plusZero (floatOf 1) tt (scale-in (neg half) half tt tt tt (sine-in k) (point half tt)) (point half tt) in
+      add-in plusZero (floatOf 6144) tt base (mul-in plusZero (floatOf 4800) tt tt tt turn swing)
 
   -- after the clamp both places that are read lie in the line
-  pub distance-in : In binary64 (ofNat 1) (ofNat (lineLength rate - 1)) (distance rate depth sine)
+  pub distance-in : In binary64 (floatOf 1) (floatOf (lineLength rate - 1)) (distance rate depth sine)
   unfolding distance
   distance-in =
       let l = length-fits rate h in
@@ -185,14 +185,14 @@ module _ (t : Tick) (s : Chorus) (m : List Float) {n : ℕ} (e : n ≡ lineLengt
   -- a read in the part of k places from place o on, which is line i, is what voice i reads
   pub voice-is : (i k o : ℕ) {d y : Float} (sine : Float) → k ≡ n → o ≡ i * n → o + n ≤ length m → s .«write_pos» < n → d ≡ depth t
       → y
-      ≡ readAt (lineAt 0 (length (take k (drop o m))) (s .«write_pos») (take k (drop o m))) (clampOf (swept (s .«sample_rate») d sine) (ofNat 1) (ofNat (length (take k (drop o m)) - 1)))
+      ≡ readAt (lineAt 0 (length (take k (drop o m))) (s .«write_pos») (take k (drop o m))) (clampOf (swept (s .«sample_rate») d sine) (floatOf 1) (floatOf (length (take k (drop o m)) - 1)))
       → y ≡ voice i sine t s m
   unfolding voice distance
   voice-is i k o {d} sine a b l h g r =
       let rate = s .«sample_rate» in
       r
       ∙ part-read k o n (s .«write_pos») m _ a l h
-      ∙ (λ j. readAt (lineAt ((b ∙ ap (λ (z : ℕ). i * z) e) j) (e j) (s .«write_pos») m) (clampOf (swept rate (g j) sine) (ofNat 1) (ofNat ((part-length k o n m a l ∙ e) j - 1))))
+      ∙ (λ j. readAt (lineAt ((b ∙ ap (λ (z : ℕ). i * z) e) j) (e j) (s .«write_pos») m) (clampOf (swept rate (g j) sine) (floatOf 1) (floatOf ((part-length k o n m a l ∙ e) j - 1))))
 
   pub next-is : {r : Chorus} → r .«write_pos» ≡ nextPlace n (s .«write_pos») → phasesOf r ≡ nextPhases (t .frequency) (s .«sample_rate») (phasesOf s)
       → r .«sample_rate» ≡ s .«sample_rate»
@@ -246,7 +246,7 @@ module _ (t : Tick) {x d b : Float} (audio : x ≡ valueOr (t .audio) plusZero) 
       ∙ (λ i. played
       (mixed
       (sanitized (audio i))
-      (clampOf (wet i) plusZero (ofNat 1))
-      (readAt (lineAt (0 * L) L w m) (distance rate (clampOf (amount i) plusZero (ofNat 1)) (t .sine0)))
-      (readAt (lineAt (1 * L) L w m) (distance rate (clampOf (amount i) plusZero (ofNat 1)) (t .sine1)))
-      (readAt (lineAt (2 * L) L w m) (distance rate (clampOf (amount i) plusZero (ofNat 1)) (t .sine2))))))
+      (clampOf (wet i) plusZero (floatOf 1))
+      (readAt (lineAt (0 * L) L w m) (distance rate (clampOf (amount i) plusZero (floatOf 1)) (t .sine0)))
+      (readAt (lineAt (1 * L) L w m) (distance rate (clampOf (amount i) plusZero (floatOf 1)) (t .sine1)))
+      (readAt (lineAt (2 * L) L w m) (distance rate (clampOf (amount i) plusZero (floatOf 1)) (t .sine2))))))

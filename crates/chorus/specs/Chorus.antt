@@ -5,7 +5,7 @@ use mathlib.Core.List.{List, [], _∷_}
 use lib.Dec.{ltb}
 use lib.ListN.{take}
 use lib.Ieee.{Float, binary64, add, sub, mul, div}
-use Rattle.float64.specs.Number.{plusZero, ofNat, fraction, half, rateFits, phaseFits, frequencyFits, sineFits, clampOf}
+use Rattle.float64.specs.Number.{plusZero, floatOf, fraction, half, rateFits, phaseFits, frequencyFits, sineFits, clampOf}
 use Rattle.port.specs.declared.Port.{Port}
 use Rattle.port.specs.Port.{valueOr, isNanSet}
 use Rattle.common.specs.Signal.{sanitized, blended, advanced, causeNumber}
@@ -30,7 +30,7 @@ tickOf audio depth mix frequency sine0 sine1 sine2 =
 
 -- L: the whole part of rate × 32 / 1000, plus 10; 32 is 25 (MAX_MOD_DELAY_MS) and 7 (BASE_DELAY_MS)
 unfoldable pub lineLength : Float → ℕ
-lineLength rate = sweptLength (ofNat 32) rate
+lineLength rate = sweptLength (floatOf 32) rate
 
 -- three lines follow each other from place 0
 abbrev pub places : Float → ℕ
@@ -54,7 +54,7 @@ zeroPhases = record { phase0 = plusZero; phase1 = plusZero; phase2 = plusZero }
 
 -- the factor of voice i, from 0 on: 1 + (i − 1) × 0.1
 unfoldable pub factor : ℕ → Float
-factor i = add binary64 (ofNat 1) (mul binary64 (sub binary64 (ofNat i) (ofNat 1)) (fraction 1 10))
+factor i = add binary64 (floatOf 1) (mul binary64 (sub binary64 (floatOf i) (floatOf 1)) (fraction 1 10))
 
 -- a voice moves on by (frequency × its factor) / rate
 abbrev pub stepped : Float → Float → Float → Float → Float
@@ -105,20 +105,20 @@ abbrev pub input : Tick → Float
 input t = sanitized (valueOr (t .audio) plusZero)
 
 abbrev pub depth : Tick → Float
-depth t = clampOf (valueOr (t .depth) half) plusZero (ofNat 1)
+depth t = clampOf (valueOr (t .depth) half) plusZero (floatOf 1)
 
 abbrev pub mix : Tick → Float
-mix t = clampOf (valueOr (t .mix) half) plusZero (ofNat 1)
+mix t = clampOf (valueOr (t .mix) half) plusZero (floatOf 1)
 
 -- 7 × rate / 1000 + (sine × 0.5 + 0.5) × (depth × 25 × rate / 1000), clamped to 1 to L − 1
 unfoldable pub distance : Float → Float → Float → Float
 distance rate depth sine =
     clampOf
     (add binary64
-    (div binary64 (mul binary64 (ofNat 7) rate) (ofNat 1000))
-    (mul binary64 (add binary64 (mul binary64 sine half) half) (div binary64 (mul binary64 (mul binary64 depth (ofNat 25)) rate) (ofNat 1000))))
-    (ofNat 1)
-    (ofNat (lineLength rate - 1))
+    (div binary64 (mul binary64 (floatOf 7) rate) (floatOf 1000))
+    (mul binary64 (add binary64 (mul binary64 sine half) half) (div binary64 (mul binary64 (mul binary64 depth (floatOf 25)) rate) (floatOf 1000))))
+    (floatOf 1)
+    (floatOf (lineLength rate - 1))
 
 -- what voice i, counted from 0, reads in its own line, before the store
 unfoldable pub voice : ℕ → Float → Tick → Chorus → List Float → Float
@@ -132,7 +132,7 @@ mixed input mix d0 d1 d2 =
     let mono = add binary64 (add binary64 (add binary64 plusZero d0) d1) d2 in
     let left = add binary64 (add binary64 plusZero (mul binary64 d0 half)) d1 in
     let right = add binary64 (add binary64 plusZero (mul binary64 d0 half)) d2 in
-    blended input (div binary64 mono (ofNat 3)) mix ∷ blended input (div binary64 left (ofNat 2)) mix ∷ blended input (div binary64 right (ofNat 2)) mix ∷ []
+    blended input (div binary64 mono (floatOf 3)) mix ∷ blended input (div binary64 left (floatOf 2)) mix ∷ blended input (div binary64 right (floatOf 2)) mix ∷ []
 
 -- mono, left, right
 unfoldable pub samples : Tick → Chorus → List Float → List Float

@@ -4,7 +4,7 @@ ghost use mathlib.Core.Bool.{true, cond};
 ghost use Prim.Native.Nat.{_-_, _≤_, _<_};
 ghost use lib.ListN.{length};
 ghost use lib.Ieee.{binary64, add, mul};
-ghost use Rattle.float64.specs.Number.{ofNat, half, isNumber, rateFits, clampOf};
+ghost use Rattle.float64.specs.Number.{floatOf, half, isNumber, rateFits, clampOf};
 ghost use Rattle.port.specs.declared.Port.the-variants.{Set};
 ghost use Rattle.port.specs.Answer.{numberOf, outcomeReply, answerReply, silenceReply, played};
 ghost use Rattle.common.specs.Line.{lineAt, readAt, nextPlace};
@@ -170,8 +170,8 @@ impl Chorus {
     fn distance(n: usize, base: f64, swing: f64, sine: f64) -> f64
         requires { ⌜ 2 ≤ n ⌝ }
         requires { ⌜ n ≤ 16777217 ⌝ }
-        ensures { λ r. ⌜ r ≡ clampOf (add binary64 base (mul binary64 (add binary64 (mul binary64 sine half) half) swing)) (ofNat 1)
-            (ofNat (n - 1)) ⌝ }
+        ensures { λ r. ⌜ r ≡ clampOf (add binary64 base (mul binary64 (add binary64 (mul binary64 sine half) half) swing)) (floatOf 1)
+            (floatOf (n - 1)) ⌝ }
     {
         common::held_to_line(base + (sine * 0.5 + 0.5) * swing, (n - 1) as u32)
     }
@@ -183,8 +183,8 @@ impl Chorus {
         requires { ⌜ length (now line) ≤ 16777217 ⌝ }
         requires { ⌜ isNumber (add binary64 base (mul binary64 (add binary64 (mul binary64 sine half) half) swing)) ≡ true ⌝ }
         ensures { λ r. ⌜ r ≡ readAt (lineAt 0 (length (now (line .entry))) w (now (line .entry)))
-            (clampOf (add binary64 base (mul binary64 (add binary64 (mul binary64 sine half) half) swing)) (ofNat 1)
-            (ofNat (length (now (line .entry)) - 1))) ⌝ }
+            (clampOf (add binary64 base (mul binary64 (add binary64 (mul binary64 sine half) half) swing)) (floatOf 1)
+            (floatOf (length (now (line .entry)) - 1))) ⌝ }
     {
         common::read_interpolated(line, w, Chorus::distance(line.len(), base, swing, sine))
     }

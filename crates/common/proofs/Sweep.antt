@@ -12,7 +12,7 @@ use lib.ListN.{length, take, drop, length-drop}
 use lib.Seq.{length-take-le}
 use lib.Ieee.{Float, binary64, fits, isNan, mul, div, le, lt, ofInt}
 use borrow.Author.Tests.{not-false, le-ltb}
-use Rattle.float64.specs.Number.{plusZero, ofNat, isNumber, rateFits, clampOf, atLeast, atMost}
+use Rattle.float64.specs.Number.{plusZero, floatOf, isNumber, rateFits, clampOf, atLeast, atMost}
 use Rattle.float64.proofs.Order.{le-lt-lt, le-transitive, le→not-lt}
 use Rattle.float64.proofs.Interval.{In, hi-fits, point, mul-in, div-in}
 use Rattle.float64.proofs.Ranges.{rate-in, range-in}
@@ -59,28 +59,28 @@ size-times k false L e = rw e (mul-zero k)
 
 -- rate × milliseconds / 1000
 pub swept-in : (rate milliseconds : Float) → rateFits rate ≡ true → sweepFits milliseconds ≡ true
-    → In binary64 (ofNat 8) (ofNat 19200) (div binary64 (mul binary64 rate milliseconds) (ofNat 1000))
+    → In binary64 (floatOf 8) (floatOf 19200) (div binary64 (mul binary64 rate milliseconds) (floatOf 1000))
 unfolding fits le lt mul div ofInt
-swept-in rate milliseconds h k = div-in (ofNat 8) (ofNat 19200) tt tt tt (mul-in (ofNat 8000) (ofNat 19200000) tt tt tt (rate-in h) (range-in tt k)) (point (ofNat 1000) tt)
+swept-in rate milliseconds h k = div-in (floatOf 8) (floatOf 19200) tt tt tt (mul-in (floatOf 8000) (floatOf 19200000) tt tt tt (rate-in h) (range-in tt k)) (point (floatOf 1000) tt)
 
 -- ---- distances
 
 -- a number of samples from 1 on is small enough for the quick whole part
-pub small : {x : Float} → In binary64 (ofNat 1) (ofNat 16777216) x → T (le (ofNat 1) x) × T (lt x (ofNat 9007199254740992))
+pub small : {x : Float} → In binary64 (floatOf 1) (floatOf 16777216) x → T (le (floatOf 1) x) × T (lt x (floatOf 9007199254740992))
 unfolding fits le lt ofInt
-small {x} i = (i .lower, le-lt-lt binary64 x (ofNat 16777216) (ofNat 9007199254740992) (i .fit) tt tt (i .upper) tt)
+small {x} i = (i .lower, le-lt-lt binary64 x (floatOf 16777216) (floatOf 9007199254740992) (i .fit) tt tt (i .upper) tt)
 
 -- the last place of a line is not below 1
-pub last-above : (M : ℕ) → M ≤ 2 ^ 24 → 1 ≤ M → lt (ofNat M) (ofNat 1) ≡ false
+pub last-above : (M : ℕ) → M ≤ 2 ^ 24 → 1 ≤ M → lt (floatOf M) (floatOf 1) ≡ false
 unfolding fits isNumber isNan ofInt
 last-above M h k =
-    let i = clamp-whole-in M h (ofNat 1) k refl in
-    let u = hi-fits binary64 (ofNat 1) (ofNat M) (i .ends-ok) in
-    le→not-lt binary64 (ofNat 1) (ofNat M) tt u (le-transitive binary64 (ofNat 1) _ (ofNat M) tt (i .fit) u (i .lower) (i .upper))
+    let i = clamp-whole-in M h (floatOf 1) k refl in
+    let u = hi-fits binary64 (floatOf 1) (floatOf M) (i .ends-ok) in
+    le→not-lt binary64 (floatOf 1) (floatOf M) tt u (le-transitive binary64 (floatOf 1) _ (floatOf M) tt (i .fit) u (i .lower) (i .upper))
 
 -- the clamp to 1 to M in two halves
-pub clamped-halves : (x : Float) (M : ℕ) → M ≤ 2 ^ 24 → 1 ≤ M → atMost (atLeast x (ofNat 1)) (ofNat M) ≡ clampOf x (ofNat 1) (ofNat M)
-clamped-halves x M h k = clamp-halves x (ofNat 1) (ofNat M) (last-above M h k)
+pub clamped-halves : (x : Float) (M : ℕ) → M ≤ 2 ^ 24 → 1 ≤ M → atMost (atLeast x (floatOf 1)) (floatOf M) ≡ clampOf x (floatOf 1) (floatOf M)
+clamped-halves x M h k = clamp-halves x (floatOf 1) (floatOf M) (last-above M h k)
 
 -- ---- controls
 
@@ -100,7 +100,7 @@ value-number (Set x) d h k = not-false (isNumber x) h
 value-number Unset d h k = k
 
 -- clamped, it lies from 0 to 1
-pub control-in : (p : Port) (d : Float) → isNanSet p ≡ false → isNumber d ≡ true → In binary64 plusZero (ofNat 1) (clampOf (valueOr p d) plusZero (ofNat 1))
+pub control-in : (p : Port) (d : Float) → isNanSet p ≡ false → isNumber d ≡ true → In binary64 plusZero (floatOf 1) (clampOf (valueOr p d) plusZero (floatOf 1))
 unfolding fits le ofInt
 control-in p d h k = clamp-in (valueOr p d) tt tt (value-number p d h k)
 

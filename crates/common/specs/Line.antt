@@ -5,15 +5,15 @@ use mathlib.Core.Bool.{Bool, true, _&&_}
 use mathlib.Core.List.{List, [], _∷_}
 use lib.ListN.{getD, replicate}
 use lib.Ieee.{Float, nan, binary64, mul, div, eq}
-use Rattle.float64.specs.Number.{plusZero, ofNat, wholePart, fractionPart, inRange}
+use Rattle.float64.specs.Number.{plusZero, floatOf, wholePart, fractionPart, inRange}
 use Rattle.common.specs.Signal.{blended}
 
 -- L of a swept line: the whole part of rate × milliseconds / 1000, plus 10. No effect's milliseconds lie outside 1 to 100
 abbrev pub sweptLength : Float → Float → ℕ
-sweptLength milliseconds rate = wholePart (div binary64 (mul binary64 rate milliseconds) (ofNat 1000)) + 10
+sweptLength milliseconds rate = wholePart (div binary64 (mul binary64 rate milliseconds) (floatOf 1000)) + 10
 
 abbrev pub sweepFits : Float → Bool
-sweepFits milliseconds = inRange milliseconds (ofNat 1) (ofNat 100)
+sweepFits milliseconds = inRange milliseconds (floatOf 1) (floatOf 100)
 
 -- n places of +0
 abbrev pub zeros : ℕ → List Float

@@ -3,7 +3,7 @@ ghost use mathlib.Core.Path.{_≡_};
 ghost use mathlib.Core.Bool.{true, cond, _&&_};
 ghost use Prim.Native.Nat.{_-_, _≤_, _<_};
 ghost use lib.ListN.{length};
-ghost use Rattle.float64.specs.Number.{ofNat, inRange, rateFits, atLeast, atMost};
+ghost use Rattle.float64.specs.Number.{floatOf, inRange, rateFits, atLeast, atMost};
 ghost use Rattle.port.specs.Answer.{numberOf};
 ghost use Rattle.common.specs.Signal.{sanitized, blended, advanced, causeNumber};
 ghost use Rattle.common.specs.Line.{sweptLength, sweepFits, zeros, place, nextPlace, lineAt, readAt, allZero};
@@ -65,7 +65,7 @@ pub fn line_length(rate: f64, milliseconds: f64) -> u64
 
 // A distance held to a line: at least 1, and at most the last place. Two instructions, where a clamp has branches.
 pub fn held_to_line(distance: f64, last: u32) -> f64
-    ensures { λ r. ⌜ r ≡ atMost (atLeast distance (ofNat 1)) (ofNat last) ⌝ }
+    ensures { λ r. ⌜ r ≡ atMost (atLeast distance (floatOf 1)) (floatOf last) ⌝ }
 {
     float64::at_most(float64::at_least(distance, 1.0), float64::from_u32(last))
 }
@@ -113,7 +113,7 @@ pub fn next_place(n: u64, w: u64) -> u64
 pub fn read_interpolated(line: &[f64], w: usize, distance: f64) -> f64
     requires { ⌜ w < length (now line) ⌝ }
     requires { ⌜ length (now line) ≤ 16777217 ⌝ }
-    requires { ⌜ inRange distance (ofNat 1) (ofNat (length (now line) - 1)) ≡ true ⌝ }
+    requires { ⌜ inRange distance (floatOf 1) (floatOf (length (now line) - 1)) ≡ true ⌝ }
     ensures { λ r. ⌜ r ≡ readAt (lineAt 0 (length (now (line .entry))) w (now (line .entry))) distance ⌝ }
 {
     let n = line.len();

@@ -12,7 +12,7 @@ use lib.Ieee as Ieee
 use lib.Ieee.Bits.{is-true}
 use lib.Ieee.Positive.{positive, between}
 use borrow.Author.Tests.{ltb-true, lt-ltb}
-use Rattle.float64.specs.Number.{plusZero, ofNat, fraction, half, isNumber, isFinite, inRange, rateFits, coefficientFits, clampOf}
+use Rattle.float64.specs.Number.{plusZero, floatOf, fraction, half, isNumber, isFinite, inRange, rateFits, coefficientFits, clampOf}
 use Rattle.float64.proofs.Tests.{clash, both}
 use Rattle.float64.proofs.Interval.{In, mul-in}
 use Rattle.float64.proofs.Ranges.{rate-in, range-in, in-range, in-number, finite-number}
@@ -36,7 +36,7 @@ use Rattle.delay_line.specs.DelayLine as page
 
 -- ---- the maximum, and the length of the line
 
-maximum-in : {maximum : Float} → maximumFits maximum ≡ true → In binary64 (fraction 1 1000) (ofNat 60) maximum
+maximum-in : {maximum : Float} → maximumFits maximum ≡ true → In binary64 (fraction 1 1000) (floatOf 60) maximum
 unfolding Ieee.fits ofInt round
 maximum-in k = range-in tt k
 
@@ -45,7 +45,7 @@ pub held-fits : (x : Float) → maximumFits (heldMaximum x) ≡ true
 unfolding heldMaximum inRange Ieee.fits le ofInt round
 held-fits x = go (isFinite x) refl
   where
-    go : (b : Bool) → isFinite x ≡ b → maximumFits (cond b (clampOf x (fraction 1 1000) (ofNat 60)) (ofNat 2)) ≡ true
+    go : (b : Bool) → isFinite x ≡ b → maximumFits (cond b (clampOf x (fraction 1 1000) (floatOf 60)) (floatOf 2)) ≡ true
     go true f = in-range (clamp-in x tt tt (finite-number x f))
     go false f = refl
 
@@ -55,9 +55,9 @@ module _ (rate maximum : Float) (h : rateFits rate ≡ true) (k : maximumFits ma
   length-fits = let l = line-length rate h (maximum-in k) in (omega (arith, l .0), l .1)
 
   -- rate × maximum is small enough for the quick whole part
-  pub samples-small : T (le (ofNat 1) (mul binary64 rate maximum)) × T (lt (mul binary64 rate maximum) (ofNat 9007199254740992))
+  pub samples-small : T (le (floatOf 1) (mul binary64 rate maximum)) × T (lt (mul binary64 rate maximum) (floatOf 9007199254740992))
   unfolding Ieee.fits le lt mul ofInt round
-  samples-small = small (mul-in (ofNat 1) (ofNat 16777216) tt tt tt (rate-in h) (maximum-in k))
+  samples-small = small (mul-in (floatOf 1) (floatOf 16777216) tt tt tt (rate-in h) (maximum-in k))
 
 -- where the maximum fits, what `settings_refusal` answers is the table's row: causes 1, 2 and 3
 pub settings-row : (rate coefficient maximum : Float) (n : ℕ) {k : ℕ} → maximumFits maximum ≡ true
@@ -187,7 +187,7 @@ nan-none : (rate : Float) → isNumber (samplesOf rate nan) ≡ false
 unfolding samplesOf isNumber isNan mul div Ieee.fits
 nan-none rate = refl
 
-nan-clamped : (maximum : Float) → mul binary64 (clampOf nan plusZero maximum) (ofNat 1000) ≡ nan
+nan-clamped : (maximum : Float) → mul binary64 (clampOf nan plusZero maximum) (floatOf 1000) ≡ nan
 unfolding clampOf lt mul
 nan-clamped maximum = rw (below-nan maximum)
 
@@ -197,7 +197,7 @@ plain-read rate nan h e = clash e (nan-none rate)
 plain-read rate (inf s) h e = rw (is-true (Ieee.fits binary64 (inf s)) h)
 plain-read rate (fin s m d) h e = rw (is-true (Ieee.fits binary64 (fin s m d)) h)
 
-pub linear-read : (rate time maximum : Float) → T (Ieee.fits binary64 time) → isNumber (samplesOf rate (mul binary64 (clampOf time plusZero maximum) (ofNat 1000))) ≡ true → isNumber time ≡ true
+pub linear-read : (rate time maximum : Float) → T (Ieee.fits binary64 time) → isNumber (samplesOf rate (mul binary64 (clampOf time plusZero maximum) (floatOf 1000))) ≡ true → isNumber time ≡ true
 unfolding isNumber isNan
 linear-read rate nan maximum h e = clash e (ap (λ (y : Float). isNumber (samplesOf rate y)) (nan-clamped maximum) ∙ nan-none rate)
 linear-read rate (inf s) maximum h e = rw (is-true (Ieee.fits binary64 (inf s)) h)
@@ -212,55 +212,55 @@ module _ (t : Tick) (s : DelayLine) (f : Fits s) (k : TickFits t (s .«linear_ti
   ms-number = go (s .«linear_time») refl
     where
       go : (b : Bool) → s .«linear_time» ≡ b
-          → isNumber (cond b (mul binary64 (clampOf (valueOr (t .time) half) plusZero (s .«max_delay_secs»)) (ofNat 1000)) (t .milliseconds)) ≡ true
-      go true e = mul-number _ (ofNat 1000) (clamp-number _ plusZero _ (value-number (t .time) half (k .time e) refl) refl (in-number (maximum-in (f .maximum)))) tt
+          → isNumber (cond b (mul binary64 (clampOf (valueOr (t .time) half) plusZero (s .«max_delay_secs»)) (floatOf 1000)) (t .milliseconds)) ≡ true
+      go true e = mul-number _ (floatOf 1000) (clamp-number _ plusZero _ (value-number (t .time) half (k .time e) refl) refl (in-number (maximum-in (f .maximum)))) tt
       go false e = k .milliseconds e
 
   pub samples-number : isNumber (samplesOf (s .«sample_rate») (delayMs t s)) ≡ true
   unfolding samplesOf ofInt
   samples-number =
       let r = rate-in (f .rate) in
-      let p : T (positive (s .«sample_rate»)) = between (ofNat 8000) (s .«sample_rate») (ofNat 192000) tt tt (r .lower) (r .upper) in
-      div-number _ (ofNat 1000) (mul-number (delayMs t s) (s .«sample_rate») ms-number p) tt
+      let p : T (positive (s .«sample_rate»)) = between (floatOf 8000) (s .«sample_rate») (floatOf 192000) tt tt (r .lower) (r .upper) in
+      div-number _ (floatOf 1000) (mul-number (delayMs t s) (s .«sample_rate») ms-number p) tt
 
 module _ (s : DelayLine) (f : Fits s) (x : Float) (k : isNumber x ≡ true) where
-  target-in : In binary64 (ofNat 1) (ofNat (size s - 1)) (clampOf x (ofNat 1) (ofNat (size s - 1)))
+  target-in : In binary64 (floatOf 1) (floatOf (size s - 1)) (clampOf x (floatOf 1) (floatOf (size s - 1)))
   target-in =
       let l = length-fits (s .«sample_rate») (s .«max_delay_secs») (f .rate) (f .maximum) in
       clamp-whole-in (size s - 1) (omega (arith, l .1)) x (omega (arith, l .0)) k
 
   -- the distance stays from 1 to L − 1 by itself, rounding included: so both places that are read lie in the line
-  pub reads-in : In binary64 (ofNat 1) (ofNat (size s - 1)) (readsAt s x)
+  pub reads-in : In binary64 (floatOf 1) (floatOf (size s - 1)) (readsAt s x)
   unfolding readsAt glided glideFits
   reads-in = go (s .«delay_primed») (f .glide)
     where
       target : Float
-      target = clampOf x (ofNat 1) (ofNat (size s - 1))
+      target = clampOf x (floatOf 1) (floatOf (size s - 1))
 
       go : (b : Bool) → glideFits b (s .«smoothed_delay») (size s) ≡ true
-          → In binary64 (ofNat 1) (ofNat (size s - 1)) (glided b (s .«smoothed_delay») (s .«delay_smooth_coef») target)
+          → In binary64 (floatOf 1) (floatOf (size s - 1)) (glided b (s .«smoothed_delay») (s .«delay_smooth_coef») target)
       go true g =
           let l = length-fits (s .«sample_rate») (s .«max_delay_secs») (f .rate) (f .maximum) in
           glide-in (size s - 1) (s .«delay_smooth_coef») (omega (arith, l .1)) target-in (range-in (whole-ends (size s - 1) (omega (arith, l .1))) g) (f .coefficient)
       go false g = target-in
 
   -- by the length n of the line and the distance d that the code works out
-  pub in-line : {n : ℕ} {d : Float} → n ≡ size s → d ≡ readsAt s x → inRange d (ofNat 1) (ofNat (n - 1)) ≡ true
-  in-line e g = (λ i. inRange (g i) (ofNat 1) (ofNat (e i - 1))) ∙ in-range reads-in
+  pub in-line : {n : ℕ} {d : Float} → n ≡ size s → d ≡ readsAt s x → inRange d (floatOf 1) (floatOf (n - 1)) ≡ true
+  in-line e g = (λ i. inRange (g i) (floatOf 1) (floatOf (e i - 1))) ∙ in-range reads-in
 
-pub distance-in : (t : Tick) (s : DelayLine) → Fits s → TickFits t (s .«linear_time») → In binary64 (ofNat 1) (ofNat (size s - 1)) (distance t s)
+pub distance-in : (t : Tick) (s : DelayLine) → Fits s → TickFits t (s .«linear_time») → In binary64 (floatOf 1) (floatOf (size s - 1)) (distance t s)
 unfolding distance
 distance-in t s f k = reads-in s f (samplesOf (s .«sample_rate») (delayMs t s)) (samples-number t s f k)
 
 -- ---- an accepted tick from its steps
 
 module _ (s : DelayLine) (x : Float) {n : ℕ} (e : n ≡ size s) where
-  pub reads-is : {target d : Float} → target ≡ clampOf x (ofNat 1) (ofNat (n - 1))
+  pub reads-is : {target d : Float} → target ≡ clampOf x (floatOf 1) (floatOf (n - 1))
       → d ≡ glided (s .«delay_primed») (s .«smoothed_delay») (s .«delay_smooth_coef») target
       → d ≡ readsAt s x
   unfolding readsAt
   reads-is b c =
-      c ∙ (λ i. glided (s .«delay_primed») (s .«smoothed_delay») (s .«delay_smooth_coef») ((b ∙ (λ j. clampOf x (ofNat 1) (ofNat (e j - 1)))) i))
+      c ∙ (λ i. glided (s .«delay_primed») (s .«smoothed_delay») (s .«delay_smooth_coef») ((b ∙ (λ j. clampOf x (floatOf 1) (floatOf (e j - 1)))) i))
 
   -- a read in the line's part of the memory is what the tick reads
   pub delayed-is : (m : List Float) {d y : Float} → n ≤ length m → s .«write_pos» < n → d ≡ readsAt s x
@@ -271,10 +271,10 @@ module _ (s : DelayLine) (x : Float) {n : ℕ} (e : n ≡ size s) where
       r ∙ part-read n 0 n (s .«write_pos») m d refl (omega (arith, l)) h ∙ (λ i. readAt (lineAt 0 (e i) (s .«write_pos») m) (a i))
 
 -- the tick as its page has it, from the numbers that it takes from its ports and its delay in samples
-module _ (t : Tick) (s : DelayLine) (m : List Float) {a c f b x : Float} (audio : a ≡ valueOr (t .audio) plusZero) (time : c ≡ valueOr (t .time) half) (back : f ≡ valueOr (t .feedback) plusZero) (wet : b ≡ valueOr (t .mix) half) (read : x ≡ samplesOf (s .«sample_rate») (cond (s .«linear_time») (mul binary64 (clampOf c plusZero (s .«max_delay_secs»)) (ofNat 1000)) (t .milliseconds))) where
+module _ (t : Tick) (s : DelayLine) (m : List Float) {a c f b x : Float} (audio : a ≡ valueOr (t .audio) plusZero) (time : c ≡ valueOr (t .time) half) (back : f ≡ valueOr (t .feedback) plusZero) (wet : b ≡ valueOr (t .mix) half) (read : x ≡ samplesOf (s .«sample_rate») (cond (s .«linear_time») (mul binary64 (clampOf c plusZero (s .«max_delay_secs»)) (floatOf 1000)) (t .milliseconds))) where
   samples-are : x ≡ samplesOf (s .«sample_rate») (delayMs t s)
   unfolding delayMs
-  samples-are = read ∙ (λ i. samplesOf (s .«sample_rate») (cond (s .«linear_time») (mul binary64 (clampOf (time i) plusZero (s .«max_delay_secs»)) (ofNat 1000)) (t .milliseconds)))
+  samples-are = read ∙ (λ i. samplesOf (s .«sample_rate») (cond (s .«linear_time») (mul binary64 (clampOf (time i) plusZero (s .«max_delay_secs»)) (floatOf 1000)) (t .milliseconds)))
 
   pub next-is : {n : ℕ} {r : DelayLine} → n ≡ size s → r ≡ moved n (readsAt s x) s → r ≡ next t s
   unfolding next distance
@@ -284,6 +284,6 @@ module _ (t : Tick) (s : DelayLine) (m : List Float) {a c f b x : Float} (audio 
   unfolding writes delayed
   stored-is g = g ∙ (λ i. set m (s .«write_pos») (add binary64 (sanitized (audio i)) (mul binary64 (delayedBy s (samples-are i) m) (clampOf (back i) plusZero (fraction 99 100)))))
 
-  pub played-is : {q : Reply} → q ≡ played (blended (sanitized a) (delayedBy s x m) (clampOf b plusZero (ofNat 1)) ∷ []) → q ≡ played (page.samples t s m)
+  pub played-is : {q : Reply} → q ≡ played (blended (sanitized a) (delayedBy s x m) (clampOf b plusZero (floatOf 1)) ∷ []) → q ≡ played (page.samples t s m)
   unfolding page.samples delayed
-  played-is g = g ∙ (λ i. played (blended (sanitized (audio i)) (delayedBy s (samples-are i) m) (clampOf (wet i) plusZero (ofNat 1)) ∷ []))
+  played-is g = g ∙ (λ i. played (blended (sanitized (audio i)) (delayedBy s (samples-are i) m) (clampOf (wet i) plusZero (floatOf 1)) ∷ []))

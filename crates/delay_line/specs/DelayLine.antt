@@ -5,7 +5,7 @@ use mathlib.Core.List.{List, [], _∷_}
 use lib.Dec.{ltb}
 use lib.ListN.{take}
 use lib.Ieee.{Float, binary64, add, sub, mul, div}
-use Rattle.float64.specs.Number.{plusZero, ofNat, fraction, half, isNumber, isFinite, inRange, isPlusZero, rateFits, coefficientFits, clampOf, wholePart}
+use Rattle.float64.specs.Number.{plusZero, floatOf, fraction, half, isNumber, isFinite, inRange, isPlusZero, rateFits, coefficientFits, clampOf, wholePart}
 use Rattle.port.specs.declared.Port.{Port}
 use Rattle.port.specs.Port.{valueOr, isNanSet}
 use Rattle.common.specs.Signal.{sanitized, blended, causeNumber}
@@ -43,7 +43,7 @@ tickOf audio time feedback mix milliseconds = record { audio = audio; time = tim
 
 -- the maximum in seconds: not finite means 2.0, else clamped to 0.001 to 60
 unfoldable pub heldMaximum : Float → Float
-heldMaximum x = cond (isFinite x) (clampOf x (fraction 1 1000) (ofNat 60)) (ofNat 2)
+heldMaximum x = cond (isFinite x) (clampOf x (fraction 1 1000) (floatOf 60)) (floatOf 2)
 
 abbrev pub handing : Float → Float → Float → Bool → Settings
 handing rate coefficient maximum linear = record { rate = rate; coefficient = coefficient; maximum = maximum; linear = linear }
@@ -60,7 +60,7 @@ unfoldable pub settingsNumber : Float → Float → ℕ
 settingsNumber rate coefficient = cond (rateFits rate) (cond (coefficientFits coefficient) 0 2) 1
 
 abbrev pub maximumFits : Float → Bool
-maximumFits x = inRange x (fraction 1 1000) (ofNat 60)
+maximumFits x = inRange x (fraction 1 1000) (floatOf 60)
 
 -- L: the whole part of rate × maximum, plus 1
 unfoldable pub lineLength : Float → Float → ℕ
@@ -90,7 +90,7 @@ blank = cleared (handing plusZero plusZero plusZero false)
 
 -- the glide distance in a line of L places: +0, sign included, while unprimed, else 1 to L − 1
 unfoldable pub glideFits : Bool → Float → ℕ → Bool
-glideFits primed distance L = cond primed (inRange distance (ofNat 1) (ofNat (L - 1))) (isPlusZero distance)
+glideFits primed distance L = cond primed (inRange distance (floatOf 1) (floatOf (L - 1))) (isPlusZero distance)
 
 -- the state test, cause 4
 unfoldable pub stateFits : DelayLine → Bool
@@ -115,15 +115,15 @@ abbrev pub feedback : Tick → Float
 feedback t = clampOf (valueOr (t .feedback) plusZero) plusZero (fraction 99 100)
 
 abbrev pub mix : Tick → Float
-mix t = clampOf (valueOr (t .mix) half) plusZero (ofNat 1)
+mix t = clampOf (valueOr (t .mix) half) plusZero (floatOf 1)
 
 -- the delay in milliseconds: in linear mode the time port's seconds, 0 to the maximum, times 1000; else the curve number
 unfoldable pub delayMs : Tick → DelayLine → Float
-delayMs t s = cond (s .«linear_time») (mul binary64 (clampOf (valueOr (t .time) half) plusZero (s .«max_delay_secs»)) (ofNat 1000)) (t .milliseconds)
+delayMs t s = cond (s .«linear_time») (mul binary64 (clampOf (valueOr (t .time) half) plusZero (s .«max_delay_secs»)) (floatOf 1000)) (t .milliseconds)
 
 -- milliseconds × rate / 1000
 unfoldable pub samplesOf : Float → Float → Float
-samplesOf rate ms = div binary64 (mul binary64 ms rate) (ofNat 1000)
+samplesOf rate ms = div binary64 (mul binary64 ms rate) (floatOf 1000)
 
 -- the distance that is read: the first tick after a clearing reads at the target, later ones at target + (last distance − target) × coefficient
 unfoldable pub glided : Bool → Float → Float → Float → Float
@@ -133,7 +133,7 @@ glided primed last coefficient target = cond primed (add binary64 target (mul bi
 unfoldable pub readsAt : DelayLine → Float → Float
 readsAt s samples =
     let L = lineLength (s .«sample_rate») (s .«max_delay_secs») in
-    glided (s .«delay_primed») (s .«smoothed_delay») (s .«delay_smooth_coef») (clampOf samples (ofNat 1) (ofNat (L - 1)))
+    glided (s .«delay_primed») (s .«smoothed_delay») (s .«delay_smooth_coef») (clampOf samples (floatOf 1) (floatOf (L - 1)))
 
 unfoldable pub distance : Tick → DelayLine → Float
 distance t s = readsAt s (samplesOf (s .«sample_rate») (delayMs t s))

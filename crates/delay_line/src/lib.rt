@@ -5,7 +5,7 @@ ghost use Prim.Native.Nat.{_-_, _≤_, _<_};
 ghost use mathlib.Core.List.{[], _∷_};
 ghost use lib.ListN.{length, set};
 ghost use lib.Ieee.{binary64, add, mul};
-ghost use Rattle.float64.specs.Number.{plusZero, ofNat, fraction, isNumber, rateFits, coefficientFits, clampOf};
+ghost use Rattle.float64.specs.Number.{plusZero, floatOf, fraction, isNumber, rateFits, coefficientFits, clampOf};
 ghost use Rattle.port.specs.declared.Port.the-variants.{Set, Unset};
 ghost use Rattle.port.specs.Answer.{played, numberOf, outcomeReply, answerReply, silenceReply};
 ghost use Rattle.common.specs.Signal.{sanitized, blended};
@@ -228,7 +228,7 @@ impl DelayLine {
     fn target_delay(n: u64, samples: f64) -> f64
         requires { ⌜ 2 ≤ n ⌝ }
         requires { ⌜ n ≤ 11520001 ⌝ }
-        ensures { λ r. ⌜ r ≡ clampOf samples (ofNat 1) (ofNat (n - 1)) ⌝ }
+        ensures { λ r. ⌜ r ≡ clampOf samples (floatOf 1) (floatOf (n - 1)) ⌝ }
     {
         common::held_to_line(samples, (n - 1) as u32)
     }
@@ -248,7 +248,7 @@ impl DelayLine {
     // NaN where what it is read from is.
     fn delay_samples(self, time: f64, milliseconds: f64) -> f64
         ensures { λ r. ⌜ r ≡ samplesOf (self .«sample_rate»)
-            (cond (self .«linear_time») (mul binary64 (clampOf time plusZero (self .«max_delay_secs»)) (ofNat 1000)) milliseconds) ⌝ }
+            (cond (self .«linear_time») (mul binary64 (clampOf time plusZero (self .«max_delay_secs»)) (floatOf 1000)) milliseconds) ⌝ }
         ensures { λ r. ⌜ (isNumber r ≡ true → cond (self .«linear_time») (isNumber time) (isNumber milliseconds) ≡ true) ⌝ }
     {
         if self.linear_time {
@@ -315,7 +315,7 @@ impl DelayLine {
         requires { ⌜ isNumber samples ≡ true ⌝ }
         ensures { λ r. ⌜ r .state ≡ moved n (readsAt self samples) self ⌝ }
         ensures { λ r. ⌜ answerReply (r .answer) ≡ played
-            (blended (sanitized audio) (delayedBy self samples (now (mem .entry))) (clampOf mix plusZero (ofNat 1)) ∷ []) ⌝ }
+            (blended (sanitized audio) (delayedBy self samples (now (mem .entry))) (clampOf mix plusZero (floatOf 1)) ∷ []) ⌝ }
         ensures { λ _. ⌜ now (mem .exit) ≡ set (now (mem .entry)) (self .«write_pos»)
             (add binary64 (sanitized audio)
             (mul binary64 (delayedBy self samples (now (mem .entry))) (clampOf feedback plusZero (fraction 99 100)))) ⌝ }

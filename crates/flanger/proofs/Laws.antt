@@ -10,7 +10,7 @@ use lib.ListN.{length, take, drop, set}
 use lib.Ieee.{Float, binary64, add, mul, div, neg, le, lt, ofInt, round}
 use lib.Ieee as Ieee
 use borrow.Author.Tests.{ltb-true, lt-ltb}
-use Rattle.float64.specs.Number.{plusZero, ofNat, fraction, half, inRange, rateFits, phaseFits, frequencyFits, sineFits, clampOf}
+use Rattle.float64.specs.Number.{plusZero, floatOf, fraction, half, inRange, rateFits, phaseFits, frequencyFits, sineFits, clampOf}
 use Rattle.float64.proofs.Tests.{both}
 use Rattle.float64.proofs.Interval.{In, point, add-in, mul-in, div-in}
 use Rattle.float64.proofs.Ranges.{rate-in, sine-in, range-in, in-number}
@@ -97,19 +97,19 @@ tick-fits t e =
 -- (1 + (sine + 1) × 0.5 × (depth × 9)) × rate / 1000
 abbrev pub swept : Float → Float → Float → Float
 swept rate depth sine =
-    div binary64 (mul binary64 (add binary64 (ofNat 1) (mul binary64 (mul binary64 (add binary64 sine (ofNat 1)) half) (mul binary64 depth (ofNat 9)))) rate) (ofNat 1000)
+    div binary64 (mul binary64 (add binary64 (floatOf 1) (mul binary64 (mul binary64 (add binary64 sine (floatOf 1)) half) (mul binary64 depth (floatOf 9)))) rate) (floatOf 1000)
 
-module _ (rate depth sine : Float) (h : rateFits rate ≡ true) (d : inRange depth plusZero (ofNat 1) ≡ true) (k : sineFits sine ≡ true) where
-  swept-in : In binary64 plusZero (ofNat 1920) (swept rate depth sine)
+module _ (rate depth sine : Float) (h : rateFits rate ≡ true) (d : inRange depth plusZero (floatOf 1) ≡ true) (k : sineFits sine ≡ true) where
+  swept-in : In binary64 plusZero (floatOf 1920) (swept rate depth sine)
   unfolding Ieee.fits le lt add mul div neg ofInt round
   swept-in =
-      let turn = mul-in plusZero (ofNat 1) tt tt tt (add-in plusZero (ofNat 2) tt (sine-in k) (point (ofNat 1) tt)) (point half tt) in
-      let swing = mul-in plusZero (ofNat 9) tt tt tt (range-in tt d) (point (ofNat 9) tt) in
-      let delay = add-in (ofNat 1) (ofNat 10) tt (point (ofNat 1) tt) (mul-in plusZero (ofNat 9) tt tt tt turn swing) in
-      div-in plusZero (ofNat 1920) tt tt tt (mul-in plusZero (ofNat 1920000) tt tt tt delay (rate-in h)) (point (ofNat 1000) tt)
+      let turn = mul-in plusZero (floatOf 1) tt tt tt (add-in plusZero (floatOf 2) tt (sine-in k) (point (floatOf 1) tt)) (point half tt) in
+      let swing = mul-in plusZero (floatOf 9) tt tt tt (range-in tt d) (point (floatOf 9) tt) in
+      let delay = add-in (floatOf 1) (floatOf 10) tt (point (floatOf 1) tt) (mul-in plusZero (floatOf 9) tt tt tt turn swing) in
+      div-in plusZero (floatOf 1920) tt tt tt (mul-in plusZero (floatOf 1920000) tt tt tt delay (rate-in h)) (point (floatOf 1000) tt)
 
   -- after the clamp both places that are read lie in the line
-  pub distance-in : In binary64 (ofNat 1) (ofNat (lineLength rate - 1)) (distance rate depth sine)
+  pub distance-in : In binary64 (floatOf 1) (floatOf (lineLength rate - 1)) (distance rate depth sine)
   unfolding distance
   distance-in =
       let l = length-fits rate h in
@@ -158,7 +158,7 @@ module _ (t : Tick) (s : Flanger) (m : List Float) where
   abbrev tapBy : ℕ → Float → Float → Float
   tapBy i sine d =
       let L = lineLength (s .«sample_rate») in
-      readAt (lineAt (i * L) L (s .«write_pos») m) (distance (s .«sample_rate») (clampOf d plusZero (ofNat 1)) sine)
+      readAt (lineAt (i * L) L (s .«write_pos») m) (distance (s .«sample_rate») (clampOf d plusZero (floatOf 1)) sine)
 
   abbrev fedBy : Float → Float → Float → Float
   fedBy x y f = add binary64 (sanitized x) (mul binary64 y (clampOf f (neg (fraction 95 100)) (fraction 95 100)))
@@ -171,7 +171,7 @@ module _ (t : Tick) (s : Flanger) (m : List Float) where
       (fedBy x (tapBy 1 (t .sine1) d) f)
 
   abbrev mixedBy : Float → Float → Float → Float
-  mixedBy x y b = blended (sanitized x) y (clampOf b plusZero (ofNat 1))
+  mixedBy x y b = blended (sanitized x) y (clampOf b plusZero (floatOf 1))
 
   abbrev playedBy : Float → Float → Float → Reply
   playedBy x d b =

@@ -5,7 +5,7 @@ use mathlib.Core.List.{List, [], _∷_}
 use lib.Dec.{ltb}
 use lib.ListN.{take}
 use lib.Ieee.{Float, binary64, add, mul, div, neg}
-use Rattle.float64.specs.Number.{plusZero, ofNat, fraction, half, rateFits, phaseFits, frequencyFits, sineFits, clampOf}
+use Rattle.float64.specs.Number.{plusZero, floatOf, fraction, half, rateFits, phaseFits, frequencyFits, sineFits, clampOf}
 use Rattle.port.specs.declared.Port.{Port}
 use Rattle.port.specs.Port.{valueOr, isNanSet}
 use Rattle.common.specs.Signal.{sanitized, blended, advanced, causeNumber}
@@ -29,7 +29,7 @@ tickOf audio depth feedback mix frequency sine0 sine1 =
 
 -- L: the whole part of rate × 10 / 1000, plus 10
 unfoldable pub lineLength : Float → ℕ
-lineLength rate = sweptLength (ofNat 10) rate
+lineLength rate = sweptLength (floatOf 10) rate
 
 -- two lines follow each other from place 0
 abbrev pub places : Float → ℕ
@@ -69,22 +69,22 @@ abbrev pub input : Tick → Float
 input t = sanitized (valueOr (t .audio) plusZero)
 
 abbrev pub depth : Tick → Float
-depth t = clampOf (valueOr (t .depth) half) plusZero (ofNat 1)
+depth t = clampOf (valueOr (t .depth) half) plusZero (floatOf 1)
 
 -- −0.95 to 0.95
 abbrev pub feedback : Tick → Float
 feedback t = clampOf (valueOr (t .feedback) plusZero) (neg (fraction 95 100)) (fraction 95 100)
 
 abbrev pub mix : Tick → Float
-mix t = clampOf (valueOr (t .mix) half) plusZero (ofNat 1)
+mix t = clampOf (valueOr (t .mix) half) plusZero (floatOf 1)
 
 -- (1 + (sine + 1) × 0.5 × (depth × 9)) × rate / 1000, clamped to 1 to L − 1
 unfoldable pub distance : Float → Float → Float → Float
 distance rate depth sine =
     clampOf
-    (div binary64 (mul binary64 (add binary64 (ofNat 1) (mul binary64 (mul binary64 (add binary64 sine (ofNat 1)) half) (mul binary64 depth (ofNat 9)))) rate) (ofNat 1000))
-    (ofNat 1)
-    (ofNat (lineLength rate - 1))
+    (div binary64 (mul binary64 (add binary64 (floatOf 1) (mul binary64 (mul binary64 (add binary64 sine (floatOf 1)) half) (mul binary64 depth (floatOf 9)))) rate) (floatOf 1000))
+    (floatOf 1)
+    (floatOf (lineLength rate - 1))
 
 -- what line i, 0 left and 1 right, holds at its own distance, before the store
 unfoldable pub tap : ℕ → Float → Tick → Flanger → List Float → Float

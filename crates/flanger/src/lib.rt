@@ -4,7 +4,7 @@ ghost use mathlib.Core.Bool.{true, cond};
 ghost use Prim.Native.Nat.{_<_};
 ghost use lib.ListN.{length};
 ghost use lib.Ieee.{binary64, div};
-ghost use Rattle.float64.specs.Number.{plusZero, ofNat, inRange, rateFits, sineFits};
+ghost use Rattle.float64.specs.Number.{plusZero, floatOf, inRange, rateFits, sineFits};
 ghost use Rattle.port.specs.declared.Port.the-variants.{Set};
 ghost use Rattle.port.specs.Answer.{numberOf, outcomeReply, answerReply, silenceReply};
 ghost use Rattle.common.specs.Signal.{advanced};
@@ -163,7 +163,7 @@ impl Flanger {
         requires { ⌜ rateFits rate ≡ true ⌝ }
         requires { ⌜ length (now line) ≡ lineLength rate ⌝ }
         requires { ⌜ w < length (now line) ⌝ }
-        requires { ⌜ inRange depth plusZero (ofNat 1) ≡ true ⌝ }
+        requires { ⌜ inRange depth plusZero (floatOf 1) ≡ true ⌝ }
         requires { ⌜ sineFits sine ≡ true ⌝ }
         ensures { λ r. ⌜ r ≡ readAt (lineAt 0 (length (now (line .entry))) w (now (line .entry))) (distance rate depth sine) ⌝ }
     {

@@ -7,7 +7,7 @@ use mathlib.Core.Bool.{Bool, true, false, _&&_, _||_, Bool·beq}
 use lib.Dec.{T, eqb}
 use lib.Ieee.{Float, nan, inf, fin, binary64, up, down, level, fits, lt, eq, le}
 use borrow.Author.Tests.{eqb-true, eq-eqb}
-use Rattle.float64.specs.Number.{ofNat}
+use Rattle.float64.specs.Number.{floatOf}
 use Rattle.float64.proofs.Tests.{clash, both}
 use Rattle.float64.proofs.Ranges.{yes}
 use Rattle.float64.proofs.Units.{one, cap, one-pos, key}
@@ -50,10 +50,10 @@ at-most : (x y : Float) → eq x y ≡ true → T (le x y)
 unfolding le
 at-most x y h = or-right (lt x y) (eq x y) h
 
-pub equal-whole : (x : Float) (n : ℕ) → T (fits binary64 x) → 0 < n → n < 2 ^ 53 → eq x (ofNat n) ≡ true → x ≡ ofNat n
+pub equal-whole : (x : Float) (n : ℕ) → T (fits binary64 x) → 0 < n → n < 2 ^ 53 → eq x (floatOf n) ≡ true → x ≡ floatOf n
 equal-whole x n f p w h =
-    let l = at-most x (ofNat n) h in
-    let x' = at binary64 x f (le-num-l x (ofNat n) l) in
+    let l = at-most x (floatOf n) h in
+    let x' = at binary64 x f (le-num-l x (floatOf n) l) in
     let y' = ofInt-at binary64 n w in
-    let e : key binary64 x ≡ cap binary64 + n * one binary64 = omega (arith, of-le x' y' l, of-le y' x' (at-most (ofNat n) x (eq-swaps x (ofNat n) h))) in
+    let e : key binary64 x ≡ cap binary64 + n * one binary64 = omega (arith, of-le x' y' l, of-le y' x' (at-most (floatOf n) x (eq-swaps x (floatOf n) h))) in
     same-key (rekeyed x' e) y' (mul-pos p (one-pos binary64)) (whole-lt binary64 n w)

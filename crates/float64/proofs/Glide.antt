@@ -8,7 +8,7 @@ use native.Mathlib.Omega.{arith}
 use lib.Dec.{T, leb, leb→le, nleb→lt}
 use lib.Ieee.{Float, binary64, add, sub, mul, le}
 use lib.Ieee.Fits.{add-fits}
-use Rattle.float64.specs.Number.{ofNat, coefficientFits}
+use Rattle.float64.specs.Number.{floatOf, coefficientFits}
 use Rattle.float64.proofs.Units.{one, cap, one-pos, cap-pos, Rep}
 use Rattle.float64.proofs.Round.{rounded, rounded-exact, rounded-le, rounded-rep, rounded-units-mono, difference-le, difference-ge, difference-pos, difference-neg, rep-whole, whole-lt}
 use Rattle.float64.proofs.Near.{rep-sub, no-overshoot}
@@ -48,7 +48,7 @@ module _ (M U D C : ℕ) (t d c : Float) (hM : suc M ≤ 2 ^ 52) (t-at : At bina
   c-lt = lt-of-le-of-lt c-hi one-lt
 
   abbrev Stays : Type 0
-  Stays = T (le (ofNat 1) (add binary64 t (mul binary64 (sub binary64 d t) c))) × T (le (add binary64 t (mul binary64 (sub binary64 d t) c)) (ofNat M))
+  Stays = T (le (floatOf 1) (add binary64 t (mul binary64 (sub binary64 d t) c))) × T (le (add binary64 t (mul binary64 (sub binary64 d t) c)) (floatOf M))
 
   -- t ≤ d
   rising : U ≤ D → Stays
@@ -102,8 +102,8 @@ module _ (M U D C : ℕ) (t d c : Float) (hM : suc M ≤ 2 ^ 52) (t-at : At bina
       go true p q = rising (p tt)
       go false p q = falling (le-of-lt (q tt))
 
-pub glide-in : (M : ℕ) {t d : Float} (c : Float) → M ≤ 2 ^ 24 → In binary64 (ofNat 1) (ofNat M) t → In binary64 (ofNat 1) (ofNat M) d → coefficientFits c ≡ true
-    → In binary64 (ofNat 1) (ofNat M) (add binary64 t (mul binary64 (sub binary64 d t) c))
+pub glide-in : (M : ℕ) {t d : Float} (c : Float) → M ≤ 2 ^ 24 → In binary64 (floatOf 1) (floatOf M) t → In binary64 (floatOf 1) (floatOf M) d → coefficientFits c ≡ true
+    → In binary64 (floatOf 1) (floatOf M) (add binary64 t (mul binary64 (sub binary64 d t) c))
 glide-in M {t} {d} c h i j k =
     let t' = count M (omega arith) i in
     let d' = count M (omega arith) j in

@@ -9,7 +9,7 @@ use lib.Dec.{T, lit<}
 use lib.Ieee.{Float, binary64, fits, le, lt, ofInt}
 use lib.Ieee.Fits.{and-i}
 use lib.Ieee.Scale.{finite}
-use Rattle.float64.specs.Number.{plusZero, ofNat, wholePart, isNumber, clampOf}
+use Rattle.float64.specs.Number.{plusZero, floatOf, wholePart, isNumber, clampOf}
 use Rattle.float64.proofs.Units.{one, one-pos}
 use Rattle.float64.proofs.Keys.{le-of-size, ofInt-at}
 use Rattle.float64.proofs.Order.{plusZero-at, le-lt-lt, le-transitive}
@@ -20,28 +20,28 @@ use Rattle.float64.proofs.Clamped.{clamp-in}
 pub record Parts (M : ℕ) (x : Float) : Type 0 where
   pub at-least : 1 ≤ wholePart x
   pub at-most : wholePart x ≤ M
-  pub small : T (lt x (ofNat 9007199254740992))
+  pub small : T (lt x (floatOf 9007199254740992))
 
 module _ (M : ℕ) (h : M ≤ 2 ^ 24) where
   wide : M < 2 ^ 53
   wide = omega arith
 
   -- ---- M as an end of an interval
-  whole-in : In binary64 plusZero (ofNat 16777216) (ofNat M)
+  whole-in : In binary64 plusZero (floatOf 16777216) (floatOf M)
   unfolding fits ofInt
   whole-in =
       let m = ofInt-at binary64 M wide in
       box tt (m .fit) (le-of-size (plusZero-at binary64) m zero-le) (le-of-size m (ofInt-at binary64 16777216 (lit< tt)) (mul-le-mul-right (one binary64) h))
 
-  pub whole-ends : T (ends binary64 (ofNat 1) (ofNat M))
+  pub whole-ends : T (ends binary64 (floatOf 1) (floatOf M))
   unfolding fits ofInt
-  whole-ends = and-i (fits binary64 (ofNat 1) && fits binary64 (ofNat M) && finite (ofNat 1)) (finite (ofNat M)) (and-i (fits binary64 (ofNat 1) && fits binary64 (ofNat M)) (finite (ofNat 1)) (whole-in .fit) tt) (in-finite whole-in)
+  whole-ends = and-i (fits binary64 (floatOf 1) && fits binary64 (floatOf M) && finite (floatOf 1)) (finite (floatOf M)) (and-i (fits binary64 (floatOf 1) && fits binary64 (floatOf M)) (finite (floatOf 1)) (whole-in .fit) tt) (in-finite whole-in)
 
-  pub clamp-whole-in : (x : Float) → 1 ≤ M → isNumber x ≡ true → In binary64 (ofNat 1) (ofNat M) (clampOf x (ofNat 1) (ofNat M))
+  pub clamp-whole-in : (x : Float) → 1 ≤ M → isNumber x ≡ true → In binary64 (floatOf 1) (floatOf M) (clampOf x (floatOf 1) (floatOf M))
   clamp-whole-in x k n = clamp-in x whole-ends (le-of-size (ofInt-at binary64 1 (lit< tt)) (ofInt-at binary64 M wide) (mul-le-mul-right (one binary64) k)) n
 
   -- ---- the parts
-  pub parts-of : {x : Float} → In binary64 (ofNat 1) (ofNat M) x → Parts M x
+  pub parts-of : {x : Float} → In binary64 (floatOf 1) (floatOf M) x → Parts M x
   unfolding fits le lt ofInt
   parts-of {x} i =
       let B = binary64 in
@@ -50,21 +50,21 @@ module _ (M : ℕ) (h : M ≤ 2 ^ 24) where
       let n = k .n in
       let x' = k .place in
       let e = whole-is M wide (k .high) x' in
-      let top : T (le x (ofNat 16777216)) = le-transitive B x (ofNat M) (ofNat 16777216) (i .fit) (whole-in .fit) tt (i .upper) (whole-in .upper) in
+      let top : T (le x (floatOf 16777216)) = le-transitive B x (floatOf M) (floatOf 16777216) (i .fit) (whole-in .fit) tt (i .upper) (whole-in .upper) in
       record {
         at-least = le-trans (le-div-iff-mul-le (one-pos B) .1 (le-trans (le-of-eq (one-mul o)) (k .low))) (le-of-eq (sym e));
         at-most = le-trans (le-of-eq e) (whole-le M wide (k .high) x');
-        small = le-lt-lt B x (ofNat 16777216) (ofNat 9007199254740992) (i .fit) tt tt top tt;
+        small = le-lt-lt B x (floatOf 16777216) (floatOf 9007199254740992) (i .fit) tt tt top tt;
       }
 
 -- a whole number between two others lies between them as a float
-pub whole-between : (a n b : ℕ) → a ≤ n → n ≤ b → b ≤ 2 ^ 24 → In binary64 (ofNat a) (ofNat b) (ofNat n)
+pub whole-between : (a n b : ℕ) → a ≤ n → n ≤ b → b ≤ 2 ^ 24 → In binary64 (floatOf a) (floatOf b) (floatOf n)
 whole-between a n b h k l =
     let x = ofInt-at binary64 a (wide a (omega arith)) in
     let y = ofInt-at binary64 n (wide n (omega arith)) in
     let z = ofInt-at binary64 b (wide b l) in
-    let both = and-i (fits binary64 (ofNat a)) (fits binary64 (ofNat b)) (x .fit) (z .fit) in
-    let low = and-i (fits binary64 (ofNat a) && fits binary64 (ofNat b)) (finite (ofNat a)) both (in-finite (whole-in a (omega arith))) in
-    box (and-i (fits binary64 (ofNat a) && fits binary64 (ofNat b) && finite (ofNat a)) (finite (ofNat b)) low (in-finite (whole-in b l))) (y .fit)
+    let both = and-i (fits binary64 (floatOf a)) (fits binary64 (floatOf b)) (x .fit) (z .fit) in
+    let low = and-i (fits binary64 (floatOf a) && fits binary64 (floatOf b)) (finite (floatOf a)) both (in-finite (whole-in a (omega arith))) in
+    box (and-i (fits binary64 (floatOf a) && fits binary64 (floatOf b) && finite (floatOf a)) (finite (floatOf b)) low (in-finite (whole-in b l))) (y .fit)
     (le-of-size x y (mul-le-mul-right (one binary64) h))
     (le-of-size y z (mul-le-mul-right (one binary64) k))

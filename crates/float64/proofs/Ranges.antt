@@ -6,7 +6,7 @@ use lib.Dec.{T}
 use lib.Ieee.{Float, binary64, fits, isNan, neg, le, lt, ofInt}
 use lib.Ieee.Fits.{and-l, and-r, and-i}
 use lib.Ieee.Scale.{finite}
-use Rattle.float64.specs.Number.{plusZero, ofNat, isNumber, isFinite, inRange, inUnit, rateFits, frequencyFits, sineFits}
+use Rattle.float64.specs.Number.{plusZero, floatOf, isNumber, isFinite, inRange, inUnit, rateFits, frequencyFits, sineFits}
 use Rattle.float64.proofs.Order.{lt→le, finite-num}
 use Rattle.float64.proofs.Interval.{In, ends, box, in-finite}
 
@@ -52,29 +52,29 @@ unfolding inRange
 in-range {x} {lo} {hi} i = passed (fits binary64 x && (le lo x && le x hi)) (and-i (fits binary64 x) (le lo x && le x hi) (i .fit) (and-i (le lo x) (le x hi) (i .lower) (i .upper)))
 
 -- ---- 0 ≤ x < 1
-pub unit-lt : (x : Float) → inUnit x ≡ true → T (lt x (ofNat 1))
+pub unit-lt : (x : Float) → inUnit x ≡ true → T (lt x (floatOf 1))
 unfolding inUnit
-unit-lt x h = and-r (le plusZero x) (lt x (ofNat 1)) (and-r (fits binary64 x) (le plusZero x && lt x (ofNat 1)) (yes h))
+unit-lt x h = and-r (le plusZero x) (lt x (floatOf 1)) (and-r (fits binary64 x) (le plusZero x && lt x (floatOf 1)) (yes h))
 
-pub unit-in : {x : Float} → inUnit x ≡ true → In binary64 plusZero (ofNat 1) x
+pub unit-in : {x : Float} → inUnit x ≡ true → In binary64 plusZero (floatOf 1) x
 unfolding inUnit fits ofInt
 unit-in {x} h =
-    let a = and-l (fits binary64 x) (le plusZero x && lt x (ofNat 1)) (yes h) in
-    box tt a (and-l (le plusZero x) (lt x (ofNat 1)) (and-r (fits binary64 x) (le plusZero x && lt x (ofNat 1)) (yes h))) (lt→le binary64 x (ofNat 1) a tt (unit-lt x h))
+    let a = and-l (fits binary64 x) (le plusZero x && lt x (floatOf 1)) (yes h) in
+    box tt a (and-l (le plusZero x) (lt x (floatOf 1)) (and-r (fits binary64 x) (le plusZero x && lt x (floatOf 1)) (yes h))) (lt→le binary64 x (floatOf 1) a tt (unit-lt x h))
 
-pub in-unit : {x : Float} → In binary64 plusZero (ofNat 1) x → T (lt x (ofNat 1)) → inUnit x ≡ true
+pub in-unit : {x : Float} → In binary64 plusZero (floatOf 1) x → T (lt x (floatOf 1)) → inUnit x ≡ true
 unfolding inUnit
-in-unit {x} i k = passed (fits binary64 x && (le plusZero x && lt x (ofNat 1))) (and-i (fits binary64 x) (le plusZero x && lt x (ofNat 1)) (i .fit) (and-i (le plusZero x) (lt x (ofNat 1)) (i .lower) k))
+in-unit {x} i k = passed (fits binary64 x && (le plusZero x && lt x (floatOf 1))) (and-i (fits binary64 x) (le plusZero x && lt x (floatOf 1)) (i .fit) (and-i (le plusZero x) (lt x (floatOf 1)) (i .lower) k))
 
 -- ---- the accepted rates, frequencies and sines
-pub rate-in : {r : Float} → rateFits r ≡ true → In binary64 (ofNat 8000) (ofNat 192000) r
+pub rate-in : {r : Float} → rateFits r ≡ true → In binary64 (floatOf 8000) (floatOf 192000) r
 unfolding fits ofInt
 rate-in h = range-in tt h
 
-pub frequency-in : {f : Float} → frequencyFits f ≡ true → In binary64 plusZero (ofNat 32) f
+pub frequency-in : {f : Float} → frequencyFits f ≡ true → In binary64 plusZero (floatOf 32) f
 unfolding fits ofInt
 frequency-in h = range-in tt h
 
-pub sine-in : {s : Float} → sineFits s ≡ true → In binary64 (neg (ofNat 1)) (ofNat 1) s
+pub sine-in : {s : Float} → sineFits s ≡ true → In binary64 (neg (floatOf 1)) (floatOf 1) s
 unfolding fits ofInt neg
 sine-in h = range-in tt h

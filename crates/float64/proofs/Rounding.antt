@@ -12,7 +12,7 @@ use lib.Pow.{pow-mono}
 use lib.Ieee.{Float, nan, inf, fin, binary64, up, down, sub, fits, le, lt, ofInt, toUnsigned}
 use lib.Ieee.Fits.{down-pos, sub-fits}
 use lib.Ieee.Nearest.{div-same}
-use Rattle.float64.specs.Number.{plusZero, ofNat, half, wholePart, fractionPart, roundHalfAway}
+use Rattle.float64.specs.Number.{plusZero, floatOf, half, wholePart, fractionPart, roundHalfAway}
 use Rattle.float64.proofs.Units.{one, cap, one-pos, sign, mag, Rep, mag-cross, fits-small}
 use Rattle.float64.proofs.Round.{rounded-same, rounded-exact}
 use Rattle.float64.proofs.Keys.{At, rekeyed, le-of, of-nle, size-of-le, size-of-lt, round-at, ofInt-at}
@@ -21,7 +21,7 @@ use Rattle.float64.proofs.Ranges.{yes, no}
 use Rattle.float64.proofs.Wholes.{one-lt, whole-le, whole-is, fraction-at}
 
 -- ---- from 2 ^ 52 on
-pub round-whole : (x : Float) → T (fits binary64 x) → lt x (ofNat 4503599627370496) ≡ false → roundHalfAway x ≡ wholePart x
+pub round-whole : (x : Float) → T (fits binary64 x) → lt x (floatOf 4503599627370496) ≡ false → roundHalfAway x ≡ wholePart x
 unfolding roundHalfAway toUnsigned lt ofInt
 round-whole nan a h = refl
 round-whole (inf s) a h = refl
@@ -46,7 +46,7 @@ half-units =
     (h, e, rekeyed (round-at binary64 false 1 2) (ap (λ (n : ℕ). cap binary64 + n) (rounded-same binary64 1 2 h (one binary64) (lit< tt) (one-pos binary64) (one-mul (one binary64) ∙ e) ∙ rounded-exact binary64 h r l)))
 
 -- ---- below 2 ^ 52, and not below 0: n units
-module _ (m : ℕ) (e : ℤ) (a : T (fits binary64 (fin false m e))) (l : lt (fin false m e) (ofNat 4503599627370496) ≡ true) where
+module _ (m : ℕ) (e : ℤ) (a : T (fits binary64 (fin false m e))) (l : lt (fin false m e) (floatOf 4503599627370496) ≡ true) where
   place : At binary64 (fin false m e) (cap binary64 + mag binary64 (fin false m e))
   unfolding sign
   place = sign-size binary64 (fin false m e) a tt
@@ -91,7 +91,7 @@ negative m e a h =
     le-transitive binary64 half (sub binary64 x plusZero) plusZero tt (sub-fits binary64 x plusZero) tt (yes h) (sub-mono binary64 x plusZero plusZero plusZero a tt tt tt tt tt tt tt l tt)
 
 -- ---- below 2 ^ 52
-pub whole-small : (x : Float) → T (fits binary64 x) → lt x (ofNat 4503599627370496) ≡ true → wholePart x ≤ 4503599627370496
+pub whole-small : (x : Float) → T (fits binary64 x) → lt x (floatOf 4503599627370496) ≡ true → wholePart x ≤ 4503599627370496
 unfolding toUnsigned lt ofInt
 whole-small nan a l = zero-le
 whole-small (inf true) a l = zero-le
@@ -99,7 +99,7 @@ whole-small (inf false) a l = absurd (yes l)
 whole-small (fin true m e) a l = zero-le
 whole-small (fin false m e) a l = let w = whole-part m e a l in le-trans (le-of-eq (w .0)) (w .1)
 
-pub round-up : (x : Float) → T (fits binary64 x) → lt x (ofNat 4503599627370496) ≡ true → le half (fractionPart x) ≡ true → roundHalfAway x ≡ wholePart x + 1
+pub round-up : (x : Float) → T (fits binary64 x) → lt x (floatOf 4503599627370496) ≡ true → le half (fractionPart x) ≡ true → roundHalfAway x ≡ wholePart x + 1
 unfolding toUnsigned le lt sub ofInt
 round-up nan a l h = absurd (yes l)
 round-up (inf true) a l h = absurd (yes h)
@@ -112,7 +112,7 @@ round-up (fin false m e) a l h =
     let r : one binary64 ≤ 2 * (n % one binary64) = omega (arith, u .1, size-of-le (u .2) (rest m e a l) (yes h)) in
     in-units m e a l ∙ more n (one binary64) (one-pos binary64) (w .1) r ∙ ap (λ (z : ℕ). z + 1) (sym (w .0))
 
-pub round-down : (x : Float) → T (fits binary64 x) → lt x (ofNat 4503599627370496) ≡ true → le half (fractionPart x) ≡ false → roundHalfAway x ≡ wholePart x
+pub round-down : (x : Float) → T (fits binary64 x) → lt x (floatOf 4503599627370496) ≡ true → le half (fractionPart x) ≡ false → roundHalfAway x ≡ wholePart x
 unfolding roundHalfAway toUnsigned lt
 round-down nan a l h = refl
 round-down (inf s) a l h = refl

@@ -6,7 +6,7 @@ use native.Mathlib.Nat.{lt-of-le-of-lt, one-mul, min-eq-left, mul-lt-mul-of-pos-
 use native.Mathlib.Omega.{arith}
 use lib.Dec.{lit<}
 use lib.Ieee.{Float, binary64, sub}
-use Rattle.float64.specs.Number.{ofNat, wholePart, fractionPart}
+use Rattle.float64.specs.Number.{floatOf, wholePart, fractionPart}
 use Rattle.float64.proofs.Units.{one, cap, one-pos, key, Rep}
 use Rattle.float64.proofs.Round.{difference-exact, rep-whole, whole-lt}
 use Rattle.float64.proofs.Near.{rep-sub}
@@ -14,7 +14,7 @@ use Rattle.float64.proofs.Keys.{At, at, rekeyed, Fin, of-le, le-num-r, 
 use Rattle.float64.proofs.Interval.{In}
 
 -- ---- 1
-pub one-at : At binary64 (ofNat 1) (cap binary64 + one binary64)
+pub one-at : At binary64 (floatOf 1) (cap binary64 + one binary64)
 one-at = rekeyed (ofInt-at binary64 1 (lit< tt)) (ap (λ (n : ℕ). cap binary64 + n) (one-mul (one binary64)))
 
 pub one-rep : Rep binary64 (one binary64)
@@ -34,11 +34,11 @@ pub record Count (M : ℕ) (x : Float) : Type 0 where
   pub high : n ≤ M * one binary64
   pub place : At binary64 x (cap binary64 + n)
 
-pub count : (M : ℕ) {x : Float} → M < 2 ^ 53 → In binary64 (ofNat 1) (ofNat M) x → Count M x
+pub count : (M : ℕ) {x : Float} → M < 2 ^ 53 → In binary64 (floatOf 1) (floatOf M) x → Count M x
 count M {x} h i =
     let k = key binary64 x in
     let c = cap binary64 in
-    let x' = at binary64 x (i .fit) (le-num-r (ofNat 1) x (i .lower)) in
+    let x' = at binary64 x (i .fit) (le-num-r (floatOf 1) x (i .lower)) in
     let l = of-le one-at x' (i .lower) in
     let u = of-le x' (ofInt-at binary64 M h) (i .upper) in
     let e : k ≡ c + (k - c) = omega arith in
@@ -65,5 +65,5 @@ module _ {x : Float} {n : ℕ} (M : ℕ) (w : M < 2 ^ 53) (h : n ≤ M * one bin
       let r : n - d * o ≡ n % o = omega arith in
       let rep : Rep binary64 (n % o) = subst (Rep binary64) r (rep-sub binary64 n d (rep-at a below-cap) (lt-of-le-of-lt h (mul-lt-mul-of-pos-right w (one-pos binary64)))) in
       let lt : n % o < c = omega (arith, below-cap) in
-      subst (λ (k : ℕ). At binary64 (sub binary64 x (ofNat k)) (c + n % o)) (sym whole-is)
+      subst (λ (k : ℕ). At binary64 (sub binary64 x (floatOf k)) (c + n % o)) (sym whole-is)
       (rekeyed (sub-at a (ofInt-at binary64 d d-wide) (above n below-cap) (above (d * o) (whole-lt binary64 d d-wide))) (difference-exact binary64 (c + n) (c + d * o) (n % o) rep lt (omega arith)))

@@ -13,8 +13,8 @@ abbrev pub plusZero : Float
 plusZero = fin false 0 (pos 0)
 
 -- a whole number; up to 2 ^ 53 it is exact
-abbrev pub ofNat : ℕ → Float
-ofNat n = ofInt binary64 (pos n)
+abbrev pub floatOf : ℕ → Float
+floatOf n = ofInt binary64 (pos n)
 
 -- the float nearest to a / b: how a decimal constant is written
 abbrev pub fraction : ℕ → ℕ → Float
@@ -39,7 +39,7 @@ inRange x lo hi = fits binary64 x && (le lo x && le x hi)
 
 -- 0 ≤ x < 1
 unfoldable pub inUnit : Float → Bool
-inUnit x = fits binary64 x && (le plusZero x && lt x (ofNat 1))
+inUnit x = fits binary64 x && (le plusZero x && lt x (floatOf 1))
 
 -- +0, sign included: all its bits are 0
 unfoldable pub isPlusZero : Float → Bool
@@ -47,7 +47,7 @@ isPlusZero x = fits binary64 x && eqb (toBits binary64 x) 0
 
 -- a sample rate, cause 1
 abbrev pub rateFits : Float → Bool
-rateFits r = inRange r (ofNat 8000) (ofNat 192000)
+rateFits r = inRange r (floatOf 8000) (floatOf 192000)
 
 -- a glide coefficient, cause 2
 abbrev pub coefficientFits : Float → Bool
@@ -59,10 +59,10 @@ phaseFits p = inUnit p
 
 -- a frequency in Hz, and a sine, cause 6
 abbrev pub frequencyFits : Float → Bool
-frequencyFits f = inRange f plusZero (ofNat 32)
+frequencyFits f = inRange f plusZero (floatOf 32)
 
 abbrev pub sineFits : Float → Bool
-sineFits s = inRange s (neg (ofNat 1)) (ofNat 1)
+sineFits s = inRange s (neg (floatOf 1)) (floatOf 1)
 
 -- ---- clamp
 
@@ -92,7 +92,7 @@ wholePart x = toUnsigned 64 x
 
 -- the fraction that the whole part leaves
 abbrev pub fractionPart : Float → Float
-fractionPart x = sub binary64 x (ofNat (wholePart x))
+fractionPart x = sub binary64 x (floatOf (wholePart x))
 
 -- the nearest whole number, halves away from zero, as the Rust's `round` and then `as usize`
 unfoldable pub roundHalfAway : Float → ℕ

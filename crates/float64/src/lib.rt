@@ -3,7 +3,7 @@ ghost use mathlib.Core.Path.{_≡_};
 ghost use mathlib.Core.Bool.{not};
 ghost use lib.Dec.{T};
 ghost use lib.Ieee as Ieee;
-ghost use Rattle.float64.specs.Number.{ofNat, isNumber, isFinite, inRange, inUnit, isPlusZero, rateFits, coefficientFits, phaseFits, frequencyFits, sineFits, clampOf, atLeast, atMost, absolute, wholePart, roundHalfAway};
+ghost use Rattle.float64.specs.Number.{floatOf, isNumber, isFinite, inRange, inUnit, isPlusZero, rateFits, coefficientFits, phaseFits, frequencyFits, sineFits, clampOf, atLeast, atMost, absolute, wholePart, roundHalfAway};
 
 // Whether x is a NaN.
 pub fn is_nan(x: f64) -> bool
@@ -115,14 +115,14 @@ pub fn abs(x: f64) -> f64
 
 // A count as a float, exactly. From 32 bits that is one instruction; from 64 it is ten, as the processor's conversion is of signed numbers.
 pub fn from_u32(n: u32) -> f64
-    ensures { λ r. ⌜ r ≡ ofNat n ⌝ }
+    ensures { λ r. ⌜ r ≡ floatOf n ⌝ }
 {
     n as f64
 }
 
 // The whole part of a number from 1 to below 2^53: the digits, shifted. Reads and line lengths use it; `whole_part` is total and costs more.
 pub fn whole_part_small(x: f64) -> u64
-    requires { ⌜ T (Ieee.le (ofNat 1) x) ⌝ ∗ ⌜ T (Ieee.lt x (ofNat 9007199254740992)) ⌝ }
+    requires { ⌜ T (Ieee.le (floatOf 1) x) ⌝ ∗ ⌜ T (Ieee.lt x (floatOf 9007199254740992)) ⌝ }
     ensures { λ r. ⌜ r ≡ wholePart x ⌝ }
 {
     let bits: u64 = f64::to_bits(x);

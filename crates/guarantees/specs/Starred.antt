@@ -7,7 +7,7 @@ use mathlib.Core.List.{List, [], _∷_}
 use lib.IntN.{pos}
 use lib.ListN.{getD, replicate}
 use lib.Ieee.{Float, nan, inf, fin, neg}
-use Rattle.float64.specs.Number.{plusZero, ofNat, fraction, half}
+use Rattle.float64.specs.Number.{plusZero, floatOf, fraction, half}
 use Rattle.port.specs.declared.Port.the-variants.{Set, Unset}
 use Rattle.port.specs.Answer.{played}
 use Rattle.common.specs.Signal.{sanitized}
@@ -49,20 +49,20 @@ pub data Case : Type 0 where
 
 -- at 8,000, with a maximum of a millisecond, in memory that held NaN; the milliseconds are not read
 abbrev pub delayTick : Float → CallOf delay.delayLine
-delayTick audio = tick (delay.tickOf (Set audio) (Set plusZero) (Set plusZero) (Set (ofNat 1)) nan)
+delayTick audio = tick (delay.tickOf (Set audio) (Set plusZero) (Set plusZero) (Set (floatOf 1)) nan)
 
 abbrev pub Holds : Case → Type 0
 Holds (needs effect rate maximum n) = neededBy effect rate maximum ≡ n
 Holds (comb-length rate side i n) = getD (combLengths side rate) i 0 ≡ n
 Holds (allpass-length rate side i n) = getD (allpassLengths side rate) i 0 ≡ n
 Holds (spread-at rate n) = spread (ratio rate) ≡ n
-Holds (reads distance x) = readAt (lineAt 0 4 1 (ofNat 10 ∷ ofNat 20 ∷ ofNat 30 ∷ ofNat 40 ∷ [])) distance ≡ x
+Holds (reads distance x) = readAt (lineAt 0 4 1 (floatOf 10 ∷ floatOf 20 ∷ floatOf 30 ∷ floatOf 40 ∷ [])) distance ≡ x
 Holds (enters audio x) = sanitized audio ≡ x
 Holds (delays x y a b) =
-    replies delay.delayLine (delayTick x ∷ delayTick y ∷ []) (start delay.delayLine (delay.handing (ofNat 8000) plusZero (fraction 1 1000) true) (replicate 9 nan))
+    replies delay.delayLine (delayTick x ∷ delayTick y ∷ []) (start delay.delayLine (delay.handing (floatOf 8000) plusZero (fraction 1 1000) true) (replicate 9 nan))
     ≡ played (a ∷ []) ∷ played (b ∷ []) ∷ []
 Holds (trembles shape x) =
-    reply trem.tremolo (tick (trem.tickOf (Set (ofNat 4)) (Set (ofNat 1)) (Set shape) (ofNat 1) plusZero)) (record { state = trem.fresh (ofNat 44100); memory = [] })
+    reply trem.tremolo (tick (trem.tickOf (Set (floatOf 4)) (Set (floatOf 1)) (Set shape) (floatOf 1) plusZero)) (record { state = trem.fresh (floatOf 44100); memory = [] })
     ≡ played (x ∷ [])
 Holds (combs held store damping feedback input answer store' written) =
     (combed held 2 0 store damping ≡ record { output = answer; «filter_state» = store'; pos = 1 })
@@ -79,30 +79,30 @@ AllHold (c ∷ cs) = Holds c × AllHold cs
 
 abbrev pub starred : List Case
 starred =
-    needs 2 (ofNat 44100) nan (3 * 1421)
-    ∷ needs 2 (ofNat 8000) nan (3 * 266)
-    ∷ needs 3 (ofNat 44100) nan (2 * 451)
-    ∷ needs 4 (ofNat 44100) nan 892
-    ∷ needs 1 (ofNat 44100) (ofNat 2) 88201
-    ∷ needs 1 (ofNat 8000) (fraction 1 1000) 9
-    ∷ comb-length (ofNat 22050) left 0 558
-    ∷ allpass-length (ofNat 22050) left 1 220
-    ∷ spread-at (ofNat 22050) 12
-    ∷ comb-length (ofNat 192000) left 0 4095
-    ∷ comb-length (ofNat 192000) right 0 4095
-    ∷ reads (ofNat 1) (ofNat 10)
-    ∷ reads (fraction 5 2) (ofNat 35)
-    ∷ reads (ofNat 3) (ofNat 30)
+    needs 2 (floatOf 44100) nan (3 * 1421)
+    ∷ needs 2 (floatOf 8000) nan (3 * 266)
+    ∷ needs 3 (floatOf 44100) nan (2 * 451)
+    ∷ needs 4 (floatOf 44100) nan 892
+    ∷ needs 1 (floatOf 44100) (floatOf 2) 88201
+    ∷ needs 1 (floatOf 8000) (fraction 1 1000) 9
+    ∷ comb-length (floatOf 22050) left 0 558
+    ∷ allpass-length (floatOf 22050) left 1 220
+    ∷ spread-at (floatOf 22050) 12
+    ∷ comb-length (floatOf 192000) left 0 4095
+    ∷ comb-length (floatOf 192000) right 0 4095
+    ∷ reads (floatOf 1) (floatOf 10)
+    ∷ reads (fraction 5 2) (floatOf 35)
+    ∷ reads (floatOf 3) (floatOf 30)
     ∷ enters nan plusZero
     ∷ enters (inf false) plusZero
     ∷ enters (fin true 0 (pos 0)) (fin true 0 (pos 0))
-    ∷ delays (ofNat 3) (ofNat 7) plusZero (ofNat 3)
-    ∷ trembles plusZero (ofNat 2)
-    ∷ trembles (ofNat 1) plusZero
-    ∷ combs (ofNat 4) plusZero (fraction 1 4) half (ofNat 1) (ofNat 4) (ofNat 3) (fraction 5 2)
-    ∷ passes (ofNat 1) (ofNat 2) (neg (ofNat 1)) (fraction 5 2)
+    ∷ delays (floatOf 3) (floatOf 7) plusZero (floatOf 3)
+    ∷ trembles plusZero (floatOf 2)
+    ∷ trembles (floatOf 1) plusZero
+    ∷ combs (floatOf 4) plusZero (fraction 1 4) half (floatOf 1) (floatOf 4) (floatOf 3) (fraction 5 2)
+    ∷ passes (floatOf 1) (floatOf 2) (neg (floatOf 1)) (fraction 5 2)
     ∷ lies 3 5 9598
-    ∷ waits (ofNat 1) (ofNat 96000) 9599
+    ∷ waits (floatOf 1) (floatOf 96000) 9599
     ∷ []
 
 pub record Starred : Type 0 where

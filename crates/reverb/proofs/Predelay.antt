@@ -12,7 +12,7 @@ use lib.Seq.{getD-set-other}
 use lib.Ieee.{Float, nan, binary64, mul, le, lt, ofInt, round, toUnsigned}
 use lib.Ieee as Ieee
 use borrow.Author.Tests.{eq-eqb, ne-eqb}
-use Rattle.float64.specs.Number.{plusZero, ofNat, fraction, rateFits}
+use Rattle.float64.specs.Number.{plusZero, floatOf, fraction, rateFits}
 use Rattle.float64.proofs.Interval.{In, point, mul-in, cut-in}
 use Rattle.float64.proofs.Ranges.{rate-in}
 use Rattle.float64.proofs.Clamped.{at-most-in}
@@ -24,11 +24,11 @@ use Rattle.reverb.specs.Reverb.{delaySamples}
 
 -- ---- the delay
 
-pub delay-less : (control rate : Float) → In binary64 plusZero (ofNat 1) control → rateFits rate ≡ true → delaySamples control rate < predelaySize
+pub delay-less : (control rate : Float) → In binary64 plusZero (floatOf 1) control → rateFits rate ≡ true → delaySamples control rate < predelaySize
 unfolding delaySamples Ieee.fits le lt mul ofInt round toUnsigned
 delay-less control rate i h =
-    let x = mul-in plusZero (ofNat 19200) tt tt tt (mul-in plusZero (fraction 1 10) tt tt tt i (point (fraction 1 10) tt)) (rate-in h) in
-    let c = cut-in 64 tt (at-most-in (ofNat (predelaySize - 1)) tt tt x) in
+    let x = mul-in plusZero (floatOf 19200) tt tt tt (mul-in plusZero (fraction 1 10) tt tt tt i (point (fraction 1 10) tt)) (rate-in h) in
+    let c = cut-in 64 tt (at-most-in (floatOf (predelaySize - 1)) tt tt x) in
     omega (arith, c .1)
 
 -- ---- what comes out

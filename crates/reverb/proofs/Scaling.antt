@@ -10,7 +10,7 @@ use lib.ListN.{length, getD, replicate, length-map}
 use lib.Ieee.{Float, binary64, mul, div, le, lt, ofInt, round, toUnsigned}
 use lib.Ieee as Ieee
 use borrow.Author.Tests.{leb-true, lt-ltb}
-use Rattle.float64.specs.Number.{ofNat, fraction, inRange, rateFits, wholePart}
+use Rattle.float64.specs.Number.{floatOf, fraction, inRange, rateFits, wholePart}
 use Rattle.float64.proofs.Tests.{both}
 use Rattle.float64.proofs.Interval.{In, point, mul-in, div-in, cut-in}
 use Rattle.float64.proofs.Ranges.{rate-in, range-in, in-range}
@@ -22,28 +22,28 @@ use Rattle.reverb.specs.Tank.{allBelow}
 
 -- ---- the ratio
 
-pub ratio-fits : (rate : Float) → rateFits rate ≡ true → inRange (ratio rate) (fraction 1 8) (ofNat 5) ≡ true
+pub ratio-fits : (rate : Float) → rateFits rate ≡ true → inRange (ratio rate) (fraction 1 8) (floatOf 5) ≡ true
 unfolding ratio Ieee.fits le lt div ofInt round
-ratio-fits rate h = in-range (div-in (fraction 1 8) (ofNat 5) tt tt tt (rate-in h) (point (ofNat 44100) tt))
+ratio-fits rate h = in-range (div-in (fraction 1 8) (floatOf 5) tt tt tt (rate-in h) (point (floatOf 44100) tt))
 
 -- ---- a tuning times the ratio
 
-module _ (r : Float) (base : ℕ) (low : leastTuning ≤ base) (high : base ≤ mostTuning) (h : inRange r (fraction 1 8) (ofNat 5) ≡ true) where
-  pub product-in : In binary64 (ofNat 1) (ofNat 16777216) (mul binary64 (ofNat base) r)
+module _ (r : Float) (base : ℕ) (low : leastTuning ≤ base) (high : base ≤ mostTuning) (h : inRange r (fraction 1 8) (floatOf 5) ≡ true) where
+  pub product-in : In binary64 (floatOf 1) (floatOf 16777216) (mul binary64 (floatOf base) r)
   unfolding Ieee.fits le mul ofInt round
-  product-in = mul-in (ofNat 1) (ofNat 16777216) tt tt tt (whole-between leastTuning base mostTuning low high (omega arith)) (range-in tt h)
+  product-in = mul-in (floatOf 1) (floatOf 16777216) tt tt tt (whole-between leastTuning base mostTuning low high (omega arith)) (range-in tt h)
 
   -- its whole part is below 2^25
-  pub product-cut : wholePart (mul binary64 (ofNat base) r) ≤ 16777216
+  pub product-cut : wholePart (mul binary64 (floatOf base) r) ≤ 16777216
   unfolding Ieee.fits le ofInt toUnsigned
   product-cut = cut-in 64 tt product-in .1
 
   -- it is small enough for the quick whole part
-  pub product-small : T (le (ofNat 1) (mul binary64 (ofNat base) r)) × T (lt (mul binary64 (ofNat base) r) (ofNat 9007199254740992))
+  pub product-small : T (le (floatOf 1) (mul binary64 (floatOf base) r)) × T (lt (mul binary64 (floatOf base) r) (floatOf 9007199254740992))
   product-small = small product-in
 
 -- so is its whole part at least 1, under any cap, and beside it too
-scaled-some : (most : ℕ) (r : Float) (base : ℕ) → 1 ≤ most → leastTuning ≤ base → base ≤ mostTuning → inRange r (fraction 1 8) (ofNat 5) ≡ true → 1 ≤ scaled most r base
+scaled-some : (most : ℕ) (r : Float) (base : ℕ) → 1 ≤ most → leastTuning ≤ base → base ≤ mostTuning → inRange r (fraction 1 8) (floatOf 5) ≡ true → 1 ≤ scaled most r base
 unfolding scaled Ieee.fits le ofInt toUnsigned
 scaled-some most r base h low high k = let c = cut-in 64 tt (product-in r base low high k) in omega (arith, c .0)
 
@@ -105,7 +105,7 @@ lines-some most tunings side rate h t k = go side
 -- ---- every line, as the code finds them
 
 -- at a rate that is a whole number and fits
-pub lengths-at : (n : ℕ) {rate : Float} → rateFits (ofNat n) ≡ true → rate ≡ ofNat n → lengthsAt (ofNat n) ≡ lengthsFor rate
+pub lengths-at : (n : ℕ) {rate : Float} → rateFits (floatOf n) ≡ true → rate ≡ floatOf n → lengthsAt (floatOf n) ≡ lengthsFor rate
 lengths-at n h e = rw (e, h)
 
 -- at any rate that fits

@@ -5,7 +5,7 @@ use Prim.Native.Nat.{ℕ}
 use mathlib.Core.List.{List}
 use lib.ListN.{getD, set}
 use lib.Ieee.{Float, nan, binary64, add, sub, mul, neg}
-use Rattle.float64.specs.Number.{ofNat, half}
+use Rattle.float64.specs.Number.{floatOf, half}
 use Rattle.common.specs.Line.{nextPlace}
 use Rattle.reverb.specs.declared.filters.Combed.{Combed}
 use Rattle.reverb.specs.declared.filters.Passed.{Passed}
@@ -14,7 +14,7 @@ use Rattle.reverb.specs.declared.filters.Passed.{Passed}
 
 -- the damping store after a step: answer × (1 − damping) + store × damping
 unfoldable pub combStore : Float → Float → Float → Float
-combStore held store damping = add binary64 (mul binary64 held (sub binary64 (ofNat 1) damping)) (mul binary64 store damping)
+combStore held store damping = add binary64 (mul binary64 held (sub binary64 (floatOf 1) damping)) (mul binary64 store damping)
 
 -- what the place gets: input + the new store × feedback
 unfoldable pub combFed : Float → Float → Float → Float

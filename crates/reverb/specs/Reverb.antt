@@ -5,7 +5,7 @@ use mathlib.Core.Bool.{Bool, _&&_, _||_, cond}
 use mathlib.Core.List.{List, [], _∷_, _++_}
 use lib.ListN.{replicate}
 use lib.Ieee.{Float, binary64, add, mul}
-use Rattle.float64.specs.Number.{plusZero, ofNat, fraction, half, rateFits, clampOf, atMost, wholePart}
+use Rattle.float64.specs.Number.{plusZero, floatOf, fraction, half, rateFits, clampOf, atMost, wholePart}
 use Rattle.port.specs.declared.Port.{Port}
 use Rattle.port.specs.Port.{valueOr, isNanSet}
 use Rattle.port.specs.Answer.{Reply, played}
@@ -91,21 +91,21 @@ input c = sanitized (c .audio)
 
 -- 0.28 + size × 0.7
 abbrev pub feedback : Controls → Float
-feedback c = add binary64 (fraction 28 100) (mul binary64 (clampOf (c .size) plusZero (ofNat 1)) (fraction 7 10))
+feedback c = add binary64 (fraction 28 100) (mul binary64 (clampOf (c .size) plusZero (floatOf 1)) (fraction 7 10))
 
 -- damping × 0.4
 abbrev pub damping : Controls → Float
-damping c = mul binary64 (clampOf (c .damping) plusZero (ofNat 1)) (fraction 4 10)
+damping c = mul binary64 (clampOf (c .damping) plusZero (floatOf 1)) (fraction 4 10)
 
 abbrev pub mix : Controls → Float
-mix c = clampOf (c .mix) plusZero (ofNat 1)
+mix c = clampOf (c .mix) plusZero (floatOf 1)
 
 -- the predelay's delay in samples: the whole part of control × 0.1 × rate, less than the line's length; and of a tick
 unfoldable pub delaySamples : Float → Float → ℕ
-delaySamples control rate = wholePart (atMost (mul binary64 (mul binary64 control (fraction 1 10)) rate) (ofNat (predelaySize - 1)))
+delaySamples control rate = wholePart (atMost (mul binary64 (mul binary64 control (fraction 1 10)) rate) (floatOf (predelaySize - 1)))
 
 abbrev pub delayBy : Controls → Float → ℕ
-delayBy c rate = delaySamples (clampOf (c .predelay) plusZero (ofNat 1)) rate
+delayBy c rate = delaySamples (clampOf (c .predelay) plusZero (floatOf 1)) rate
 
 abbrev pub delay : Tick → Float → ℕ
 delay t rate = delayBy (controlsOf t) rate

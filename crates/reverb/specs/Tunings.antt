@@ -5,7 +5,7 @@ use mathlib.Core.List.{List, [], _∷_, map}
 use lib.Dec.{leb}
 use lib.ListN.{getD, replicate}
 use lib.Ieee.{Float, binary64, mul, div}
-use Rattle.float64.specs.Number.{ofNat, rateFits, wholePart, roundHalfAway}
+use Rattle.float64.specs.Number.{floatOf, rateFits, wholePart, roundHalfAway}
 use Rattle.reverb.specs.declared.tunings.Lengths.{Lengths}
 
 pub data Side : Type 0 where
@@ -58,15 +58,15 @@ tuned (base ∷ bases) = leb leastTuning base && (leb base mostTuning && tuned b
 
 -- rate / 44100, rounded before anything is multiplied by it
 unfoldable pub ratio : Float → Float
-ratio rate = div binary64 rate (ofNat 44100)
+ratio rate = div binary64 rate (floatOf 44100)
 
 -- base × ratio cut to its whole part, at most `most`
 unfoldable pub scaled : ℕ → Float → ℕ → ℕ
-scaled most r base = min (wholePart (mul binary64 (ofNat base) r)) most
+scaled most r base = min (wholePart (mul binary64 (floatOf base) r)) most
 
 -- 23 × ratio, rounded half away from zero, at least 1
 unfoldable pub spread : Float → ℕ
-spread r = max (roundHalfAway (mul binary64 (ofNat 23) r)) 1
+spread r = max (roundHalfAway (mul binary64 (floatOf 23) r)) 1
 
 -- a left length plus the spread, under the same cap
 unfoldable pub beside : ℕ → ℕ → ℕ → ℕ

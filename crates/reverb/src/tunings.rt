@@ -4,7 +4,7 @@ ghost use mathlib.Core.Bool.{true};
 ghost use mathlib.Core.List.{map};
 ghost use Prim.Native.Nat.{_≤_, min};
 ghost use lib.ListN as ListN;
-ghost use Rattle.float64.specs.Number.{ofNat, fraction, inRange};
+ghost use Rattle.float64.specs.Number.{floatOf, fraction, inRange};
 ghost use Rattle.reverb.specs.Tunings.{combMost, leastTuning, mostTuning, scaled, spread, beside, lengthsFor, tuned};
 use crate::Reverb;
 
@@ -20,7 +20,7 @@ pub struct Lengths {
 fn scaled(base: u32, ratio: f64, most: u32) -> u32
     requires { ⌜ leastTuning ≤ base ⌝ }
     requires { ⌜ base ≤ mostTuning ⌝ }
-    requires { ⌜ inRange ratio (fraction 1 8) (ofNat 5) ≡ true ⌝ }
+    requires { ⌜ inRange ratio (fraction 1 8) (floatOf 5) ≡ true ⌝ }
     ensures { λ r. ⌜ r ≡ scaled most ratio base ⌝ }
 {
     let n = float64::whole_part_small((base as f64) * ratio) as u32;
@@ -55,7 +55,7 @@ fn beside(size: u32, wide: u32, most: u32) -> u32
 // The left and right lengths of the lines with these tunings.
 fn scale(tunings: &[u32], ratio: f64, wide: u32, most: u16, left: &mut [u16], right: &mut [u16])
     requires { ⌜ tuned (now tunings) ≡ true ⌝ }
-    requires { ⌜ inRange ratio (fraction 1 8) (ofNat 5) ≡ true ⌝ }
+    requires { ⌜ inRange ratio (fraction 1 8) (floatOf 5) ≡ true ⌝ }
     requires { ⌜ wide ≤ combMost ⌝ }
     requires { ⌜ most ≤ combMost ⌝ }
     requires { ⌜ ListN.length (now left) ≡ ListN.length (now tunings) ⌝ }

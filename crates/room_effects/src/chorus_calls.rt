@@ -29,7 +29,7 @@ fn put_chorus(state: Chorus, write_pos: &mut u64, lfo_phases: &mut [f64; 3])
     *lfo_phases = [state.lfo_phase0, state.lfo_phase1, state.lfo_phase2];
 }
 
-// Start of a chorus. A refused one writes the state of zeros too.
+// Start of a chorus. A refused one writes the state of zeros too, and leaves the memory as it was.
 #[no_mangle]
 pub extern "C" fn room_raw_chorus_start(
     new_sample_rate: f64,

@@ -197,7 +197,7 @@ pub extern "C" fn room_raw_delay_tick(
         max_delay_secs,
         linear_time,
     );
-    let played = state.tick(
+    let ticked = state.tick(
         memory,
         port_at(set, 1, audio),
         port_at(set, 2, time),
@@ -205,15 +205,15 @@ pub extern "C" fn room_raw_delay_tick(
         port_at(set, 8, mix),
         milliseconds,
     );
-    let answer = played.answer;
+    let answer = ticked.answer;
     let number = answer.number();
     *out = answer.first();
     if number != 0 {
         return number;
     }
-    *write_pos = played.state.write_pos;
-    *smoothed_delay = played.state.smoothed_delay;
-    *delay_primed = flag(played.state.delay_primed);
+    *write_pos = ticked.state.write_pos;
+    *smoothed_delay = ticked.state.smoothed_delay;
+    *delay_primed = flag(ticked.state.delay_primed);
     0
 }
 

@@ -45,15 +45,15 @@ pub extern "C" fn room_raw_vibrato_retune(
         lfo_phase: *lfo_phase,
         sample_rate: *sample_rate,
     };
-    let retuned = state.set_sample_rate(new_sample_rate, memory);
-    let outcome = retuned.outcome;
+    let cleared = state.set_sample_rate(new_sample_rate, memory);
+    let outcome = cleared.outcome;
     let number = outcome.number();
     if number != 0 {
         return number;
     }
-    *write_pos = retuned.state.write_pos;
-    *lfo_phase = retuned.state.lfo_phase;
-    *sample_rate = retuned.state.sample_rate;
+    *write_pos = cleared.state.write_pos;
+    *lfo_phase = cleared.state.lfo_phase;
+    *sample_rate = cleared.state.sample_rate;
     0
 }
 
@@ -108,7 +108,7 @@ pub extern "C" fn room_raw_vibrato_tick(
         lfo_phase: *lfo_phase,
         sample_rate,
     };
-    let played = state.tick(
+    let ticked = state.tick(
         memory,
         port_at(set, 1, audio),
         port_at(set, 2, depth),
@@ -116,14 +116,14 @@ pub extern "C" fn room_raw_vibrato_tick(
         frequency,
         sine,
     );
-    let answer = played.answer;
+    let answer = ticked.answer;
     let number = answer.number();
     *out = answer.first();
     if number != 0 {
         return number;
     }
-    *write_pos = played.state.write_pos;
-    *lfo_phase = played.state.lfo_phase;
+    *write_pos = ticked.state.write_pos;
+    *lfo_phase = ticked.state.lfo_phase;
     0
 }
 

@@ -1,14 +1,14 @@
 -- The tremolo's tick from its steps. Assumes nothing.
 use mathlib.Core.Path.{_≡_}
 use lib.Ieee.{Float}
-use Rattle.float64.specs.Number.{plusZero, ofNat, half, clampOf}
+use Rattle.float64.specs.Number.{plusZero, floatOf, half, clampOf}
 use Rattle.port.specs.Port.{valueOr}
 use Rattle.tremolo.specs.declared.Tremolo.{Tremolo}
 use Rattle.tremolo.specs.Tremolo.{Tick, lfo, modulated, sample}
 
 -- a sample worked out step by step is the tick's
 pub sample-is : (t : Tick) (s : Tremolo) {x d b d' b' l y : Float} → x ≡ valueOr (t .audio) plusZero → d ≡ valueOr (t .depth) half → b ≡ valueOr (t .shape) plusZero
-    → b' ≡ clampOf b plusZero (ofNat 1) → l ≡ lfo (s .«lfo_phase») b' (t .sine) → d' ≡ clampOf d plusZero (ofNat 1) → y ≡ modulated x d' l
+    → b' ≡ clampOf b plusZero (floatOf 1) → l ≡ lfo (s .«lfo_phase») b' (t .sine) → d' ≡ clampOf d plusZero (floatOf 1) → y ≡ modulated x d' l
     → y ≡ sample t s
 unfolding sample
 sample-is t s audio depth shape b l d y = rw (y, l, d, b, audio, depth, shape)

@@ -4,7 +4,7 @@ use Prim.Native.Nat.{ℕ, _<_}
 use mathlib.Core.Bool.{Bool, true, _&&_, _||_, cond}
 use mathlib.Core.List.{[], _∷_}
 use lib.Ieee.{Float, binary64, add, sub, mul, div}
-use Rattle.float64.specs.Number.{plusZero, ofNat, half, rateFits, phaseFits, frequencyFits, sineFits, clampOf, absolute}
+use Rattle.float64.specs.Number.{plusZero, floatOf, half, rateFits, phaseFits, frequencyFits, sineFits, clampOf, absolute}
 use Rattle.port.specs.declared.Port.{Port}
 use Rattle.port.specs.Port.{valueOr, isNanSet}
 use Rattle.common.specs.Signal.{advanced, causeNumber}
@@ -43,23 +43,23 @@ abbrev pub input : Tick → Float
 input t = valueOr (t .audio) plusZero
 
 abbrev pub depth : Tick → Float
-depth t = clampOf (valueOr (t .depth) half) plusZero (ofNat 1)
+depth t = clampOf (valueOr (t .depth) half) plusZero (floatOf 1)
 
 abbrev pub shape : Tick → Float
-shape t = clampOf (valueOr (t .shape) plusZero) plusZero (ofNat 1)
+shape t = clampOf (valueOr (t .shape) plusZero) plusZero (floatOf 1)
 
 -- 1 − 4 × |phase − 0.5|
 unfoldable pub triangle : Float → Float
-triangle phase = sub binary64 (ofNat 1) (mul binary64 (ofNat 4) (absolute (sub binary64 phase half)))
+triangle phase = sub binary64 (floatOf 1) (mul binary64 (floatOf 4) (absolute (sub binary64 phase half)))
 
 -- sine × (1 − shape) + triangle × shape, at the phase before the advance
 unfoldable pub lfo : Float → Float → Float → Float
-lfo phase shape sine = add binary64 (mul binary64 sine (sub binary64 (ofNat 1) shape)) (mul binary64 (triangle phase) shape)
+lfo phase shape sine = add binary64 (mul binary64 sine (sub binary64 (floatOf 1) shape)) (mul binary64 (triangle phase) shape)
 
 -- audio × (1 − depth × 0.5 × (1 − lfo))
 unfoldable pub modulated : Float → Float → Float → Float
 modulated input depth lfo =
-    mul binary64 input (sub binary64 (ofNat 1) (mul binary64 (mul binary64 depth half) (sub binary64 (ofNat 1) lfo)))
+    mul binary64 input (sub binary64 (floatOf 1) (mul binary64 (mul binary64 depth half) (sub binary64 (floatOf 1) lfo)))
 
 -- the phase moves on by frequency / rate
 unfoldable pub next : Tick → Tremolo → Tremolo

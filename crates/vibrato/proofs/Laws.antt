@@ -10,7 +10,7 @@ use lib.ListN.{length, take, set}
 use lib.Ieee.{Float, binary64, add, mul, div, neg, le, lt, ofInt, round}
 use lib.Ieee as Ieee
 use borrow.Author.Tests.{ltb-true, lt-ltb}
-use Rattle.float64.specs.Number.{plusZero, ofNat, fraction, half, rateFits, phaseFits, frequencyFits, sineFits, clampOf}
+use Rattle.float64.specs.Number.{plusZero, floatOf, fraction, half, rateFits, phaseFits, frequencyFits, sineFits, clampOf}
 use Rattle.float64.proofs.Tests.{both}
 use Rattle.float64.proofs.Interval.{In, point, add-in, mul-in, div-in, scale-in}
 use Rattle.float64.proofs.Ranges.{rate-in, sine-in, in-number}
@@ -85,18 +85,18 @@ tick-fits t e =
 -- (10 + sine × (depth × 10 × 0.9)) × rate / 1000
 abbrev swept : Float → Float → Float → Float
 swept rate depth sine =
-    div binary64 (mul binary64 (add binary64 (ofNat 10) (mul binary64 sine (mul binary64 (mul binary64 depth (ofNat 10)) (fraction 9 10)))) rate) (ofNat 1000)
+    div binary64 (mul binary64 (add binary64 (floatOf 10) (mul binary64 sine (mul binary64 (mul binary64 depth (floatOf 10)) (fraction 9 10)))) rate) (floatOf 1000)
 
-module _ (rate depth sine : Float) (h : rateFits rate ≡ true) (d : In binary64 plusZero (ofNat 1) depth) (k : sineFits sine ≡ true) where
-  swept-in : In binary64 plusZero (ofNat 3840) (swept rate depth sine)
+module _ (rate depth sine : Float) (h : rateFits rate ≡ true) (d : In binary64 plusZero (floatOf 1) depth) (k : sineFits sine ≡ true) where
+  swept-in : In binary64 plusZero (floatOf 3840) (swept rate depth sine)
   unfolding Ieee.fits le lt add mul div neg ofInt round
   swept-in =
-      let swing = mul-in plusZero (ofNat 10) tt tt tt (mul-in plusZero (ofNat 10) tt tt tt d (point (ofNat 10) tt)) (point (fraction 9 10) tt) in
-      let delay = add-in plusZero (ofNat 20) tt (point (ofNat 10) tt) (scale-in (neg (ofNat 10)) (ofNat 10) tt tt tt (sine-in k) swing) in
-      div-in plusZero (ofNat 3840) tt tt tt (mul-in plusZero (ofNat 3840000) tt tt tt delay (rate-in h)) (point (ofNat 1000) tt)
+      let swing = mul-in plusZero (floatOf 10) tt tt tt (mul-in plusZero (floatOf 10) tt tt tt d (point (floatOf 10) tt)) (point (fraction 9 10) tt) in
+      let delay = add-in plusZero (floatOf 20) tt (point (floatOf 10) tt) (scale-in (neg (floatOf 10)) (floatOf 10) tt tt tt (sine-in k) swing) in
+      div-in plusZero (floatOf 3840) tt tt tt (mul-in plusZero (floatOf 3840000) tt tt tt delay (rate-in h)) (point (floatOf 1000) tt)
 
   -- after the clamp both places that are read lie in the line
-  pub distance-in : In binary64 (ofNat 1) (ofNat (lineLength rate - 1)) (distance rate depth sine)
+  pub distance-in : In binary64 (floatOf 1) (floatOf (lineLength rate - 1)) (distance rate depth sine)
   unfolding distance
   distance-in =
       let l = length-fits rate h in
@@ -136,7 +136,7 @@ module _ (t : Tick) (s : Vibrato) (m : List Float) {n : ℕ} (e : n ≡ lineLeng
 
 -- ---- ports: a tick is the one with all ports set to the values that it takes from them
 
-module _ (t : Tick) {x d b : Float} (audio : x ≡ valueOr (t .audio) plusZero) (amount : d ≡ valueOr (t .depth) half) (wet : b ≡ valueOr (t .mix) (ofNat 1)) where
+module _ (t : Tick) {x d b : Float} (audio : x ≡ valueOr (t .audio) plusZero) (amount : d ≡ valueOr (t .depth) half) (wet : b ≡ valueOr (t .mix) (floatOf 1)) where
   abbrev pub allSet : Tick
   allSet = tickOf (Set x) (Set d) (Set b) (t .frequency) (t .sine)
 
@@ -153,4 +153,4 @@ module _ (t : Tick) {x d b : Float} (audio : x ≡ valueOr (t .audio) plusZero) 
       (rw k at (does .state))
       ((rw k at (does .memory)) ∙ (λ i. laid (inEach 1 0 L w (audio i)) m))
       ((rw k at (does .answer))
-      ∙ (λ i. played (blended (audio i) (readAt (lineAt 0 L w m) (distance rate (clampOf (amount i) plusZero (ofNat 1)) (t .sine))) (clampOf (wet i) plusZero (ofNat 1)) ∷ [])))
+      ∙ (λ i. played (blended (audio i) (readAt (lineAt 0 L w m) (distance rate (clampOf (amount i) plusZero (floatOf 1)) (t .sine))) (clampOf (wet i) plusZero (floatOf 1)) ∷ [])))

@@ -5,7 +5,7 @@ use mathlib.Core.List.{List, [], _∷_}
 use lib.Dec.{ltb}
 use lib.ListN.{take}
 use lib.Ieee.{Float, binary64, add, mul, div}
-use Rattle.float64.specs.Number.{plusZero, ofNat, fraction, half, rateFits, phaseFits, frequencyFits, sineFits, clampOf}
+use Rattle.float64.specs.Number.{plusZero, floatOf, fraction, half, rateFits, phaseFits, frequencyFits, sineFits, clampOf}
 use Rattle.port.specs.declared.Port.{Port}
 use Rattle.port.specs.Port.{valueOr, isNanSet}
 use Rattle.common.specs.Signal.{blended, advanced, causeNumber}
@@ -27,7 +27,7 @@ tickOf audio depth mix frequency sine = record { audio = audio; depth = depth; m
 
 -- L: the whole part of rate × 20 / 1000, plus 10
 unfoldable pub lineLength : Float → ℕ
-lineLength rate = sweptLength (ofNat 20) rate
+lineLength rate = sweptLength (floatOf 20) rate
 
 -- the state after a start, a reset and a retune, which all zero the phase; and the one that a refused start gives
 abbrev pub fresh : Float → Vibrato
@@ -51,18 +51,18 @@ abbrev pub input : Tick → Float
 input t = valueOr (t .audio) plusZero
 
 abbrev pub depth : Tick → Float
-depth t = clampOf (valueOr (t .depth) half) plusZero (ofNat 1)
+depth t = clampOf (valueOr (t .depth) half) plusZero (floatOf 1)
 
 abbrev pub mix : Tick → Float
-mix t = clampOf (valueOr (t .mix) (ofNat 1)) plusZero (ofNat 1)
+mix t = clampOf (valueOr (t .mix) (floatOf 1)) plusZero (floatOf 1)
 
 -- (10 + sine × (depth × 10 × 0.9)) × rate / 1000, clamped to 1 to L − 1
 unfoldable pub distance : Float → Float → Float → Float
 distance rate depth sine =
     clampOf
-    (div binary64 (mul binary64 (add binary64 (ofNat 10) (mul binary64 sine (mul binary64 (mul binary64 depth (ofNat 10)) (fraction 9 10)))) rate) (ofNat 1000))
-    (ofNat 1)
-    (ofNat (lineLength rate - 1))
+    (div binary64 (mul binary64 (add binary64 (floatOf 10) (mul binary64 sine (mul binary64 (mul binary64 depth (floatOf 10)) (fraction 9 10)))) rate) (floatOf 1000))
+    (floatOf 1)
+    (floatOf (lineLength rate - 1))
 
 -- what the line holds at that distance, before the store
 unfoldable pub delayed : Tick → Vibrato → List Float → Float

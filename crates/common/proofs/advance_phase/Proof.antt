@@ -4,7 +4,7 @@ use mathlib.Core.Bool.{Bool, true, false}
 use lib.Dec.{T}
 use lib.Ieee.{Float, binary64, add, fits, le, lt, ofBits, ofInt}
 use lib.Ieee.Fits.{add-fits}
-use Rattle.float64.specs.Number.{ofNat}
+use Rattle.float64.specs.Number.{floatOf}
 use Rattle.float64.proofs.Tests.{clash}
 use Rattle.float64.proofs.Ranges.{yes}
 use Rattle.float64.proofs.Order.{le→not-lt}
@@ -12,12 +12,12 @@ use Rattle.common.specs.Signal.{advanced}
 use Rattle.common.proofs.advance_phase.Statement.{statement}
 use Rattle.common.proofs.advance_phase.Tie as tie
 
-below : (x : Float) → T (fits binary64 x) → lt x (ofNat 1) ≡ true → le (ofNat 1) x ≡ false
+below : (x : Float) → T (fits binary64 x) → lt x (floatOf 1) ≡ true → le (floatOf 1) x ≡ false
 unfolding fits ofInt
-below x a h = go (le (ofNat 1) x) refl
+below x a h = go (le (floatOf 1) x) refl
   where
-    go : (b : Bool) → le (ofNat 1) x ≡ b → b ≡ false
-    go true e = clash h (le→not-lt binary64 (ofNat 1) x tt a (yes e))
+    go : (b : Bool) → le (floatOf 1) x ≡ b → b ≡ false
+    go true e = clash h (le→not-lt binary64 (floatOf 1) x tt a (yes e))
     go false e = refl
 
 returns : tie.Need-returns

@@ -5,7 +5,7 @@ use mathlib.Core.Bool.{Bool, true, _&&_}
 use lib.Ieee.{Float, binary64, mul, div, ofBits, ofInt, toUnsigned, le, lt, fits}
 use borrow.Author.Needs.{needs}
 use borrow.Author.Tests.{not-true, not-false}
-use Rattle.float64.specs.Number.{ofNat, rateFits}
+use Rattle.float64.specs.Number.{floatOf, rateFits}
 use Rattle.float64.proofs.Tests.{both}
 use Rattle.float64.proofs.Interval.{In, widen, cut-in}
 use Rattle.common.specs.Line.{sweepFits}
@@ -26,7 +26,7 @@ module _ (c : tie.Else1) where
   passed : (rateFits (c .before .before .before .args .rate) && sweepFits (c .before .before .before .args .milliseconds)) ≡ true
   passed = sym (tested (c .before)) ∙ not-false _ (c .if1 .left)
 
-  samples : In binary64 (ofNat 8) (ofNat 19200) (div binary64 (mul binary64 (c .before .before .before .args .rate) (c .before .before .before .args .milliseconds)) (ofNat 1000))
+  samples : In binary64 (floatOf 8) (floatOf 19200) (div binary64 (mul binary64 (c .before .before .before .args .rate) (c .before .before .before .args .milliseconds)) (floatOf 1000))
   samples =
       let a = c .before .before .before .args in
       let b = both (rateFits (a .rate)) (sweepFits (a .milliseconds)) passed in
@@ -34,7 +34,7 @@ module _ (c : tie.Else1) where
 
 whole-part-small-requires : tie.Need-whole-part-small-requires
 unfolding fits le ofBits ofInt
-whole-part-small-requires c κs = small (widen (ofNat 1) (ofNat 16777216) tt (samples c))
+whole-part-small-requires c κs = small (widen (floatOf 1) (floatOf 16777216) tt (samples c))
 
 add-result : tie.Need-add-result
 unfolding toUnsigned le ofBits ofInt

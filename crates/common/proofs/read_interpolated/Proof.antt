@@ -5,7 +5,7 @@ use mathlib.Core.Path.{_≡_, sym, ap, subst, _∙_}
 use lib.ListN.{length}
 use lib.Ieee.{binary64}
 use borrow.Author.Needs.{needs}
-use Rattle.float64.specs.Number.{ofNat, wholePart}
+use Rattle.float64.specs.Number.{floatOf, wholePart}
 use Rattle.float64.proofs.Interval.{In}
 use Rattle.float64.proofs.Ranges.{range-in}
 use Rattle.float64.proofs.Parts.{Parts, parts-of, whole-ends}
@@ -22,7 +22,7 @@ module _ (s : tie.Start) where
   short : last ≤ 16777216
   short = omega (arith, s .pre .1 .0)
 
-  distance-in : In binary64 (ofNat 1) (ofNat last) (s .args .distance)
+  distance-in : In binary64 (floatOf 1) (floatOf last) (s .args .distance)
   distance-in = range-in (whole-ends last short) (s .pre .1 .1)
 
   parts : Parts last (s .args .distance)

@@ -6,7 +6,7 @@ use native.Mathlib.Omega.{arith}
 use lib.Dec.{T}
 use lib.Ieee.{Float, binary64, fits, ofBits, ofInt, sub, le, lt}
 use borrow.Author.Needs.{needs}
-use Rattle.float64.specs.Number.{ofNat, half, wholePart, fractionPart, roundHalfAway}
+use Rattle.float64.specs.Number.{floatOf, half, wholePart, fractionPart, roundHalfAway}
 use Rattle.float64.proofs.Rounding.{round-whole, whole-small, round-up, round-down}
 use Rattle.float64.proofs.round_half_away.Statement.{statement}
 use Rattle.float64.proofs.round_half_away.Tie as tie
@@ -15,9 +15,9 @@ held : (c : tie.Start) → T (fits binary64 (c .args .x))
 held c = subst T (sym (c .good .0 .1)) tt
 
 -- d and y as the two calls return them
-module _ (x y : Float) (d : ℕ) (a : T (fits binary64 x)) (e : d ≡ wholePart x) (h : y ≡ ofNat d) (l : lt x (ofNat 4503599627370496) ≡ true) where
+module _ (x y : Float) (d : ℕ) (a : T (fits binary64 x)) (e : d ≡ wholePart x) (h : y ≡ floatOf d) (l : lt x (floatOf 4503599627370496) ≡ true) where
   tested : (b : Bool) → le half (sub binary64 x y) ≡ b → le half (fractionPart x) ≡ b
-  tested b k = ap (λ (n : ℕ). le half (sub binary64 x (ofNat n))) (sym e) ∙ ap (λ (z : Float). le half (sub binary64 x z)) (sym h) ∙ k
+  tested b k = ap (λ (n : ℕ). le half (sub binary64 x (floatOf n))) (sym e) ∙ ap (λ (z : Float). le half (sub binary64 x z)) (sym h) ∙ k
 
   up : le half (sub binary64 x y) ≡ true → d + 1 ≡ roundHalfAway x
   up k = ap (λ (n : ℕ). n + 1) e ∙ sym (round-up x a l (tested true k))

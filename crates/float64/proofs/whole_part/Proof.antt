@@ -6,16 +6,16 @@ use lib.Ieee.{Float, binary64, fits, le, lt, neg, ofBits, ofInt}
 use lib.Ieee.Bits.{is-true}
 use Rattle.std.proofs.num.Truncating.{below-one, under-one}
 use borrow.Author.Needs.{needs}
-use Rattle.float64.specs.Number.{ofNat}
+use Rattle.float64.specs.Number.{floatOf}
 use Rattle.float64.proofs.Order.{lt-le-lt}
 use Rattle.float64.proofs.Tests.{whole-high}
 use Rattle.float64.proofs.whole_part.Statement.{statement}
 use Rattle.float64.proofs.whole_part.Tie as tie
 
 -- a number from 1 on lies above −1, from where the cast is defined
-above : (x : Float) → fits binary64 x ≡ true → le (ofNat 1) x ≡ true → T (lt (neg (ofNat 1)) x)
+above : (x : Float) → fits binary64 x ≡ true → le (floatOf 1) x ≡ true → T (lt (neg (floatOf 1)) x)
 unfolding fits lt neg ofInt
-above x f h = lt-le-lt binary64 (neg (ofNat 1)) (ofNat 1) x tt tt (subst T (sym f) tt) tt (subst T (sym h) tt)
+above x f h = lt-le-lt binary64 (neg (floatOf 1)) (floatOf 1) x tt tt (subst T (sym f) tt) tt (subst T (sym h) tt)
 
 whole-part-small-requires : tie.Need-whole-part-small-requires
 unfolding ofBits ofInt

@@ -8,7 +8,7 @@ use lib.ListN.{length, take, drop, length-set}
 use lib.Ieee.{Float, isNan, ofBits, ofInt, round}
 use lib.Ieee as Ieee
 use borrow.Author.Needs.{needs}
-use Rattle.float64.specs.Number.{plusZero, ofNat, half, isNumber, sineFits, clampOf}
+use Rattle.float64.specs.Number.{plusZero, floatOf, half, isNumber, sineFits, clampOf}
 use Rattle.float64.proofs.Ranges.{in-number}
 use Rattle.port.specs.declared.Port.the-variants.{Set}
 use Rattle.common.proofs.Sweep.{control-in, part-length}
@@ -51,7 +51,7 @@ module _ (s : tie.Start) where
   room = omega (arith, s .pre .0, row .enough)
 
   -- what a voice asks, of the part of k places from place o on
-  asks : (k o : ℕ) {d : Float} (sine : Float) → k ≡ s .args .n → o + s .args .n ≤ length (s .args .mem .now) → d ≡ clampOf (s .args .depth) plusZero (ofNat 1) → sineFits sine ≡ true
+  asks : (k o : ℕ) {d : Float} (sine : Float) → k ≡ s .args .n → o + s .args .n ≤ length (s .args .mem .now) → d ≡ clampOf (s .args .depth) plusZero (floatOf 1) → sineFits sine ≡ true
       → (s .args .self .«write_pos» < length (take k (drop o (s .args .mem .now))))
       × ((2 ≤ length (take k (drop o (s .args .mem .now))))
       × ((length (take k (drop o (s .args .mem .now))) ≤ 16777217)

@@ -3,7 +3,7 @@ use mathlib.Core.Path.{sym, ap, subst, _∙_}
 use lib.Dec.{T}
 use lib.Ieee.{Float, binary64, mul, ofBits, ofInt}
 use borrow.Author.Needs.{needs}
-use Rattle.float64.specs.Number.{ofNat, isNumber}
+use Rattle.float64.specs.Number.{floatOf, isNumber}
 use Rattle.delay_line.specs.DelayLine.{samplesOf}
 use Rattle.delay_line.proofs.Laws.{linear-read, plain-read}
 use Rattle.delay_line.proofs.DelayLine.delay_samples.Statement.{statement}
@@ -18,7 +18,7 @@ returns c =
       rw (c .before .before .if1 .taken, c .before .clamp .ensures),
       λ e.
           rw (c .before .before .if1 .taken)
-          (linear-read rate (a .time) (a .self .«max_delay_secs») (subst T (sym (s .good .1 .0 .1)) tt) (sym (ap (λ (y : Float). isNumber (samplesOf rate (mul binary64 y (ofNat 1000)))) (c .before .clamp .ensures)) ∙ e)),
+          (linear-read rate (a .time) (a .self .«max_delay_secs») (subst T (sym (s .good .1 .0 .1)) tt) (sym (ap (λ (y : Float). isNumber (samplesOf rate (mul binary64 y (floatOf 1000)))) (c .before .clamp .ensures)) ∙ e)),
     )
 
 returns-2 : tie.Need-returns-2

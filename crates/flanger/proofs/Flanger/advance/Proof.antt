@@ -8,7 +8,7 @@ use lib.ListN.{length, take, drop, length-set}
 use lib.Ieee.{Float, isNan, neg, ofBits, ofInt, round}
 use lib.Ieee as Ieee
 use borrow.Author.Needs.{needs}
-use Rattle.float64.specs.Number.{plusZero, ofNat, half, isNumber, inRange, rateFits, sineFits, clampOf}
+use Rattle.float64.specs.Number.{plusZero, floatOf, half, isNumber, inRange, rateFits, sineFits, clampOf}
 use Rattle.float64.proofs.Ranges.{in-range}
 use Rattle.port.specs.declared.Port.the-variants.{Set}
 use Rattle.common.proofs.Sweep.{control-in, part-length}
@@ -50,11 +50,11 @@ module _ (s : tie.Start) where
   room = omega (arith, s .pre .0, row .enough)
 
   -- what a tap asks, of the part of k places from place o on
-  asks : (k o : ℕ) {d : Float} (sine : Float) → k ≡ s .args .n → o + s .args .n ≤ length (s .args .mem .now) → d ≡ clampOf (s .args .depth) plusZero (ofNat 1) → sineFits sine ≡ true
+  asks : (k o : ℕ) {d : Float} (sine : Float) → k ≡ s .args .n → o + s .args .n ≤ length (s .args .mem .now) → d ≡ clampOf (s .args .depth) plusZero (floatOf 1) → sineFits sine ≡ true
       → (rateFits (s .args .self .«sample_rate») ≡ true)
       × ((length (take k (drop o (s .args .mem .now))) ≡ lineLength (s .args .self .«sample_rate»))
       × ((s .args .self .«write_pos» < length (take k (drop o (s .args .mem .now))))
-      × ((inRange d plusZero (ofNat 1) ≡ true)
+      × ((inRange d plusZero (floatOf 1) ≡ true)
       × (sineFits sine ≡ true))))
   unfolding isNumber Ieee.fits isNan round
   asks k o sine e h g f =

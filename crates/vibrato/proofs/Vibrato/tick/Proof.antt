@@ -7,7 +7,7 @@ use mathlib.Core.Bool.{_&&_, _||_}
 use lib.ListN.{length}
 use lib.Ieee.{ofBits, ofInt, round, fits, isNan}
 use borrow.Author.Needs.{needs}
-use Rattle.float64.specs.Number.{plusZero, ofNat, half, isNumber, rateFits, frequencyFits, sineFits}
+use Rattle.float64.specs.Number.{plusZero, floatOf, half, isNumber, rateFits, frequencyFits, sineFits}
 use Rattle.port.specs.Port.{valueOr}
 use Rattle.port.specs.Answer.{number, numberOf}
 use Rattle.port.proofs.Laws.{value-set, value-unset, nan-is, number-some}
@@ -59,12 +59,12 @@ module _ (c : tie.At-match4-came) where
         | inr w ↦ value-unset half (w .1 .given .1) (w .2)
       ]
 
-  mix-is : c .match4 .mix ≡ valueOr (start .args .mix) (ofNat 1)
+  mix-is : c .match4 .mix ≡ valueOr (start .args .mix) (floatOf 1)
   unfolding ofBits ofInt
   mix-is =
       elim (c .match4 .came) [
-        | inl w ↦ value-set (ofNat 1) (w .1 .given .1) (w .3)
-        | inr w ↦ value-unset (ofNat 1) (w .1 .given .1) (w .2)
+        | inl w ↦ value-set (floatOf 1) (w .1 .given .1) (w .3)
+        | inr w ↦ value-unset (floatOf 1) (w .1 .given .1) (w .2)
       ]
 
   -- causes 4 and 3 do not apply
@@ -89,7 +89,7 @@ module _ (c : tie.After-tick-causes) where
       let a = start values .args in
       let u = passed values in
       let depth = nan-is (a .depth) half refl (depth-is values) (c .before .before .before .before .is-nan .ensures) in
-      let mix = nan-is (a .mix) (ofNat 1) refl (mix-is values) (c .before .before .before .is-nan2 .ensures) in
+      let mix = nan-is (a .mix) (floatOf 1) refl (mix-is values) (c .before .before .before .is-nan2 .ensures) in
       tick-number vibrato (length (a .mem .now)) (a .self) (handed (start values)) (u .stateFits) (sym (u .number))
       (sym e ∙ c .tick-causes .ensures ∙ (λ i. causeNumber (depth i || mix i) (curves-are i)))
 
