@@ -117,6 +117,7 @@ fn float64_calls() -> u64 {
         if x >= 1.0 && x < 9007199254740992.0 {
             h = mix(h, float64::whole_part_small(x));
         }
+        h = float(h, float64::from_u32((i * 110127366) as u32));
         let mut j: u64 = 0;
         while j < 40 {
             let y = special(j);
@@ -151,13 +152,11 @@ fn port_calls() -> u64 {
     let mut i: u64 = 0;
     while i < 40 {
         let p = port::port_if(i % 2 == 0, special(i / 2));
-        h = flag(h, p.is_nan_set());
         let x = if let Port::Set(x) = p { x } else { 77.0 };
         h = float(h, x);
         i += 1;
     }
-    let p = port::port_if(false, 0.0 / 0.0);
-    flag(h, p.is_nan_set())
+    h
 }
 
 fn common_calls() -> u64 {
@@ -165,7 +164,7 @@ fn common_calls() -> u64 {
     let mut i: u64 = 0;
     while i < 40 {
         let x = special(i);
-        h = float(h, common::sanitize_audio(x));
+        h = mix(float(h, common::sanitize_audio(x)), effect::places_or_none(i / 2));
         let o = common::tick_causes(i % 2 == 0, i % 3 == 0);
         h = mix(h, o.number() as u64);
         let mut j: u64 = 0;
@@ -176,6 +175,11 @@ fn common_calls() -> u64 {
             }
             let m = effect::check_memory(i, j as usize);
             h = mix(h, m.number() as u64);
+            let r = effect::check_rate(i, j as usize);
+            let s = effect::check_state(i % 2 == 0, r);
+            h = mix(mix(h, r.number() as u64), s.number() as u64);
+            h = float(mix(h, common::line_length(x, special(j))), common::held_to_line(x, j as u32));
+            h = mix(h, common::line_length(8000.0 + x, fraction(j) * 120.0));
             j += 1;
         }
         i += 1;
@@ -199,11 +203,17 @@ fn line_calls() -> u64 {
     }
     common::clear(&mut mem[5..1100]);
     h = places(h, &mem);
+    effect::clear(Outcome::Refused(Refusal::State), &mut mem);
+    h = places(h, &mem);
+    effect::clear(Outcome::Accepted, &mut mem[7..900]);
+    h = places(h, &mem);
     common::clear(&mut mem);
     let mut at: usize = 0;
     while at < 1300 {
         mem[at] = special(at as u64);
         h = flag(flag(flag(h, common::all_zero(&mem)), common::all_zero(&mem[..512])), common::all_zero(&mem[1..1025]));
+        h = asked(asked(h, effect::silence(Outcome::Accepted, at + 1, &mem)), effect::silence(Outcome::Accepted, at, &mem));
+        h = asked(h, effect::silence(Outcome::Refused(Refusal::Memory), 2 * at, &mem[..at]));
         mem[at] = -0.0;
         at += 1;
     }
