@@ -98,24 +98,12 @@ module _ (E : Effect) (x : E .Start) (m : List Float) where
 
 -- ---- the table in its order. Each number k is known as a function answers it: k ≡ the row's number
 
--- start 1, 2, 3
-module _ (E : Effect) (n : ℕ) (x : E .Start) where
-  pub start-settings : {k : ℕ} → k ≡ E .settingsNumber (E .startSettings x) → k ≢ 0 → k ≡ startNumber E x n
-  start-settings {k} e some = rw (← e) (sym (first-some k (memoryNumber (E .places (E .startSettings x)) n) some))
-
-  pub start-memory : {k : ℕ} → 0 ≡ E .settingsNumber (E .startSettings x) → k ≡ memoryNumber (E .places (E .startSettings x)) n → k ≡ startNumber E x n
-  start-memory z e = rw (← z) e
-
 module _ (E : Effect) (n : ℕ) (s : E .State) where
   -- 4, of any call after the start
   pub state-refused : (c : CallOf E) → E .stateFits s ≡ false → _≡_ {A = ℕ} 4 (numberIn E c n s)
   state-refused c e = rw e
 
-  -- without it the rest of the call's row decides
-  pub state-passed : (c : CallOf E) {k : ℕ} → E .stateFits s ≡ true → k ≡ numberFor E c n (E .settings s) → k ≡ numberIn E c n s
-  state-passed c f e = rw f e
-
-  -- both at once: f is the state test's answer, and j the number of the rest of the row
+  -- 4, and without it the rest of the row: f is the state test's answer, and j the number of the rest
   pub state-row : (c : CallOf E) {f : Bool} {j k : ℕ} → f ≡ E .stateFits s → (E .stateFits s ≡ true → j ≡ numberFor E c n (E .settings s)) → k ≡ cond f j 4
       → k ≡ numberIn E c n s
   state-row c {f} {j} e rest r = r ∙ ap (λ (b : Bool). cond b j 4) e ∙ go (E .stateFits s) rest
