@@ -1,4 +1,4 @@
--- Demand 3 for two choruses, by the laws of their lines: each line is the recent past, and a voice's read is worked out from it. Assumes nothing.
+-- Demand 3 (docs/DEMANDS.md) for two choruses, by the laws of their lines: each line is the recent past, and a voice's read is worked out from it. Assumes nothing.
 use Prim.Native.Nat.{ℕ, _-_, _*_, _<_}
 use native.Mathlib.Omega.{arith}
 use mathlib.Core.Path.{_≡_, refl}

@@ -1,4 +1,4 @@
--- Demand 1 holds of every effect that has the laws. Assumes them.
+-- Demand 1 (docs/DEMANDS.md) holds of every effect that has the laws. Assumes them.
 use Prim.Native.Nat.{ℕ, zero, suc}
 use mathlib.Core.Path.{_≡_, refl, sym, ap, _∙_, subst}
 use mathlib.Core.List.{List, [], _∷_, _++_}

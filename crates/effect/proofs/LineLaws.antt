@@ -1,4 +1,4 @@
--- What an effect with lines shows beside its `Laws`, once, so that demand 3 holds of it. Assumes nothing.
+-- What an effect with lines shows beside its `Laws`, once, so that demand 3 (docs/DEMANDS.md) holds of it. Assumes nothing.
 use Prim.Native.Nat.{ℕ, _*_, _≤_, _<_}
 use mathlib.Core.Path.{_≡_}
 use mathlib.Core.Bool.{true}

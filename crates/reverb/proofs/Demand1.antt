@@ -1,4 +1,4 @@
--- Demand 1 for the reverb, by the laws of its parts. Assumes nothing.
+-- Demand 1 (docs/DEMANDS.md) for the reverb, by the laws of its parts. Assumes nothing.
 use Prim.Native.Nat.{ℕ, zero, suc, _<_}
 use native.Mathlib.Omega.{arith}
 use mathlib.Core.Path.{_≡_, refl}

@@ -1,4 +1,4 @@
--- Demand 1 for the tremolo, by the laws of its parts. Assumes nothing.
+-- Demand 1 (docs/DEMANDS.md) for the tremolo, by the laws of its parts. Assumes nothing.
 use mathlib.Core.Path.{_≡_, refl}
 use mathlib.Core.Bool.{true, false, _&&_, _||_}
 use lib.Ieee.{Float, le, lt, ofInt}

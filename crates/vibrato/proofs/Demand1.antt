@@ -1,4 +1,4 @@
--- Demand 1 for the vibrato, by the laws of its parts. Assumes nothing.
+-- Demand 1 (docs/DEMANDS.md) for the vibrato, by the laws of its parts. Assumes nothing.
 use native.Mathlib.Omega.{arith}
 use mathlib.Core.Path.{_≡_, refl}
 use mathlib.Core.Bool.{true, false}

@@ -1,4 +1,4 @@
--- Demand 3 for two vibratos, by the laws of their line: it is the recent past, and what a tick plays is worked out from it. Assumes nothing.
+-- Demand 3 (docs/DEMANDS.md) for two vibratos, by the laws of their line: it is the recent past, and what a tick plays is worked out from it. Assumes nothing.
 use Prim.Native.Nat.{_-_, _*_}
 use native.Mathlib.Omega.{arith}
 use native.Mathlib.Nat.{one-mul, zero-mul}
