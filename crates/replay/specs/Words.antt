@@ -7,7 +7,7 @@ use lib.ListN.{getD}
 use lib.Ieee.{Float, binary64, ofBits}
 use Rattle.replay.specs.declared.words.Tally.{Tally}
 
--- four bytes from the place `at` on, the lowest first
+-- four bytes from `at` on, the lowest first
 abbrev pub halfWord : List ℕ → ℕ → ℕ
 halfWord b at = getD b at 0 + 256 * getD b (at + 1) 0 + 65536 * getD b (at + 2) 0 + 16777216 * getD b (at + 3) 0
 
@@ -16,8 +16,8 @@ abbrev pub wordOf : List ℕ → ℕ → ℕ
 wordOf b i = halfWord b (i * 8) + 4294967296 * halfWord b (i * 8 + 4)
 
 -- its float: the one NaN for every pattern of a NaN
-abbrev pub floatOf : List ℕ → ℕ → Float
-floatOf b i = ofBits binary64 (wordOf b i)
+abbrev pub floatAt : List ℕ → ℕ → Float
+floatAt b i = ofBits binary64 (wordOf b i)
 
 -- r says whether x and y are equal as data: by their bits, every NaN as one value
 pub record Decides (r : Bool) (x y : Float) : Type 0 where

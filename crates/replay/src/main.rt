@@ -126,7 +126,7 @@ fn replay_reverb(path: &[u8], name: &[u8]) {
         os::fail(path);
         return;
     }
-    let mut mem = [0.0f64; 87136];
+    let mut mem = [0.0f64; Reverb::PLACES as usize];
     report(name, replayed_reverb(fd, &mut mem));
     libc::close(fd);
 }

@@ -26,7 +26,7 @@ pub fn started(rate: f64, mem: &mut [f64]) -> Reverb {
 }
 
 // The position number k of those packed from word i on.
-fn place(b: [u8; 128], i: usize, k: usize) -> u64
+fn position(b: [u8; 128], i: usize, k: usize) -> u64
     requires { ⌜ i < 15 ⌝ }
     requires { ⌜ k < 8 ⌝ }
 {
@@ -40,7 +40,7 @@ fn place(b: [u8; 128], i: usize, k: usize) -> u64
 }
 
 // Whether the positions are those packed from word i on.
-fn places(positions: &[u64], b: [u8; 128], i: usize) -> bool
+fn positions_match(positions: &[u64], b: [u8; 128], i: usize) -> bool
     requires { ⌜ i < 15 ⌝ }
 {
     let n = positions.len();
@@ -49,26 +49,26 @@ fn places(positions: &[u64], b: [u8; 128], i: usize) -> bool
     }
     let mut equal = true;
     for k in 0..n {
-        equal = equal & (positions[k] == place(b, i, k));
+        equal = equal & (positions[k] == position(b, i, k));
     }
     equal
 }
 
 // Whether the positions after a record are those stored.
-fn left(r: Reverb, b: [u8; 128]) -> bool {
+fn all_positions_match(r: Reverb, b: [u8; 128]) -> bool {
     let combs_l = r.comb_pos_l;
     let combs_r = r.comb_pos_r;
     let passes_l = r.allpass_pos_l;
     let passes_r = r.allpass_pos_r;
-    places(&combs_l, b, 9)
-        & places(&combs_r, b, 11)
-        & places(&passes_l, b, 13)
-        & places(&passes_r, b, 14)
+    positions_match(&combs_l, b, 9)
+        & positions_match(&combs_r, b, 11)
+        & positions_match(&passes_l, b, 13)
+        & positions_match(&passes_r, b, 14)
         & (r.predelay_pos == word(b, 15))
 }
 
 // Whether a side's damping stores are those in words 1 to 8.
-fn stores(held: &[f64], b: [u8; 128]) -> bool {
+fn stores_match(held: &[f64], b: [u8; 128]) -> bool {
     let n = held.len();
     if n > 8 {
         return false;
@@ -86,12 +86,12 @@ fn look(r: Reverb, left: bool, b: [u8; 128]) -> Played {
     if left {
         return Played {
             state: r,
-            equal: stores(&stores_l, b),
+            equal: stores_match(&stores_l, b),
         };
     }
     Played {
         state: r,
-        equal: stores(&stores_r, b),
+        equal: stores_match(&stores_r, b),
     }
 }
 
@@ -146,6 +146,6 @@ pub fn called(r: Reverb, mem: &mut [f64], b: [u8; 128]) -> Played {
     let state = after.state;
     Played {
         state,
-        equal: after.equal & left(state, b),
+        equal: after.equal & all_positions_match(state, b),
     }
 }

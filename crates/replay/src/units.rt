@@ -60,7 +60,7 @@ pub fn started(effect: u64, rate: f64, mem: &mut [f64]) -> Step {
 }
 
 // Whether the unit after a call is the one stored.
-fn left(unit: Unit, b: [u8; 128]) -> bool {
+fn state_matches(unit: Unit, b: [u8; 128]) -> bool {
     match unit {
         Unit::Tremolo => true,
         Unit::Vibrato(v) => (v.write_pos == word(b, 8)) & holds(b, 9, v.lfo_phase),
@@ -273,6 +273,6 @@ pub fn called(unit: Unit, mem: &mut [f64], b: [u8; 128]) -> Step {
     let after = step.unit;
     Step {
         unit: after,
-        equal: step.equal & left(after, b),
+        equal: step.equal & state_matches(after, b),
     }
 }

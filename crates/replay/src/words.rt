@@ -2,7 +2,7 @@
 ghost use Prim.Native.Nat.{_+_, _*_, _≤_, _<_};
 ghost use mathlib.Core.Path.{_≡_};
 ghost use lib.ListN.{length};
-ghost use Rattle.replay.specs.Words.{halfWord, wordOf, floatOf, Decides, countedIn};
+ghost use Rattle.replay.specs.Words.{halfWord, wordOf, floatAt, Decides, countedIn};
 
 fn wide(x: u8) -> u64
     ensures { λ r. ⌜ r ≡ x ⌝ }
@@ -32,7 +32,7 @@ pub fn word(b: [u8; 128], i: usize) -> u64
 // The float of a word: a NaN for every NaN pattern.
 pub fn float(b: [u8; 128], i: usize) -> f64
     requires { ⌜ i < 16 ⌝ }
-    ensures { λ r. ⌜ r ≡ floatOf b i ⌝ }
+    ensures { λ r. ⌜ r ≡ floatAt b i ⌝ }
 {
     let bits = word(b, i);
     if bits % 9223372036854775808 > 9218868437227405312 {
@@ -57,7 +57,7 @@ pub fn same(x: f64, y: f64) -> bool
 // Whether word i is that float.
 pub fn holds(b: [u8; 128], i: usize, x: f64) -> bool
     requires { ⌜ i < 16 ⌝ }
-    ensures { λ r. ⌜ Decides r x (floatOf b i) ⌝ }
+    ensures { λ r. ⌜ Decides r x (floatAt b i) ⌝ }
 {
     same(x, float(b, i))
 }

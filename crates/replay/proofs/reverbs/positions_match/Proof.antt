@@ -1,8 +1,8 @@
--- `replay::reverbs::places`: k is at most the number of positions, which is at most 8. Assumes nothing.
+-- `replay::reverbs::positions_match`: k is at most the number of positions, which is at most 8. Assumes nothing.
 use Prim.Native.Nat.{_-_, _≤_}
 use borrow.Author.Needs.{needs}
-use Rattle.replay.proofs.reverbs.places.Statement.{statement}
-use Rattle.replay.proofs.reverbs.places.Tie as tie
+use Rattle.replay.proofs.reverbs.positions_match.Statement.{statement}
+use Rattle.replay.proofs.reverbs.positions_match.Tie as tie
 
 abbrev Inv-loop : tie.InvT-loop
 Inv-loop positions b i n equal₀ k₀ equal k = k ≤ n
@@ -22,8 +22,8 @@ mul-equal c = search needs
 shared-slice-read-equal : tie.Need-shared-slice-read-equal Inv-loop μ-loop
 shared-slice-read-equal c = search needs
 
-place-requires : tie.Need-place-requires Inv-loop μ-loop
-place-requires c κs = search needs
+position-requires : tie.Need-position-requires Inv-loop μ-loop
+position-requires c κs = search needs
 
 add-k : tie.Need-add-k Inv-loop μ-loop
 add-k c = search needs
@@ -37,8 +37,8 @@ loop-again c = search needs
 returns-2 : tie.Need-returns-2 Inv-loop μ-loop
 returns-2 c = search needs
 
-pub places-spec : {M : Type 1} → statement M
-places-spec =
+pub positions-match-spec : {M : Type 1} → statement M
+positions-match-spec =
     tie.close
     (tie.spec
     Inv-loop
@@ -47,7 +47,7 @@ places-spec =
     loop-holds
     mul-equal
     shared-slice-read-equal
-    place-requires
+    position-requires
     add-k
     loop-less
     loop-again

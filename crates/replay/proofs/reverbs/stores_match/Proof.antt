@@ -1,8 +1,8 @@
--- `replay::reverbs::stores`: k is at most the number of stores, which is at most 8. Assumes nothing.
+-- `replay::reverbs::stores_match`: k is at most the number of stores, which is at most 8. Assumes nothing.
 use Prim.Native.Nat.{_-_, _≤_}
 use borrow.Author.Needs.{needs}
-use Rattle.replay.proofs.reverbs.stores.Statement.{statement}
-use Rattle.replay.proofs.reverbs.stores.Tie as tie
+use Rattle.replay.proofs.reverbs.stores_match.Statement.{statement}
+use Rattle.replay.proofs.reverbs.stores_match.Tie as tie
 
 abbrev Inv-loop : tie.InvT-loop
 Inv-loop held b n equal₀ k₀ equal k = k ≤ n
@@ -40,8 +40,8 @@ loop-again c = search needs
 returns-2 : tie.Need-returns-2 Inv-loop μ-loop
 returns-2 c = search needs
 
-pub stores-spec : {M : Type 1} → statement M
-stores-spec =
+pub stores-match-spec : {M : Type 1} → statement M
+stores-match-spec =
     tie.close
     (tie.spec
     Inv-loop
