@@ -238,7 +238,7 @@ static void feedbacks(void)
 static void unset_and_not_finite(void)
 {
     const struct numbers unset = not_read();
-    const double wild[] = {(double)NAN, ODD_NAN, (double)INFINITY, -(double)INFINITY};
+    const double not_finite[] = {(double)NAN, ODD_NAN, (double)INFINITY, -(double)INFINITY};
     struct tick_of_delay t = delay_tick(-0.0, 1.0, 2.0);
     unsigned i;
     for (i = 0; i < unset.count; i++) {
@@ -246,11 +246,11 @@ static void unset_and_not_finite(void)
         t.feedback.set = 0;
         stores(3u, 4.0, t, LENGTH, 0.0, 500u + i);
     }
-    for (i = 0; i < COUNT(wild); i++) {
-        t = delay_tick(wild[i], 1.0, 2.0);
+    for (i = 0; i < COUNT(not_finite); i++) {
+        t = delay_tick(not_finite[i], 1.0, 2.0);
         t.feedback = room_set(0.5);
         stores(3u, 4.0, t, LENGTH, 2.0, 600u + i);
-        stores(3u, wild[i], t, LENGTH, 0.0 + wild[i] * 0.5, 700u + i);
+        stores(3u, not_finite[i], t, LENGTH, 0.0 + not_finite[i] * 0.5, 700u + i);
     }
     t = delay_tick(DBL_MAX, 1.0, 2.0);
     t.feedback = room_set(0.5);

@@ -387,7 +387,7 @@ static void stores(const struct lined *e)
 {
     const uint64_t positions[] = {0, 1, length_of(e) / 2u, length_of(e) - 2u, length_of(e) - 1u};
     const double audio[] = {4.0, 0.0, -0.0, SMALLEST, -DBL_MAX};
-    const double wild[] = {(double)NAN, ODD_NAN, (double)INFINITY, -(double)INFINITY};
+    const double not_finite[] = {(double)NAN, ODD_NAN, (double)INFINITY, -(double)INFINITY};
     struct tick t = tick_of(JUNK, 0.5, 0.5, 1.0, 0.25);
     unsigned i;
     for (i = 0; i < COUNT(positions); i++) {
@@ -395,8 +395,9 @@ static void stores(const struct lined *e)
         tick_stores(e, positions[i], ROOM, good_tick(), 4.0, 100u + i);
         tick_stores(e, 7u, needed(e), tick_of(audio[i], 0.5, 0.5, 1.0, 0.25), audio[i], 200u + i);
     }
-    for (i = 0; i < COUNT(wild); i++) {
-        tick_stores(e, 7u, needed(e), tick_of(wild[i], 0.5, 0.5, 1.0, 0.25), e->input_rule ? 0.0 : wild[i], 300u + i);
+    for (i = 0; i < COUNT(not_finite); i++) {
+        const double x = not_finite[i];
+        tick_stores(e, 7u, needed(e), tick_of(x, 0.5, 0.5, 1.0, 0.25), e->input_rule ? 0.0 : x, 300u + i);
     }
     t.audio.set = 0;
     tick_stores(e, 7u, needed(e), t, 0.0, 400u);

@@ -24,7 +24,7 @@ static int can_apply(int effect, char cause)
              (cause == '6' && effect == SIX_REVERB));
 }
 
-static void spoil_reverb(room_reverb *state, unsigned way)
+static void set_wrong_reverb(room_reverb *state, unsigned way)
 {
     uint64_t *const positions[] = {state->comb_pos_l,    state->comb_pos_r,    state->allpass_pos_l,
                                    state->allpass_pos_r, &state->predelay_pos, &state->comb_pos_r[7]};
@@ -35,7 +35,7 @@ static void spoil_reverb(room_reverb *state, unsigned way)
     }
 }
 
-static void spoil_delay(room_delay *state, unsigned way)
+static void set_wrong_delay(room_delay *state, unsigned way)
 {
     switch (way % 5u) {
     case 0:
@@ -56,15 +56,15 @@ static void spoil_delay(room_delay *state, unsigned way)
 }
 
 /* Cause 4: one number of the state that no start leads to. */
-static void spoil_state(int effect, struct six_state *s, unsigned way)
+static void set_wrong_state(int effect, struct six_state *s, unsigned way)
 {
     const double phases[] = {1.0, -SMALLEST, ODD_NAN};
     const double phase = phases[way % 3u];
     const uint64_t position = UINT64_C(6154) << way;
     if (effect == SIX_DELAY) {
-        spoil_delay(&s->delay, way);
+        set_wrong_delay(&s->delay, way);
     } else if (effect == SIX_REVERB) {
-        spoil_reverb(&s->reverb, way);
+        set_wrong_reverb(&s->reverb, way);
     } else if (effect == SIX_TREMOLO) {
         *(way % 2u == 0u ? &s->tremolo.lfo_phase : &s->tremolo.sample_rate) = phase;
     } else if (effect == SIX_CHORUS && way % 2u == 0u) {
@@ -81,7 +81,7 @@ static void spoil_state(int effect, struct six_state *s, unsigned way)
 }
 
 /* The other causes, in the call's arguments. The delay is in exponential mode, where the time, its port 1, is not read. */
-static void spoil_call(struct six_call *c, char cause, unsigned way)
+static void set_wrong_argument(struct six_call *c, char cause, unsigned way)
 {
     const struct numbers rates = rates_refused();
     const double coefficients[] = {1.0, -SMALLEST, ODD_NAN};
@@ -115,7 +115,7 @@ static void begin(int effect, struct six_state *state)
    can't apply to the effect. */
 #define NONE 99u
 
-static uint32_t spoil(struct six_call *c, struct six_state *state, unsigned set, unsigned way)
+static uint32_t bring_about(struct six_call *c, struct six_state *state, unsigned set, unsigned way)
 {
     const char *const causes = orders[c->call];
     uint32_t number = 0;
@@ -129,9 +129,9 @@ static uint32_t spoil(struct six_call *c, struct six_state *state, unsigned set,
         }
         number = number == 0u ? (uint32_t)(causes[i] - '0') : number;
         if (causes[i] == '4') {
-            spoil_state(c->effect, state, way);
+            set_wrong_state(c->effect, state, way);
         } else {
-            spoil_call(c, causes[i], way);
+            set_wrong_argument(c, causes[i], way);
         }
     }
     return number;
@@ -148,7 +148,7 @@ static void attempt(int effect, int call, unsigned set, unsigned way)
     double out[3] = {JUNK, JUNK, JUNK};
     uint32_t number;
     begin(effect, &state);
-    number = spoil(&c, &state, set, way);
+    number = bring_about(&c, &state, set, way);
     if (number == NONE) {
         return;
     }

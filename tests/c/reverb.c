@@ -118,7 +118,7 @@ static room_reverb junk_reverb(void)
     return even_reverb(12345u, JUNK, JUNK);
 }
 
-room_reverb worn_reverb(const struct tuning *at)
+room_reverb varied_reverb(const struct tuning *at)
 {
     const double stores[] = {1.5, -0.0, ODD_NAN, (double)INFINITY, -(double)INFINITY, SMALLEST, DBL_MAX, -3.0};
     room_reverb state = cleared_reverb(at->rate);
@@ -281,21 +281,21 @@ static void reset_accepted(room_reverb state, unsigned places, unsigned i)
 static void clearings(void)
 {
     const struct numbers wrong = rates_refused();
-    const room_reverb low = worn_reverb(&tunings[0]);
-    const room_reverb high = worn_reverb(&tunings[TUNINGS - 1u]);
+    const room_reverb low = varied_reverb(&tunings[0]);
+    const room_reverb high = varied_reverb(&tunings[TUNINGS - 1u]);
     unsigned i;
     for (i = 0; i < TUNINGS; i++) {
         const double rate = tunings[i].rate;
-        const room_reverb worn = worn_reverb(&tunings[i]);
+        const room_reverb varied = varied_reverb(&tunings[i]);
         retune_accepted(low, TANK, rate, i);
         retune_accepted(high, TANK_ROOM, rate, 100u + i);
-        retune_accepted(worn, TANK + 1u, rate, 200u + i);
+        retune_accepted(varied, TANK + 1u, rate, 200u + i);
         retune_refused(high, TANK - 1u, rate, 3, "retune wants its places, the same at every rate", i);
         retune_refused(low, 0, rate, 3, "retune wants places", i);
-        reset_accepted(worn, TANK, i);
-        reset_accepted(worn, TANK_ROOM, 100u + i);
-        reset_refused(worn, TANK - 1u, 3, "reset wants its places", i);
-        reset_refused(worn, 0, 3, "reset wants places", i);
+        reset_accepted(varied, TANK, i);
+        reset_accepted(varied, TANK_ROOM, 100u + i);
+        reset_refused(varied, TANK - 1u, 3, "reset wants its places", i);
+        reset_refused(varied, 0, 3, "reset wants places", i);
     }
     for (i = 0; i < wrong.count; i++) {
         retune_refused(low, TANK_ROOM, wrong.list[i], 1, "the new rate is refused with 1", i);
@@ -308,7 +308,7 @@ static void clearings(void)
 
 static void silent_is(const struct tuning *at, int yes, const char *what, unsigned i)
 {
-    const room_reverb state = worn_reverb(at);
+    const room_reverb state = varied_reverb(at);
     room_reverb given = state;
     int silent = 7;
     check(room_reverb_silent(&given, tank, TANK + 1u, &silent) == 0 && silent == yes, what, i);
@@ -350,7 +350,7 @@ static void questions_at(const struct tuning *at, unsigned which)
                   "the last place that lies there for a line sounds only where it is in use", i);
     }
     silent_refused(cleared_reverb(at->rate), TANK - 1u, 3, "silent wants its places", which);
-    silent_refused(worn_reverb(at), 0, 3, "silent wants places", which);
+    silent_refused(varied_reverb(at), 0, 3, "silent wants places", which);
 }
 
 /* The state test */
@@ -390,15 +390,15 @@ static void state_accepted(room_reverb state, unsigned i)
 
 static void states_at(const struct tuning *at, unsigned which)
 {
-    const room_reverb worn = worn_reverb(at);
-    room_reverb last = worn;
+    const room_reverb varied = varied_reverb(at);
+    room_reverb last = varied;
     room_reverb state;
     unsigned line;
     for (line = 0; line < LINES; line++) {
         const uint64_t length = line_length(at, line);
         const uint64_t far[] = {length + 1u, 2u * length, 4096u * 1500u, UINT64_C(1) << 32, UINT64_C(1) << 63, UINT64_MAX};
         const unsigned i = 1000u * which + 10u * line;
-        state = worn;
+        state = varied;
         *line_pos(&state, line) = length;
         state_refused(state, i);
         *line_pos(&state, line) = far[(line + which) % COUNT(far)];
@@ -421,7 +421,7 @@ static void states(void)
     }
     state_refused(cleared_reverb(0.0), 0);
     for (i = 0; i < wrong.count; i++) {
-        room_reverb state = worn_reverb(&tunings[0]);
+        room_reverb state = varied_reverb(&tunings[0]);
         state.sample_rate = wrong.list[i];
         state_refused(state, 100u + i);
         state_refused(cleared_reverb(wrong.list[i]), 200u + i);
@@ -435,7 +435,7 @@ static void ticks_refused(void)
     const double nans[] = {(double)NAN, ODD_NAN};
     unsigned i, k;
     for (i = 0; i < TUNINGS; i++) {
-        const room_reverb state = worn_reverb(&tunings[i]);
+        const room_reverb state = varied_reverb(&tunings[i]);
         tick_refused(state, TANK - 1u, good_tick(), 3, "tick wants its places", i);
         tick_refused(state, 0, good_tick(), 3, "tick wants places", i);
         tick_refused(state, TANK - 1u, wrong_tick(), 3, "3 before 5", i);

@@ -47,7 +47,7 @@ int tank_kept(void);
 room_reverb cleared_reverb(double rate);
 
 /* A state at this rate with other positions and stores, NaNs and infinities among them. */
-room_reverb worn_reverb(const struct tuning *at);
+room_reverb varied_reverb(const struct tuning *at);
 
 int reverb_is(const room_reverb *is, const room_reverb *should);
 

@@ -67,8 +67,8 @@ static void moves_at(const struct tuning *at, unsigned which)
     room_reverb states[3];
     unsigned i, line, k;
     states[0] = cleared_reverb(at->rate);
-    states[1] = worn_reverb(at);
-    states[2] = worn_reverb(at);
+    states[1] = varied_reverb(at);
+    states[2] = varied_reverb(at);
     for (line = 0; line < LINES; line++) {
         *line_pos(&states[2], line) = line_length(at, line) - 1u;
     }

@@ -77,7 +77,7 @@ static double control(void)
     double x;
     switch (below(8)) {
     case 0:
-        x = wild();
+        x = any_float();
         return is_nan(x) ? -0.0 : x;
     case 1:
         return one_in(2) ? 0.0 : 1.0;
@@ -89,13 +89,13 @@ static double control(void)
 /* The audio may be any float; tame most of the time, so that lines that feed back are not full of NaN at once. */
 static double audio(void)
 {
-    return one_in(12) ? wild() : one_in(3) ? 0.0 : from_to(-1.0, 1.0);
+    return one_in(12) ? any_float() : one_in(3) ? 0.0 : from_to(-1.0, 1.0);
 }
 
 /* Milliseconds up to the maximum and beyond; any but NaN. */
 static double milliseconds(const struct call *c)
 {
-    const double x = one_in(6) ? wild() : from_to(-1.0, 1100.0) * held_maximum(of_bits(c->state.word[5]));
+    const double x = one_in(6) ? any_float() : from_to(-1.0, 1100.0) * held_maximum(of_bits(c->state.word[5]));
     return is_nan(x) ? 1.0 : x;
 }
 
@@ -118,7 +118,7 @@ static void draw_tick(struct call *c)
     c->set = (uint32_t)any_bits() | (one_in(2) ? 0x1fu : 0u);
     for (i = 0; i < PORTS; i++) {
         const int set = (c->set >> i & 1u) != 0u;
-        c->ports[i] = !set ? wild() : i == 0u ? audio() : control();
+        c->ports[i] = !set ? any_float() : i == 0u ? audio() : control();
     }
     for (i = 0; i < CURVES; i++) {
         c->curves[i] = curve(c, i);
@@ -132,7 +132,7 @@ static void draw_settings(struct call *c, const struct arena *arena)
     unsigned tries = 4;
     do {
         c->rate = long_line && !one_in(4) ? 192000.0 : good_rate();
-        c->maximum = long_line ? from_to(59.9, 62.0) : one_in(12) ? wild() : good_maximum();
+        c->maximum = long_line ? from_to(59.9, 62.0) : one_in(12) ? any_float() : good_maximum();
         c->coefficient = good_coefficient();
         c->linear = one_in(2) ? 0u : one_in(2) ? 1u : (uint32_t)any_bits();
         tries--;
@@ -173,11 +173,11 @@ static double wrong_distance(const struct call *c)
     case 2:
         return from_to(0.0, length);
     default:
-        return wild();
+        return any_float();
     }
 }
 
-static void spoil_word(struct call *c, unsigned word)
+static void set_wrong_word(struct call *c, unsigned word)
 {
     const char letter = state_words[c->effect][word];
     if (letter == 'w') {
@@ -185,32 +185,32 @@ static void spoil_word(struct call *c, unsigned word)
     } else if (letter == 'f') {
         c->state.word[word] = one_in(3) ? 0u : (uint32_t)(any_bits() >> below(64));
     } else {
-        c->state.word[word] = bits(letter == 'd' ? wrong_distance(c) : letter == 'r' && one_in(2) ? good_rate() : wild());
+        c->state.word[word] = bits(letter == 'd' ? wrong_distance(c) : letter == 'r' && one_in(2) ? good_rate() : any_float());
     }
 }
 
 /* One argument made wrong, or at least other. */
-static void spoil(struct call *c, const struct arena *arena)
+static void set_wrong_argument(struct call *c, const struct arena *arena)
 {
     switch (below(5)) {
     case 0:
-        spoil_word(c, (unsigned)below(words_of(c->effect)));
+        set_wrong_word(c, (unsigned)below(words_of(c->effect)));
         break;
     case 1:
         lend_too_few(c, arena, call_needs(c));
         break;
     case 2:
-        c->ports[below(PORTS)] = one_in(2) ? any_nan() : wild();
-        c->rate = wild();
+        c->ports[below(PORTS)] = one_in(2) ? any_nan() : any_float();
+        c->rate = any_float();
         break;
     case 3:
-        c->curves[below(CURVES)] = one_in(3) ? any_nan() : wild();
-        c->coefficient = wild();
+        c->curves[below(CURVES)] = one_in(3) ? any_nan() : any_float();
+        c->coefficient = any_float();
         break;
     default:
         c->rate = near(one_in(2) ? 8000.0 : 192000.0);
         c->coefficient = near(1.0);
-        c->maximum = wild();
+        c->maximum = any_float();
     }
 }
 
@@ -219,7 +219,7 @@ static void draw_state(struct call *c)
 {
     unsigned i;
     for (i = 0; i < words_of(c->effect); i++) {
-        spoil_word(c, i);
+        set_wrong_word(c, i);
     }
     if (one_in(2)) {
         c->state.word[word_of(c->effect, 'r')] = bits(good_rate());
@@ -246,7 +246,7 @@ static int draw_kind(const struct unit *unit)
 struct call draw_call(const struct unit *unit)
 {
     struct call c = {0};
-    uint64_t spoiled = one_in(3) ? 1u + below(3) : 0u;
+    uint64_t wrong = one_in(3) ? 1u + below(3) : 0u;
     c.effect = unit->effect;
     c.kind = draw_kind(unit);
     c.state = unit->state;
@@ -260,8 +260,8 @@ struct call draw_call(const struct unit *unit)
     if (c.kind <= RESET || one_in(8)) {
         lend_enough(&c, unit->arena, call_needs(&c));
     }
-    for (; spoiled > 0u; spoiled--) {
-        spoil(&c, unit->arena);
+    for (; wrong > 0u; wrong--) {
+        set_wrong_argument(&c, unit->arena);
     }
     c.places = unit->effect == TREMOLO ? 0u : c.places; /* it is lent none */
     return c;

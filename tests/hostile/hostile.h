@@ -75,7 +75,7 @@ uint64_t any_bits(void);
 uint64_t below(uint64_t n);
 int one_in(uint64_t n);
 double from_to(double low, double high);
-double wild(void); /* any float, those at some limit among them more often */
+double any_float(void); /* any float, those at some limit among them more often */
 double any_nan(void);
 double near(double x); /* it or a float up to two steps beside it */
 double good_rate(void);

@@ -51,7 +51,7 @@ void fill_arena(struct arena *arena)
 {
     uint64_t i;
     for (i = 0; i < arena->places; i++) {
-        arena->should[i] = i < 20480u ? wild() : arena->should[i - 20480u];
+        arena->should[i] = i < 20480u ? any_float() : arena->should[i - 20480u];
     }
     memcpy(arena->first, arena->should, arena->places * sizeof(double));
 }

@@ -89,7 +89,7 @@ static void disturb(const struct unit *unit)
     const uint64_t offset = (uint64_t)(unit->memory - unit->arena->first);
     const int has_lines = unit->effect != TREMOLO && state_passes(unit->effect, &unit->state);
     uint64_t place = below(unit->arena->places);
-    const double x = one_in(2) ? of_bits(any_bits() & UINT64_C(0x8000000000000001)) : wild();
+    const double x = one_in(2) ? of_bits(any_bits() & UINT64_C(0x8000000000000001)) : any_float();
     if (has_lines && !one_in(4)) {
         place = (offset + at_an_end(unit)) % unit->arena->places;
     }
@@ -145,8 +145,8 @@ static void one_call(struct unit *unit)
 static void one_places_call(void)
 {
     const uint32_t effect = one_in(8) ? (uint32_t)any_bits() : (uint32_t)below(8);
-    const double rate = one_in(3) ? wild() : good_rate();
-    const double maximum = one_in(2) ? wild() : good_maximum();
+    const double rate = one_in(3) ? any_float() : good_rate();
+    const double maximum = one_in(2) ? any_float() : good_maximum();
     const uint64_t should = needed(effect <= REVERB ? (int)effect : 0, rate, held_maximum(maximum));
     const uint64_t is = room_places_needed(effect, rate, maximum);
     places_made++;

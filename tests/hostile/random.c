@@ -58,7 +58,7 @@ double any_nan(void)
     return of_bits(any_bits() | UINT64_C(0x7ff0000000000001));
 }
 
-double wild(void)
+double any_float(void)
 {
     const uint64_t sign = any_bits() & (UINT64_C(1) << 63);
     switch (below(8)) {
