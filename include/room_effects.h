@@ -3,7 +3,8 @@
  *
  * Link with target/staticlib/libroom_effects.a, which `rt staticlib room_effects` makes, and `make host` too. It is for x86-64
  * Linux: the Rattle kit compiles for no other processor. On Arm the proofs can be checked, with the same verdict, and what was
- * compiled can be run in an emulator, but the archive links only into x86-64 programs.
+ * compiled can be run in an emulator, but the archive links only into x86-64 programs. docs/DEMANDS.md has what is promised of
+ * the calls, point by point, and what holds each point.
  *
  * How to use an effect E
  *
@@ -83,10 +84,10 @@
  * Threads, stack, what is linked
  *
  * The library holds no memory, no state and no lock of its own: the archive has no section that can be written, and everything
- * is in what a call is handed. So calls may be made in any thread and at the same time, as long as no two of them at a time
- * are of the same unit; a unit that goes from one thread to another needs the host's own synchronisation. No call waits,
- * allocates or calls the system. One that is cut off before it returns may have written part of its state and places; its unit
- * is then started anew.
+ * is in what a call is handed. So the calls are reentrant: they may be made in any thread and at the same time, as long as no
+ * two of them at a time are of the same unit; a unit that goes from one thread to another needs the host's own
+ * synchronisation. No call waits, allocates or calls the system. One that is cut off before it returns may have written part
+ * of its state and places; its unit is then started anew.
  *
  * By the frames of the compiled functions a call takes at most 360 bytes of stack (a reverb's; those of the other effects at
  * most 96), and beside that what memset takes, the one function that the archive needs from elsewhere. Where memset is bound
@@ -105,8 +106,8 @@
  * Curve numbers
  *
  * The host computes them before the tick: a frequency in Hz from its rate control, and the sine of 2 pi times the phase that
- * the state holds before the tick. (The flanger's second sine is of a phase further on: see there.) The delay has
- * one, a time in milliseconds. (Its glide coefficient goes to start and retune, and is cause 2.) The reverb has none.
+ * the state holds before the tick. (The flanger's second sine is of a phase further on: see there.) The delay has one, a time
+ * in milliseconds. (Its glide coefficient goes to start and retune, and is cause 2.) The reverb has none.
  */
 #ifndef ROOM_EFFECTS_H
 #define ROOM_EFFECTS_H
@@ -116,8 +117,8 @@
 
 /*
  * The version of this interface: MAJOR moves where a struct or a call is changed or goes, so that a host has to be looked over;
- * MINOR where an effect or a call is added; PATCH where neither is. The archive does not tell its version: a controller is built with the header and the archive of
- * one version.
+ * MINOR where an effect or a call is added; PATCH where neither is. The archive does not tell its version: a controller is
+ * built with the header and the archive of one version.
  */
 #define ROOM_EFFECTS_VERSION_MAJOR 1
 #define ROOM_EFFECTS_VERSION_MINOR 0
