@@ -13,7 +13,7 @@
 #include <string.h>
 
 #define TICKS 40000u
-#define MOST 6u
+#define MOST 11u
 
 /* In each round about so many places are gone over by calls of one kind, or all by one call. */
 #define PLACES 200000u
@@ -31,7 +31,20 @@ static const struct {
     {"flanger", FLANGER, 3, {{8000, 0}, {48000, 0}, {192000, 0}}},
     {"delay", DELAY, 6, {{8000, 0.001}, {48000, 0.1}, {48000, 2}, {192000, 2}, {48000, 60}, {192000, 60}}},
     {"swept", DELAY, 6, {{8000, 0.001}, {48000, 0.1}, {48000, 2}, {192000, 2}, {48000, 60}, {192000, 60}}},
-    {"reverb", REVERB, 6, {{8000, 0}, {22050, 0}, {44100, 0}, {48000, 0}, {96000, 0}, {192000, 0}}},
+    {"reverb",
+     REVERB,
+     11,
+     {{8000, 0},
+      {22050, 0},
+      {44100, 0},
+      {48000, 0},
+      {96000, 0},
+      {120000, 0},
+      {132000, 0},
+      {150000, 0},
+      {162000, 0},
+      {176400, 0},
+      {192000, 0}}},
 };
 
 /* What was worked out goes here, so that it is worked out. */
