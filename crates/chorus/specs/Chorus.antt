@@ -70,9 +70,12 @@ nextPhases frequency rate p =
 
 -- ---- states
 
+abbrev pub stateOf : ℕ → Phases → Float → Chorus
+stateOf pos p rate =
+    record { «write_pos» = pos; «lfo_phase0» = p .phase0; «lfo_phase1» = p .phase1; «lfo_phase2» = p .phase2; «sample_rate» = rate }
+
 abbrev pub cleared : Phases → Float → Chorus
-cleared p rate =
-    record { «write_pos» = 0; «lfo_phase0» = p .phase0; «lfo_phase1» = p .phase1; «lfo_phase2» = p .phase2; «sample_rate» = rate }
+cleared p rate = stateOf 0 p rate
 
 -- after a start and a reset
 abbrev pub fresh : Float → Chorus
@@ -140,14 +143,8 @@ samples t s m = mixed (input t) (mix t) (voice 0 (t .sine0) t s m) (voice 1 (t .
 
 unfoldable pub next : Tick → Chorus → Chorus
 next t s =
-    let p = nextPhases (t .frequency) (s .«sample_rate») (phasesOf s) in
-    record {
-      «write_pos» = nextPlace (lineLength (s .«sample_rate»)) (s .«write_pos»);
-      «lfo_phase0» = p .phase0;
-      «lfo_phase1» = p .phase1;
-      «lfo_phase2» = p .phase2;
-      «sample_rate» = s .«sample_rate»;
-    }
+    let rate = s .«sample_rate» in
+    stateOf (nextPlace (lineLength rate) (s .«write_pos»)) (nextPhases (t .frequency) rate (phasesOf s)) rate
 
 -- the audio goes into each line at the position
 unfoldable pub writes : Tick → Chorus → List Write
@@ -186,7 +183,7 @@ abbrev pub lines : Lines chorus
 lines =
     record {
       count = 3;
-      size = lineLength;
+      lineLength = lineLength;
       position = λ s. s .«write_pos»;
       sample = input;
       Phase = Phases;

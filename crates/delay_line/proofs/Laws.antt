@@ -31,7 +31,7 @@ use Rattle.common.proofs.Sweep.{size-is, size-some, size-tests, small, no-cause
 use Rattle.effect.specs.Effect.{laid}
 use Rattle.effect.specs.Run.{tick, first, memoryNumber, numberIn}
 use Rattle.delay_line.specs.declared.DelayLine.{DelayLine}
-use Rattle.delay_line.specs.DelayLine.{Tick, delayLine, tickOf, heldMaximum, settingsNumber, maximumFits, lineLength, glideFits, stateFits, tickNumber, delayMs, samplesOf, glided, readsAt, distance, delayedBy, delayed, moved, next, writes}
+use Rattle.delay_line.specs.DelayLine.{Tick, delayLine, tickOf, heldMaximum, settingsNumber, maximumFits, lineLength, glideFits, stateFits, tickNumber, delayMs, samplesOf, glided, readsAt, distance, delayedBy, delayed, nextState, next, writes}
 use Rattle.delay_line.specs.DelayLine as page
 
 -- ---- the maximum, and the length of the line
@@ -276,9 +276,9 @@ module _ (t : Tick) (s : DelayLine) (m : List Float) {a c f b x : Float} (audio 
   unfolding delayMs
   samples-are = read ∙ (λ i. samplesOf (s .«sample_rate») (cond (s .«linear_time») (mul binary64 (clampOf (time i) plusZero (s .«max_delay_secs»)) (floatOf 1000)) (t .milliseconds)))
 
-  pub next-is : {n : ℕ} {r : DelayLine} → n ≡ size s → r ≡ moved n (readsAt s x) s → r ≡ next t s
+  pub next-is : {n : ℕ} {r : DelayLine} → n ≡ size s → r ≡ nextState n (readsAt s x) s → r ≡ next t s
   unfolding next distance
-  next-is e g = g ∙ (λ i. moved (e i) (readsAt s (samples-are i)) s)
+  next-is e g = g ∙ (λ i. nextState (e i) (readsAt s (samples-are i)) s)
 
   pub stored-is : {m' : List Float} → m' ≡ set m (s .«write_pos») (add binary64 (sanitized a) (mul binary64 (delayedBy s x m) (clampOf f plusZero (fraction 99 100)))) → m' ≡ laid (writes t s m) m
   unfolding writes delayed

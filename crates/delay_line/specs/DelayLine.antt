@@ -71,18 +71,22 @@ lineLength rate maximum = wholePart (mul binary64 rate maximum) + 1
 abbrev pub settings : DelayLine → Settings
 settings s = handing (s .«sample_rate») (s .«delay_smooth_coef») (s .«max_delay_secs») (s .«linear_time»)
 
--- after every clearing: position 0, the glide unprimed with distance +0
-abbrev pub cleared : Settings → DelayLine
-cleared k =
+-- a position, the distance last read at and whether there is one yet, and the settings
+abbrev pub stateOf : ℕ → Float → Bool → Settings → DelayLine
+stateOf pos distance primed k =
     record {
-      «write_pos» = 0;
+      «write_pos» = pos;
       «sample_rate» = k .rate;
       «max_delay_secs» = k .maximum;
       «linear_time» = k .linear;
-      «smoothed_delay» = plusZero;
+      «smoothed_delay» = distance;
       «delay_smooth_coef» = k .coefficient;
-      «delay_primed» = false;
+      «delay_primed» = primed;
     }
+
+-- after every clearing: position 0, the glide unprimed with distance +0
+abbrev pub cleared : Settings → DelayLine
+cleared k = stateOf 0 plusZero false k
 
 -- what a refused start gives
 abbrev pub blank : DelayLine
@@ -146,20 +150,11 @@ unfoldable pub delayed : Tick → DelayLine → List Float → Float
 delayed t s m = delayedBy s (samplesOf (s .«sample_rate») (delayMs t s)) m
 
 -- the state after a tick that read at a distance, in a line of L places
-abbrev pub moved : ℕ → Float → DelayLine → DelayLine
-moved L distance s =
-    record {
-      «write_pos» = nextPlace L (s .«write_pos»);
-      «sample_rate» = s .«sample_rate»;
-      «max_delay_secs» = s .«max_delay_secs»;
-      «linear_time» = s .«linear_time»;
-      «smoothed_delay» = distance;
-      «delay_smooth_coef» = s .«delay_smooth_coef»;
-      «delay_primed» = true;
-    }
+abbrev pub nextState : ℕ → Float → DelayLine → DelayLine
+nextState L distance s = stateOf (nextPlace L (s .«write_pos»)) distance true (settings s)
 
 unfoldable pub next : Tick → DelayLine → DelayLine
-next t s = moved (lineLength (s .«sample_rate») (s .«max_delay_secs»)) (distance t s) s
+next t s = nextState (lineLength (s .«sample_rate») (s .«max_delay_secs»)) (distance t s) s
 
 -- stores audio + read × feedback
 unfoldable pub writes : Tick → DelayLine → List Float → List Write

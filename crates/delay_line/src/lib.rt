@@ -12,7 +12,7 @@ ghost use Rattle.common.specs.Signal.{sanitized, blended};
 ghost use Rattle.effect.specs.Run.{tick, retune, reset, ask, memoryNumber, numberIn, ifNone};
 ghost use Rattle.effect.specs.Contract.{Does, Starts};
 ghost use Rattle.effect.specs.Needed.{placesNeeded};
-ghost use Rattle.delay_line.specs.DelayLine.{delayLine, handing, startSettings, retuning, tickOf, heldMaximum, maximumFits, lineLength, cleared, glideFits, stateFits, samplesOf, glided, readsAt, delayedBy, moved};
+ghost use Rattle.delay_line.specs.DelayLine.{delayLine, handing, startSettings, retuning, tickOf, heldMaximum, maximumFits, lineLength, cleared, glideFits, stateFits, samplesOf, glided, readsAt, delayedBy, nextState};
 use port::Answer;
 use port::Outcome;
 use port::Port;
@@ -286,7 +286,7 @@ impl DelayLine {
     // The state after a tick that read at the distance.
     fn next(self, n: u64, distance: f64) -> DelayLine
         requires { ⌜ self .«write_pos» < n ⌝ }
-        ensures { λ r. ⌜ r ≡ moved n distance self ⌝ }
+        ensures { λ r. ⌜ r ≡ nextState n distance self ⌝ }
     {
         DelayLine {
             write_pos: common::next_place(n, self.write_pos),
@@ -313,7 +313,7 @@ impl DelayLine {
         requires { ⌜ stateFits self ≡ true ⌝ }
         requires { ⌜ n ≤ length (now mem) ⌝ }
         requires { ⌜ isNumber samples ≡ true ⌝ }
-        ensures { λ r. ⌜ r .state ≡ moved n (readsAt self samples) self ⌝ }
+        ensures { λ r. ⌜ r .state ≡ nextState n (readsAt self samples) self ⌝ }
         ensures { λ r. ⌜ answerReply (r .answer) ≡ played
             (blended (sanitized audio) (delayedBy self samples (now (mem .entry))) (clampOf mix plusZero (floatOf 1)) ∷ []) ⌝ }
         ensures { λ _. ⌜ now (mem .exit) ≡ set (now (mem .entry)) (self .«write_pos»)

@@ -12,11 +12,11 @@ use Rattle.effect.specs.Lines.{Lines, inEach, lineOf}
 pub record LineLaws (E : Effect) (I : Lines E) : Type 0 where
   -- the lines are the places in use
   pub some : 0 < I .count
-  pub fills : (k : E .Settings) → E .places k ≡ I .count * I .size k
+  pub fills : (k : E .Settings) → E .places k ≡ I .count * I .lineLength k
   -- a tick stores its sample at the position, which lies in the line, and moves that on
-  pub inside : (s : E .State) → E .stateFits s ≡ true → I .position s < I .size (E .settings s)
-  pub stores : (t : E .Tick) (s : E .State) (m : List Float) → E .writes t s m ≡ inEach (I .count) 0 (I .size (E .settings s)) (I .position s) (I .sample t)
-  pub next-position : (t : E .Tick) (s : E .State) (m : List Float) → I .position (E .next t s m) ≡ nextPlace (I .size (E .settings s)) (I .position s)
+  pub inside : (s : E .State) → E .stateFits s ≡ true → I .position s < I .lineLength (E .settings s)
+  pub stores : (t : E .Tick) (s : E .State) (m : List Float) → E .writes t s m ≡ inEach (I .count) 0 (I .lineLength (E .settings s)) (I .position s) (I .sample t)
+  pub next-position : (t : E .Tick) (s : E .State) (m : List Float) → I .position (E .next t s m) ≡ nextPlace (I .lineLength (E .settings s)) (I .position s)
   -- how it moves the phases
   pub advanced : E .Tick → E .Settings → I .Phase → I .Phase
   pub next-phase : (t : E .Tick) (s : E .State) (m : List Float) → I .phase (E .next t s m) ≡ advanced t (E .settings s) (I .phase s)

@@ -23,26 +23,26 @@ pub record Shows (E : Effect) (I : Lines E) (h : Device (E .State)) (p : Past (E
 
 module _ (E : Effect) (I : Lines E) (laws : Laws E) (lined : LineLaws E I) where
   -- line i lies in a memory that has the places needed
-  line-in : (k : E .Settings) (n i : ℕ) → E .places k ≤ n → i < I .count → i * I .size k + I .size k ≤ n
-  line-in k n i r l = omega (arith, line-end i (I .count) (I .size k) l, lined .fills k)
+  line-in : (k : E .Settings) (n i : ℕ) → E .places k ≤ n → i < I .count → i * I .lineLength k + I .lineLength k ≤ n
+  line-in k n i r l = omega (arith, line-end i (I .count) (I .lineLength k) l, lined .fills k)
 
   cleared-shows : (n : ℕ) (k : E .Settings) (s : E .State) → E .stateFits s ≡ true → E .places (E .settings s) ≤ n → E .settings s ≡ k
       → Shows E I (record { state = s; memory = zeros n }) (clearedPast E I k)
   cleared-shows n k s f r e =
-      let L = I .size (E .settings s) in
+      let L = I .lineLength (E .settings s) in
       record {
         settings = e;
-        lines = λ i l. newest-clear (i * L) L (I .position s) n (lined .inside s f) (line-in (E .settings s) n i r l) ∙ ap (λ (q : E .Settings). zeros (I .size q)) e;
+        lines = λ i l. newest-clear (i * L) L (I .position s) n (lined .inside s f) (line-in (E .settings s) n i r l) ∙ ap (λ (q : E .Settings). zeros (I .lineLength q)) e;
       }
 
   ticked-line : {n : ℕ} {h : Device (E .State)} (t : E .Tick) → InRun E n h → (i : ℕ) → i < I .count
-      → lineOf E I i (changed E (tick t) h) ≡ I .sample t ∷ take (I .size (E .settings (h .state)) - 1) (lineOf E I i h)
+      → lineOf E I i (changed E (tick t) h) ≡ I .sample t ∷ take (I .lineLength (E .settings (h .state)) - 1) (lineOf E I i h)
   ticked-line {n} {h} t r i l =
       let s = h .state in
       let m = h .memory in
       let k = E .settings s in
-      (λ j. newestFirst (i * I .size (laws .next-settings t s m j)) (I .size (laws .next-settings t s m j)) (lined .next-position t s m j) (laid (lined .stores t s m j) m))
-      ∙ push-each (I .count) 0 i (I .size k) (I .position s) m (I .sample t) (lined .inside s (r .stateFits)) (omega arith) (omega arith)
+      (λ j. newestFirst (i * I .lineLength (laws .next-settings t s m j)) (I .lineLength (laws .next-settings t s m j)) (lined .next-position t s m j) (laid (lined .stores t s m j) m))
+      ∙ push-each (I .count) 0 i (I .lineLength k) (I .position s) m (I .sample t) (lined .inside s (r .stateFits)) (omega arith) (omega arith)
       (omega (arith, line-in k n i (r .enough) l, r .size))
 
   pub changed-shows : {n : ℕ} {h : Device (E .State)} {p : Past (E .Settings)} (c : CallOf E) → InRun E n h → InRun E n (changed E c h) → Shows E I h p
@@ -50,7 +50,7 @@ module _ (E : Effect) (I : Lines E) (laws : Laws E) (lined : LineLaws E I) where
   changed-shows {n} {h} {p} (tick t) r r' v =
       record {
         settings = laws .next-settings t (h .state) (h .memory) ∙ v .settings;
-        lines = λ i l. ticked-line t r i l ∙ (λ j. I .sample t ∷ take (I .size (v .settings j) - 1) (v .lines i l j));
+        lines = λ i l. ticked-line t r i l ∙ (λ j. I .sample t ∷ take (I .lineLength (v .settings j) - 1) (v .lines i l j));
       }
   changed-shows {n} {h} {p} (retune a) r r' v =
       let k = E .retuneSettings a (E .settings (h .state)) in

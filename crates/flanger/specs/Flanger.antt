@@ -37,8 +37,11 @@ places rate = 2 * lineLength rate
 
 -- ---- states
 
+abbrev pub stateOf : ℕ → Float → Float → Flanger
+stateOf pos phase rate = record { «write_pos» = pos; «lfo_phase» = phase; «sample_rate» = rate }
+
 abbrev pub cleared : Float → Float → Flanger
-cleared phase rate = record { «write_pos» = 0; «lfo_phase» = phase; «sample_rate» = rate }
+cleared phase rate = stateOf 0 phase rate
 
 -- after a start and a reset
 abbrev pub fresh : Float → Flanger
@@ -98,11 +101,8 @@ fed t read = add binary64 (input t) (mul binary64 read (feedback t))
 
 unfoldable pub next : Tick → Flanger → Flanger
 next t s =
-    record {
-      «write_pos» = nextPlace (lineLength (s .«sample_rate»)) (s .«write_pos»);
-      «lfo_phase» = advanced (s .«lfo_phase») (div binary64 (t .frequency) (s .«sample_rate»));
-      «sample_rate» = s .«sample_rate»;
-    }
+    let rate = s .«sample_rate» in
+    stateOf (nextPlace (lineLength rate) (s .«write_pos»)) (advanced (s .«lfo_phase») (div binary64 (t .frequency) rate)) rate
 
 unfoldable pub writes : Tick → Flanger → List Float → List Write
 writes t s m =

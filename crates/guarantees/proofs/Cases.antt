@@ -17,7 +17,7 @@ use Rattle.room_effects.specs.Needed.{neededBy}
 use Rattle.guarantees.specs.Starred.{Starred}
 
 pub starred-hold : Starred
-unfolding neededBy replies readAt blended combStore combFed combed passOutput passFed ratio scaled spread beside delaySamples isNumber isFinite inRange inUnit isPlusZero clampOf atMost roundHalfAway add sub mul div neg eq lt le fits isNan ofInt round toUnsigned toBits cho.lineLength flan.lineLength vib.lineLength trem.stateFits trem.tickNumber trem.sample trem.modulated trem.lfo trem.triangle delay.heldMaximum delay.settingsNumber delay.lineLength delay.glideFits delay.stateFits delay.tickNumber delay.delayMs delay.samplesOf delay.glided delay.readsAt delay.distance delay.delayedBy delay.delayed delay.next delay.writes delay.samples
+unfolding neededBy replies readAt blended combStore combFed combed passOutput passFed ratio scaled spread beside delaySamples isNumber isFinite inRange inUnit isPlusZero clampOf atMost roundHalfAway add sub mul div neg eq lt le fits isNan ofInt round toUnsigned toBits cho.lineLength flan.lineLength vib.lineLength trem.stateFits trem.tickNumber trem.samples trem.modulated trem.lfo trem.triangle delay.heldMaximum delay.settingsNumber delay.lineLength delay.glideFits delay.stateFits delay.tickNumber delay.delayMs delay.samplesOf delay.glided delay.readsAt delay.distance delay.delayedBy delay.delayed delay.next delay.writes delay.samples
 starred-hold =
     record {
       hold = (refl, (refl, (refl, (refl, (refl, (refl, (refl, (refl, (refl, (refl, (refl, (refl, (refl, (refl, (refl, (refl, (refl, (refl, (refl, (refl, ((refl, refl), ((refl, refl), (refl, (refl, tt))))))))))))))))))))))));

@@ -1,8 +1,8 @@
 // The flanger's calls.
-ghost use Rattle.effect.specs.Run.{retune, reset};
-ghost use Rattle.flanger.specs.Flanger.{flanger, tickOf};
+ghost use Rattle.effect.specs.Run.{retune, reset, unitOf};
+ghost use Rattle.effect.specs.Contract.{lent, over};
+ghost use Rattle.flanger.specs.Flanger.{flanger, tickOf, stateOf};
 ghost use Rattle.room_effects.specs.Lent.{StartReturns, CallReturns, TickReturns, AskReturns};
-ghost use Rattle.room_effects.specs.Units.{flangerUnit};
 ghost use Rattle.room_effects.specs.Ports.{portAt};
 use crate::shared::port_at;
 use crate::shared::put_samples;
@@ -17,8 +17,8 @@ pub extern "C" fn room_raw_flanger_start(
     lfo_phase: &mut f64,
     sample_rate: &mut f64,
 ) -> u32
-    ensures { λ r. ⌜ StartReturns flanger «new_sample_rate» (now (memory .entry))
-        (flangerUnit (now («write_pos» .exit)) (now («lfo_phase» .exit)) (now («sample_rate» .exit)) (now (memory .exit))) r ⌝ }
+    ensures { λ r. ⌜ StartReturns flanger «new_sample_rate» (now (memory .entry)) (unitOf (stateOf (now («write_pos» .exit))
+        (now («lfo_phase» .exit)) (now («sample_rate» .exit))) (now (memory .exit))) r ⌝ }
 {
     let started = Flanger::new(new_sample_rate, memory);
     *write_pos = started.state.write_pos;
@@ -36,9 +36,9 @@ pub extern "C" fn room_raw_flanger_retune(
     lfo_phase: &mut f64,
     sample_rate: &mut f64,
 ) -> u32
-    ensures { λ r. ⌜ CallReturns flanger (retune «new_sample_rate»)
-        (flangerUnit (now («write_pos» .entry)) (now («lfo_phase» .entry)) (now («sample_rate» .entry)) (now (memory .entry)))
-        (flangerUnit (now («write_pos» .exit)) (now («lfo_phase» .exit)) (now («sample_rate» .exit)) (now (memory .exit))) r ⌝ }
+    ensures { λ r. ⌜ over (λ k. unitOf (stateOf (lent «write_pos» k) (lent «lfo_phase» k) (lent «sample_rate» k))
+        (lent memory k))
+        (λ u u'. CallReturns flanger (retune «new_sample_rate») u u' r) ⌝ }
 {
     let state = Flanger {
         write_pos: *write_pos,
@@ -64,9 +64,8 @@ pub extern "C" fn room_raw_flanger_reset(
     lfo_phase: &mut f64,
     sample_rate: f64,
 ) -> u32
-    ensures { λ r. ⌜ CallReturns flanger reset
-        (flangerUnit (now («write_pos» .entry)) (now («lfo_phase» .entry)) «sample_rate» (now (memory .entry)))
-        (flangerUnit (now («write_pos» .exit)) (now («lfo_phase» .exit)) «sample_rate» (now (memory .exit))) r ⌝ }
+    ensures { λ r. ⌜ over (λ k. unitOf (stateOf (lent «write_pos» k) (lent «lfo_phase» k) «sample_rate») (lent memory k))
+        (λ u u'. CallReturns flanger reset u u' r) ⌝ }
 {
     let state = Flanger {
         write_pos: *write_pos,
@@ -101,10 +100,9 @@ pub extern "C" fn room_raw_flanger_tick(
     sine1: f64,
     out: &mut [f64; 3],
 ) -> u32
-    ensures { λ r. ⌜ TickReturns flanger 3
-        (tickOf (portAt set 1 audio) (portAt set 2 depth) (portAt set 4 feedback) (portAt set 8 mix) frequency sine0 sine1)
-        (flangerUnit (now («write_pos» .entry)) (now («lfo_phase» .entry)) «sample_rate» (now (memory .entry)))
-        (flangerUnit (now («write_pos» .exit)) (now («lfo_phase» .exit)) «sample_rate» (now (memory .exit))) (now (out .exit)) r ⌝ }
+    ensures { λ r. ⌜ over (λ k. unitOf (stateOf (lent «write_pos» k) (lent «lfo_phase» k) «sample_rate») (lent memory k))
+        (λ u u'. TickReturns flanger 3 (tickOf (portAt set 1 audio) (portAt set 2 depth) (portAt set 4 feedback)
+        (portAt set 8 mix) frequency sine0 sine1) u u' (now (out .exit)) r) ⌝ }
 {
     let state = Flanger {
         write_pos: *write_pos,
@@ -140,7 +138,8 @@ pub extern "C" fn room_raw_flanger_silent(
     memory: &[f64],
     out: &mut u32,
 ) -> u32
-    ensures { λ r. ⌜ AskReturns flanger (flangerUnit «write_pos» «lfo_phase» «sample_rate» (now (memory .entry))) (now (out .exit)) r ⌝ }
+    ensures { λ r. ⌜ AskReturns flanger (unitOf (stateOf «write_pos» «lfo_phase» «sample_rate») (now (memory .entry)))
+        (now (out .exit)) r ⌝ }
 {
     let state = Flanger {
         write_pos,

@@ -1,9 +1,9 @@
 // The reverb's calls. Its state crosses as lent arrays: the combs' and all-passes' positions, the combs' damping stores; and the predelay's position.
 ghost use mathlib.Core.Path.{_≡_};
-ghost use Rattle.effect.specs.Run.{retune, reset};
-ghost use Rattle.reverb.specs.Reverb.{reverb, tickOf};
+ghost use Rattle.effect.specs.Run.{retune, reset, unitOf};
+ghost use Rattle.effect.specs.Contract.{lent, over};
+ghost use Rattle.reverb.specs.Reverb.{reverb, tickOf, stateOf};
 ghost use Rattle.room_effects.specs.Lent.{StartReturns, CallReturns, TickReturns, AskReturns};
-ghost use Rattle.room_effects.specs.Units.{reverbOf, reverbUnit};
 ghost use Rattle.room_effects.specs.Ports.{portAt};
 use crate::shared::port_at;
 use reverb::Reverb;
@@ -19,7 +19,7 @@ fn put_reverb(
     allpass_pos_r: &mut [u64; 4],
     predelay_pos: &mut u64,
 )
-    ensures { λ _. ⌜ reverbOf (now («comb_pos_l» .exit)) (now («comb_pos_r» .exit)) (now («comb_filter_state_l» .exit))
+    ensures { λ _. ⌜ stateOf (now («comb_pos_l» .exit)) (now («comb_pos_r» .exit)) (now («comb_filter_state_l» .exit))
         (now («comb_filter_state_r» .exit)) (now («allpass_pos_l» .exit)) (now («allpass_pos_r» .exit))
         (now («predelay_pos» .exit)) (state .«sample_rate») ≡ state ⌝ }
 {
@@ -52,10 +52,10 @@ pub extern "C" fn room_raw_reverb_start(
     predelay_pos: &mut u64,
     sample_rate: &mut f64,
 ) -> u32
-    ensures { λ r. ⌜ StartReturns reverb «new_sample_rate» (now (memory .entry))
-        (reverbUnit (now («comb_pos_l» .exit)) (now («comb_pos_r» .exit)) (now («comb_filter_state_l» .exit))
-        (now («comb_filter_state_r» .exit)) (now («allpass_pos_l» .exit)) (now («allpass_pos_r» .exit))
-        (now («predelay_pos» .exit)) (now («sample_rate» .exit)) (now (memory .exit))) r ⌝ }
+    ensures { λ r. ⌜ StartReturns reverb «new_sample_rate» (now (memory .entry)) (unitOf (stateOf (now («comb_pos_l» .exit))
+        (now («comb_pos_r» .exit)) (now («comb_filter_state_l» .exit)) (now («comb_filter_state_r» .exit))
+        (now («allpass_pos_l» .exit)) (now («allpass_pos_r» .exit)) (now («predelay_pos» .exit)) (now («sample_rate» .exit)))
+        (now (memory .exit))) r ⌝ }
 {
     let started = Reverb::new(new_sample_rate, memory);
     put_reverb(
@@ -86,13 +86,10 @@ pub extern "C" fn room_raw_reverb_retune(
     predelay_pos: &mut u64,
     sample_rate: &mut f64,
 ) -> u32
-    ensures { λ r. ⌜ CallReturns reverb (retune «new_sample_rate»)
-        (reverbUnit (now («comb_pos_l» .entry)) (now («comb_pos_r» .entry)) (now («comb_filter_state_l» .entry))
-        (now («comb_filter_state_r» .entry)) (now («allpass_pos_l» .entry)) (now («allpass_pos_r» .entry))
-        (now («predelay_pos» .entry)) (now («sample_rate» .entry)) (now (memory .entry)))
-        (reverbUnit (now («comb_pos_l» .exit)) (now («comb_pos_r» .exit)) (now («comb_filter_state_l» .exit))
-        (now («comb_filter_state_r» .exit)) (now («allpass_pos_l» .exit)) (now («allpass_pos_r» .exit))
-        (now («predelay_pos» .exit)) (now («sample_rate» .exit)) (now (memory .exit))) r ⌝ }
+    ensures { λ r. ⌜ over (λ k. unitOf (stateOf (lent «comb_pos_l» k) (lent «comb_pos_r» k) (lent «comb_filter_state_l» k)
+        (lent «comb_filter_state_r» k) (lent «allpass_pos_l» k) (lent «allpass_pos_r» k) (lent «predelay_pos» k)
+        (lent «sample_rate» k)) (lent memory k))
+        (λ u u'. CallReturns reverb (retune «new_sample_rate») u u' r) ⌝ }
 {
     let state = Reverb {
         comb_pos_l: *comb_pos_l,
@@ -136,13 +133,10 @@ pub extern "C" fn room_raw_reverb_reset(
     predelay_pos: &mut u64,
     sample_rate: f64,
 ) -> u32
-    ensures { λ r. ⌜ CallReturns reverb reset
-        (reverbUnit (now («comb_pos_l» .entry)) (now («comb_pos_r» .entry)) (now («comb_filter_state_l» .entry))
-        (now («comb_filter_state_r» .entry)) (now («allpass_pos_l» .entry)) (now («allpass_pos_r» .entry))
-        (now («predelay_pos» .entry)) «sample_rate» (now (memory .entry)))
-        (reverbUnit (now («comb_pos_l» .exit)) (now («comb_pos_r» .exit)) (now («comb_filter_state_l» .exit))
-        (now («comb_filter_state_r» .exit)) (now («allpass_pos_l» .exit)) (now («allpass_pos_r» .exit))
-        (now («predelay_pos» .exit)) «sample_rate» (now (memory .exit))) r ⌝ }
+    ensures { λ r. ⌜ over (λ k. unitOf (stateOf (lent «comb_pos_l» k) (lent «comb_pos_r» k) (lent «comb_filter_state_l» k)
+        (lent «comb_filter_state_r» k) (lent «allpass_pos_l» k) (lent «allpass_pos_r» k) (lent «predelay_pos» k) «sample_rate»)
+        (lent memory k))
+        (λ u u'. CallReturns reverb reset u u' r) ⌝ }
 {
     let state = Reverb {
         comb_pos_l: *comb_pos_l,
@@ -194,14 +188,11 @@ pub extern "C" fn room_raw_reverb_tick(
     predelay: f64,
     out: &mut [f64; 2],
 ) -> u32
-    ensures { λ r. ⌜ TickReturns reverb 2
-        (tickOf (portAt set 1 audio) (portAt set 2 size) (portAt set 4 damping) (portAt set 8 mix) (portAt set 16 predelay))
-        (reverbUnit (now («comb_pos_l» .entry)) (now («comb_pos_r» .entry)) (now («comb_filter_state_l» .entry))
-        (now («comb_filter_state_r» .entry)) (now («allpass_pos_l» .entry)) (now («allpass_pos_r» .entry))
-        (now («predelay_pos» .entry)) «sample_rate» (now (memory .entry)))
-        (reverbUnit (now («comb_pos_l» .exit)) (now («comb_pos_r» .exit)) (now («comb_filter_state_l» .exit))
-        (now («comb_filter_state_r» .exit)) (now («allpass_pos_l» .exit)) (now («allpass_pos_r» .exit))
-        (now («predelay_pos» .exit)) «sample_rate» (now (memory .exit))) (now (out .exit)) r ⌝ }
+    ensures { λ r. ⌜ over (λ k. unitOf (stateOf (lent «comb_pos_l» k) (lent «comb_pos_r» k) (lent «comb_filter_state_l» k)
+        (lent «comb_filter_state_r» k) (lent «allpass_pos_l» k) (lent «allpass_pos_r» k) (lent «predelay_pos» k) «sample_rate»)
+        (lent memory k))
+        (λ u u'. TickReturns reverb 2 (tickOf (portAt set 1 audio) (portAt set 2 size) (portAt set 4 damping) (portAt set 8 mix)
+        (portAt set 16 predelay)) u u' (now (out .exit)) r) ⌝ }
 {
     let answer = Reverb::tick_in_place(
         comb_pos_l,
@@ -236,10 +227,9 @@ pub extern "C" fn room_raw_reverb_silent(
     memory: &[f64],
     out: &mut u32,
 ) -> u32
-    ensures { λ r. ⌜ AskReturns reverb
-        (reverbUnit (now («comb_pos_l» .entry)) (now («comb_pos_r» .entry)) (now («comb_filter_state_l» .entry))
-        (now («comb_filter_state_r» .entry)) (now («allpass_pos_l» .entry)) (now («allpass_pos_r» .entry))
-        «predelay_pos» «sample_rate» (now (memory .entry))) (now (out .exit)) r ⌝ }
+    ensures { λ r. ⌜ AskReturns reverb (unitOf (stateOf (now («comb_pos_l» .entry)) (now («comb_pos_r» .entry))
+        (now («comb_filter_state_l» .entry)) (now («comb_filter_state_r» .entry)) (now («allpass_pos_l» .entry))
+        (now («allpass_pos_r» .entry)) «predelay_pos» «sample_rate») (now (memory .entry))) (now (out .exit)) r ⌝ }
 {
     let state = Reverb {
         comb_pos_l: *comb_pos_l,

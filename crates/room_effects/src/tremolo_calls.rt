@@ -1,8 +1,8 @@
 // The tremolo's calls.
-ghost use Rattle.effect.specs.Run.{reset};
-ghost use Rattle.tremolo.specs.Tremolo.{tremolo, tickOf};
+ghost use Rattle.effect.specs.Run.{reset, unitOf};
+ghost use Rattle.effect.specs.Contract.{lent, over};
+ghost use Rattle.tremolo.specs.Tremolo.{tremolo, tickOf, stateOf};
 ghost use Rattle.room_effects.specs.Lent.{StartReturns, CallReturns, TickReturns, AskReturns};
-ghost use Rattle.room_effects.specs.Units.{tremoloUnit};
 ghost use Rattle.room_effects.specs.Ports.{portAt};
 ghost use mathlib.Core.List.{[], _∷_};
 use crate::shared::port_at;
@@ -15,7 +15,8 @@ pub extern "C" fn room_raw_tremolo_start(
     lfo_phase: &mut f64,
     sample_rate: &mut f64,
 ) -> u32
-    ensures { λ r. ⌜ StartReturns tremolo «new_sample_rate» [] (tremoloUnit (now («lfo_phase» .exit)) (now («sample_rate» .exit))) r ⌝ }
+    ensures { λ r. ⌜ StartReturns tremolo «new_sample_rate» [] (unitOf (stateOf (now («lfo_phase» .exit))
+        (now («sample_rate» .exit))) []) r ⌝ }
 {
     let started = Tremolo::new(new_sample_rate);
     *lfo_phase = started.state.lfo_phase;
@@ -26,8 +27,8 @@ pub extern "C" fn room_raw_tremolo_start(
 
 #[no_mangle]
 pub extern "C" fn room_raw_tremolo_reset(lfo_phase: &mut f64, sample_rate: f64) -> u32
-    ensures { λ r. ⌜ CallReturns tremolo reset (tremoloUnit (now («lfo_phase» .entry)) «sample_rate»)
-        (tremoloUnit (now («lfo_phase» .exit)) «sample_rate») r ⌝ }
+    ensures { λ r. ⌜ over (λ k. unitOf (stateOf (lent «lfo_phase» k) «sample_rate») [])
+        (λ u u'. CallReturns tremolo reset u u' r) ⌝ }
 {
     let state = Tremolo {
         lfo_phase: *lfo_phase,
@@ -56,9 +57,9 @@ pub extern "C" fn room_raw_tremolo_tick(
     sine: f64,
     out: &mut f64,
 ) -> u32
-    ensures { λ r. ⌜ TickReturns tremolo 1 (tickOf (portAt set 1 audio) (portAt set 2 depth) (portAt set 4 shape) frequency sine)
-        (tremoloUnit (now («lfo_phase» .entry)) «sample_rate») (tremoloUnit (now («lfo_phase» .exit)) «sample_rate») (now (out .exit) ∷ [])
-        r ⌝ }
+    ensures { λ r. ⌜ over (λ k. unitOf (stateOf (lent «lfo_phase» k) «sample_rate») [])
+        (λ u u'. TickReturns tremolo 1 (tickOf (portAt set 1 audio) (portAt set 2 depth) (portAt set 4 shape) frequency sine) u
+        u' (now (out .exit) ∷ []) r) ⌝ }
 {
     let state = Tremolo {
         lfo_phase: *lfo_phase,
@@ -83,7 +84,7 @@ pub extern "C" fn room_raw_tremolo_tick(
 
 #[no_mangle]
 pub extern "C" fn room_raw_tremolo_silent(lfo_phase: f64, sample_rate: f64, out: &mut u32) -> u32
-    ensures { λ r. ⌜ AskReturns tremolo (tremoloUnit «lfo_phase» «sample_rate») (now (out .exit)) r ⌝ }
+    ensures { λ r. ⌜ AskReturns tremolo (unitOf (stateOf «lfo_phase» «sample_rate») []) (now (out .exit)) r ⌝ }
 {
     let state = Tremolo {
         lfo_phase,

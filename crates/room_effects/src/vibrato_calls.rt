@@ -1,8 +1,8 @@
 // The vibrato's calls.
-ghost use Rattle.effect.specs.Run.{retune, reset};
-ghost use Rattle.vibrato.specs.Vibrato.{vibrato, tickOf};
+ghost use Rattle.effect.specs.Run.{retune, reset, unitOf};
+ghost use Rattle.effect.specs.Contract.{lent, over};
+ghost use Rattle.vibrato.specs.Vibrato.{vibrato, tickOf, stateOf};
 ghost use Rattle.room_effects.specs.Lent.{StartReturns, CallReturns, TickReturns, AskReturns};
-ghost use Rattle.room_effects.specs.Units.{vibratoUnit};
 ghost use Rattle.room_effects.specs.Ports.{portAt};
 ghost use mathlib.Core.List.{[], _∷_};
 use crate::shared::port_at;
@@ -17,8 +17,8 @@ pub extern "C" fn room_raw_vibrato_start(
     lfo_phase: &mut f64,
     sample_rate: &mut f64,
 ) -> u32
-    ensures { λ r. ⌜ StartReturns vibrato «new_sample_rate» (now (memory .entry))
-        (vibratoUnit (now («write_pos» .exit)) (now («lfo_phase» .exit)) (now («sample_rate» .exit)) (now (memory .exit))) r ⌝ }
+    ensures { λ r. ⌜ StartReturns vibrato «new_sample_rate» (now (memory .entry)) (unitOf (stateOf (now («write_pos» .exit))
+        (now («lfo_phase» .exit)) (now («sample_rate» .exit))) (now (memory .exit))) r ⌝ }
 {
     let started = Vibrato::new(new_sample_rate, memory);
     *write_pos = started.state.write_pos;
@@ -36,9 +36,9 @@ pub extern "C" fn room_raw_vibrato_retune(
     lfo_phase: &mut f64,
     sample_rate: &mut f64,
 ) -> u32
-    ensures { λ r. ⌜ CallReturns vibrato (retune «new_sample_rate»)
-        (vibratoUnit (now («write_pos» .entry)) (now («lfo_phase» .entry)) (now («sample_rate» .entry)) (now (memory .entry)))
-        (vibratoUnit (now («write_pos» .exit)) (now («lfo_phase» .exit)) (now («sample_rate» .exit)) (now (memory .exit))) r ⌝ }
+    ensures { λ r. ⌜ over (λ k. unitOf (stateOf (lent «write_pos» k) (lent «lfo_phase» k) (lent «sample_rate» k))
+        (lent memory k))
+        (λ u u'. CallReturns vibrato (retune «new_sample_rate») u u' r) ⌝ }
 {
     let state = Vibrato {
         write_pos: *write_pos,
@@ -64,9 +64,8 @@ pub extern "C" fn room_raw_vibrato_reset(
     lfo_phase: &mut f64,
     sample_rate: f64,
 ) -> u32
-    ensures { λ r. ⌜ CallReturns vibrato reset
-        (vibratoUnit (now («write_pos» .entry)) (now («lfo_phase» .entry)) «sample_rate» (now (memory .entry)))
-        (vibratoUnit (now («write_pos» .exit)) (now («lfo_phase» .exit)) «sample_rate» (now (memory .exit))) r ⌝ }
+    ensures { λ r. ⌜ over (λ k. unitOf (stateOf (lent «write_pos» k) (lent «lfo_phase» k) «sample_rate») (lent memory k))
+        (λ u u'. CallReturns vibrato reset u u' r) ⌝ }
 {
     let state = Vibrato {
         write_pos: *write_pos,
@@ -99,9 +98,9 @@ pub extern "C" fn room_raw_vibrato_tick(
     sine: f64,
     out: &mut f64,
 ) -> u32
-    ensures { λ r. ⌜ TickReturns vibrato 1 (tickOf (portAt set 1 audio) (portAt set 2 depth) (portAt set 4 mix) frequency sine)
-        (vibratoUnit (now («write_pos» .entry)) (now («lfo_phase» .entry)) «sample_rate» (now (memory .entry)))
-        (vibratoUnit (now («write_pos» .exit)) (now («lfo_phase» .exit)) «sample_rate» (now (memory .exit))) (now (out .exit) ∷ []) r ⌝ }
+    ensures { λ r. ⌜ over (λ k. unitOf (stateOf (lent «write_pos» k) (lent «lfo_phase» k) «sample_rate») (lent memory k))
+        (λ u u'. TickReturns vibrato 1 (tickOf (portAt set 1 audio) (portAt set 2 depth) (portAt set 4 mix) frequency sine) u u'
+        (now (out .exit) ∷ []) r) ⌝ }
 {
     let state = Vibrato {
         write_pos: *write_pos,
@@ -135,7 +134,8 @@ pub extern "C" fn room_raw_vibrato_silent(
     memory: &[f64],
     out: &mut u32,
 ) -> u32
-    ensures { λ r. ⌜ AskReturns vibrato (vibratoUnit «write_pos» «lfo_phase» «sample_rate» (now (memory .entry))) (now (out .exit)) r ⌝ }
+    ensures { λ r. ⌜ AskReturns vibrato (unitOf (stateOf «write_pos» «lfo_phase» «sample_rate») (now (memory .entry)))
+        (now (out .exit)) r ⌝ }
 {
     let state = Vibrato {
         write_pos,

@@ -2,7 +2,7 @@
 -- Definitions only. Assumes nothing.
 use Prim.Native.Nat.{ℕ, _<_}
 use mathlib.Core.Bool.{Bool, true, _&&_, _||_, cond}
-use mathlib.Core.List.{[], _∷_}
+use mathlib.Core.List.{List, [], _∷_}
 use lib.Ieee.{Float, binary64, add, sub, mul, div}
 use Rattle.float64.specs.Number.{plusZero, floatOf, half, rateFits, phaseFits, frequencyFits, sineFits, clampOf, absolute}
 use Rattle.port.specs.declared.Port.{Port}
@@ -22,9 +22,12 @@ pub record Tick : Type 0 where
 abbrev pub tickOf : Port → Port → Port → Float → Float → Tick
 tickOf audio depth shape frequency sine = record { audio = audio; depth = depth; shape = shape; frequency = frequency; sine = sine }
 
+abbrev pub stateOf : Float → Float → Tremolo
+stateOf phase rate = record { «lfo_phase» = phase; «sample_rate» = rate }
+
 -- the state after a start and a reset, and the one that a refused start gives
 abbrev pub fresh : Float → Tremolo
-fresh rate = record { «lfo_phase» = plusZero; «sample_rate» = rate }
+fresh rate = stateOf plusZero rate
 
 abbrev pub blank : Tremolo
 blank = fresh plusZero
@@ -63,10 +66,10 @@ modulated input depth lfo =
 
 -- the phase moves on by frequency / rate
 unfoldable pub next : Tick → Tremolo → Tremolo
-next t s = record { «lfo_phase» = advanced (s .«lfo_phase») (div binary64 (t .frequency) (s .«sample_rate»)); «sample_rate» = s .«sample_rate» }
+next t s = stateOf (advanced (s .«lfo_phase») (div binary64 (t .frequency) (s .«sample_rate»))) (s .«sample_rate»)
 
-unfoldable pub sample : Tick → Tremolo → Float
-sample t s = modulated (input t) (depth t) (lfo (s .«lfo_phase») (shape t) (t .sine))
+unfoldable pub samples : Tick → Tremolo → List Float
+samples t s = modulated (input t) (depth t) (lfo (s .«lfo_phase») (shape t) (t .sine)) ∷ []
 
 -- ---- the effect
 
@@ -91,6 +94,6 @@ tremolo =
       retuned = λ rate s. fresh rate;
       next = λ t s m. next t s;
       writes = λ t s m. [];
-      samples = λ t s m. sample t s ∷ [];
+      samples = λ t s m. samples t s;
       silence = λ s m. true;
     }

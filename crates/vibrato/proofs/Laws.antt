@@ -28,7 +28,8 @@ use Rattle.effect.specs.Run.{tick, numberIn}
 use Rattle.effect.specs.Contract.{Does}
 use Rattle.effect.proofs.Contract.{accepts}
 use Rattle.vibrato.specs.declared.Vibrato.{Vibrato}
-use Rattle.vibrato.specs.Vibrato.{Tick, tickOf, vibrato, lineLength, stateFits, tickNumber, input, depth, mix, distance, delayed, next, writes, sample}
+use Rattle.vibrato.specs.Vibrato.{Tick, tickOf, vibrato, lineLength, stateFits, tickNumber, input, depth, mix, distance, delayed, next, writes}
+use Rattle.vibrato.specs.Vibrato as page
 
 -- ---- the line's length
 
@@ -130,8 +131,8 @@ module _ (t : Tick) (s : Vibrato) (m : List Float) {n : ℕ} (e : n ≡ lineLeng
     unfolding writes
     stored-is = let p : s .«write_pos» ≡ 0 * lineLength (s .«sample_rate») + s .«write_pos» = omega arith in λ i. set m (p i) (audio i)
 
-    pub played-is : {y b r : Float} → y ≡ delayed t s m → b ≡ mix t → r ≡ blended x y b → played (r ∷ []) ≡ played (sample t s m ∷ [])
-    unfolding sample
+    pub played-is : {y b r : Float} → y ≡ delayed t s m → b ≡ mix t → r ≡ blended x y b → played (r ∷ []) ≡ played (page.samples t s m)
+    unfolding page.samples
     played-is y b r = ap (λ (z : Float). played (z ∷ [])) (r ∙ (λ i. blended (audio i) (y i) (b i)))
 
 -- ---- ports: a tick is the one with all ports set to the values that it takes from them
@@ -144,7 +145,7 @@ module _ (t : Tick) {x d b : Float} (audio : x ≡ valueOr (t .audio) plusZero) 
       → numberIn vibrato (tick allSet) (length m) s ≡ 0
       → Does vibrato (tick allSet) s m s' m' a
       → Does vibrato (tick t) s m s' m' a
-  unfolding next writes sample delayed
+  unfolding next writes page.samples delayed
   set-does {s} {m} n k does =
       let rate = s .«sample_rate» in
       let L = lineLength rate in

@@ -29,9 +29,12 @@ tickOf audio depth mix frequency sine = record { audio = audio; depth = depth; m
 unfoldable pub lineLength : Float → ℕ
 lineLength rate = sweptLength (floatOf 20) rate
 
+abbrev pub stateOf : ℕ → Float → Float → Vibrato
+stateOf pos phase rate = record { «write_pos» = pos; «lfo_phase» = phase; «sample_rate» = rate }
+
 -- the state after a start, a reset and a retune, which all zero the phase; and the one that a refused start gives
 abbrev pub fresh : Float → Vibrato
-fresh rate = record { «write_pos» = 0; «lfo_phase» = plusZero; «sample_rate» = rate }
+fresh rate = stateOf 0 plusZero rate
 
 abbrev pub blank : Vibrato
 blank = fresh plusZero
@@ -72,19 +75,16 @@ delayed t s m =
 -- the position moves on by one place, the phase by frequency / rate
 unfoldable pub next : Tick → Vibrato → Vibrato
 next t s =
-    record {
-      «write_pos» = nextPlace (lineLength (s .«sample_rate»)) (s .«write_pos»);
-      «lfo_phase» = advanced (s .«lfo_phase») (div binary64 (t .frequency) (s .«sample_rate»));
-      «sample_rate» = s .«sample_rate»;
-    }
+    let rate = s .«sample_rate» in
+    stateOf (nextPlace (lineLength rate) (s .«write_pos»)) (advanced (s .«lfo_phase») (div binary64 (t .frequency) rate)) rate
 
 -- the audio goes into the line at the position
 unfoldable pub writes : Tick → Vibrato → List Write
 writes t s = inEach 1 0 (lineLength (s .«sample_rate»)) (s .«write_pos») (input t)
 
 -- audio × (1 − mix) + delayed × mix
-unfoldable pub sample : Tick → Vibrato → List Float → Float
-sample t s m = blended (input t) (delayed t s m) (mix t)
+unfoldable pub samples : Tick → Vibrato → List Float → List Float
+samples t s m = blended (input t) (delayed t s m) (mix t) ∷ []
 
 -- ---- the effect
 
@@ -109,7 +109,7 @@ vibrato =
       retuned = λ rate s. fresh rate;
       next = λ t s m. next t s;
       writes = λ t s m. writes t s;
-      samples = λ t s m. sample t s m ∷ [];
+      samples = samples;
       silence = λ s m. allZero (take (lineLength (s .«sample_rate»)) m);
     }
 
@@ -119,7 +119,7 @@ abbrev pub lines : Lines vibrato
 lines =
     record {
       count = 1;
-      size = lineLength;
+      lineLength = lineLength;
       position = λ s. s .«write_pos»;
       sample = input;
       Phase = Float;

@@ -1,9 +1,8 @@
 -- `room_raw_flanger_retune` is `Flanger::set_sample_rate`, its state written back where it is accepted. Assumes nothing.
 use mathlib.Core.Path.{refl, _∙_, sym}
-use Rattle.effect.specs.Run.{retune, Device}
+use Rattle.effect.specs.Run.{retune, Device, unitOf}
 use Rattle.flanger.specs.declared.Flanger.{Flanger}
-use Rattle.flanger.specs.Flanger.{flanger}
-use Rattle.room_effects.specs.Units.{flangerUnit}
+use Rattle.flanger.specs.Flanger.{flanger, stateOf}
 use Rattle.room_effects.proofs.Laws.{stored, kept}
 use borrow.Author.Needs.{needs}
 use Rattle.room_effects.proofs.flanger_calls.room_raw_flanger_retune.Statement.{statement}
@@ -13,7 +12,7 @@ use Rattle.room_effects.proofs.flanger_calls.room_raw_flanger_retune.Ti
 abbrev unit : tie.Start → Device Flanger
 unit s =
     let a = s .args in
-    flangerUnit (a .write-pos .now) (a .lfo-phase .now) (a .sample-rate .now) (a .memory .now)
+    unitOf (stateOf (a .write-pos .now) (a .lfo-phase .now) (a .sample-rate .now)) (a .memory .now)
 
 returns : tie.Need-returns
 returns c =

@@ -1,8 +1,7 @@
 -- `room_raw_flanger_silent` is `Flanger::silent`, in plain numbers. Assumes nothing.
 use mathlib.Core.Path.{refl}
-use Rattle.effect.specs.Run.{ask}
-use Rattle.flanger.specs.Flanger.{flanger}
-use Rattle.room_effects.specs.Units.{flangerUnit}
+use Rattle.effect.specs.Run.{ask, unitOf}
+use Rattle.flanger.specs.Flanger.{flanger, stateOf}
 use Rattle.room_effects.proofs.Laws.{stored, asked}
 use borrow.Author.Needs.{needs}
 use Rattle.room_effects.proofs.flanger_calls.room_raw_flanger_silent.Statement.{statement}
@@ -12,7 +11,7 @@ returns : tie.Need-returns
 returns c =
     let a = c .before .before .before .before .args in
     let does = c .before .before .silent .ensures in
-    asked flanger does (stored flanger ask (flangerUnit (a .write-pos) (a .lfo-phase) (a .sample-rate) (a .memory .now)) does (c .number .ensures) refl) (c .before .flag .ensures)
+    asked flanger does (stored flanger ask (unitOf (stateOf (a .write-pos) (a .lfo-phase) (a .sample-rate)) (a .memory .now)) does (c .number .ensures) refl) (c .before .flag .ensures)
 
 pub room-raw-flanger-silent-spec : {M : Type 1} → statement M
 room-raw-flanger-silent-spec = tie.close (tie.spec (search needs) (search needs) (search needs) returns)

@@ -1,13 +1,12 @@
 -- `room_raw_flanger_tick` is `Flanger::tick` with the ports of the mask, its state without the rate written back where it is accepted. Assumes nothing.
 use mathlib.Core.Path.{ap, sym, _∙_}
 use Rattle.port.specs.Answer.{answerReply}
-use Rattle.effect.specs.Run.{tick, Device}
+use Rattle.effect.specs.Run.{tick, Device, unitOf}
 use Rattle.effect.specs.Contract.{Does}
 use Rattle.flanger.specs.declared.Flanger.{Flanger}
-use Rattle.flanger.specs.Flanger.{flanger, Tick, tickOf}
+use Rattle.flanger.specs.Flanger.{flanger, Tick, tickOf, stateOf}
 use Rattle.flanger.proofs.Demand1.{laws}
 use Rattle.room_effects.specs.Ports.{portAt}
-use Rattle.room_effects.specs.Units.{flangerOf, flangerUnit}
 use Rattle.room_effects.proofs.Laws.{of-tick, stored, kept, tick-settings, played}
 use borrow.Author.Needs.{needs}
 use Rattle.room_effects.proofs.flanger_calls.room_raw_flanger_tick.Statement.{statement}
@@ -22,7 +21,7 @@ handed s =
 abbrev unit : tie.Start → Device Flanger
 unit s =
     let a = s .args in
-    flangerUnit (a .write-pos .now) (a .lfo-phase .now) (a .sample-rate) (a .memory .now)
+    unitOf (stateOf (a .write-pos .now) (a .lfo-phase .now) (a .sample-rate)) (a .memory .now)
 
 -- the inner tick, with the ports as the mask has them
 module _ (c : tie.After-tick) where
@@ -51,7 +50,7 @@ returns-2 c =
     let next = inner .tick .result .state in
     played flanger 3 (does inner)
     (stored flanger (tick (handed s)) (unit s) (does inner) (sym (c .if1 .left) ∙ out .before .before .number .ensures)
-    (ap (flangerOf (next .«write_pos») (next .«lfo_phase»)) (tick-settings flanger laws (does inner))))
+    (ap (stateOf (next .«write_pos») (next .«lfo_phase»)) (tick-settings flanger laws (does inner))))
     (out .put-samples .ensures)
 
 pub room-raw-flanger-tick-spec : {M : Type 1} → statement M

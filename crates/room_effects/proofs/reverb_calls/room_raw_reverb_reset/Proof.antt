@@ -2,11 +2,10 @@
 use mathlib.Core.Path.{ap, sym, _∙_}
 use lib.Ieee.{Float}
 use borrow.Author.Needs.{needs}
-use Rattle.effect.specs.Run.{Device, reset}
+use Rattle.effect.specs.Run.{Device, reset, unitOf}
 use Rattle.reverb.specs.declared.Reverb.{Reverb}
-use Rattle.reverb.specs.Reverb.{reverb}
+use Rattle.reverb.specs.Reverb.{reverb, stateOf}
 use Rattle.reverb.proofs.Demand1.{laws}
-use Rattle.room_effects.specs.Units.{reverbOf, reverbUnit}
 use Rattle.room_effects.proofs.Laws.{stored, kept, reset-settings}
 use Rattle.room_effects.proofs.reverb_calls.room_raw_reverb_reset.Statement.{statement}
 use Rattle.room_effects.proofs.reverb_calls.room_raw_reverb_reset.Tie as tie
@@ -15,7 +14,7 @@ use Rattle.room_effects.proofs.reverb_calls.room_raw_reverb_reset.Tie a
 abbrev unit : tie.Start → Device Reverb
 unit s =
     let a = s .args in
-    reverbUnit (a .comb-pos-l .now) (a .comb-pos-r .now) (a .comb-filter-state-l .now) (a .comb-filter-state-r .now) (a .allpass-pos-l .now) (a .allpass-pos-r .now) (a .predelay-pos .now) (a .sample-rate) (a .memory .now)
+    unitOf (stateOf (a .comb-pos-l .now) (a .comb-pos-r .now) (a .comb-filter-state-l .now) (a .comb-filter-state-r .now) (a .allpass-pos-l .now) (a .allpass-pos-r .now) (a .predelay-pos .now) (a .sample-rate)) (a .memory .now)
 
 -- the call that is made
 abbrev start : tie.After-reset → tie.Start
@@ -31,7 +30,7 @@ returns-2 c =
     let tested = c .before .before .before .before .before .before .before .before in
     let inner = tested .before .before .before .before in
     let put = c .put-reverb .last .1 in
-    let next : Float → Reverb = reverbOf (put .0) (put .1 .0) (put .1 .1 .0) (put .1 .1 .1 .0) (put .1 .1 .1 .1 .0) (put .1 .1 .1 .1 .1 .0) (put .1 .1 .1 .1 .1 .1 .0) in
+    let next : Float → Reverb = stateOf (put .0) (put .1 .0) (put .1 .1 .0) (put .1 .1 .1 .0) (put .1 .1 .1 .1 .0) (put .1 .1 .1 .1 .1 .0) (put .1 .1 .1 .1 .1 .1 .0) in
     stored reverb reset (unit (start inner)) (inner .reset .ensures) (sym (tested .if1 .left) ∙ tested .before .number .ensures)
     (ap next (reset-settings reverb laws (inner .reset .ensures)) ∙ c .put-reverb .ensures)
 

@@ -1,9 +1,8 @@
 -- `room_raw_reverb_silent` is `Reverb::silent`, in plain numbers. Assumes nothing.
 use mathlib.Core.Path.{refl}
 use borrow.Author.Needs.{needs}
-use Rattle.effect.specs.Run.{ask}
-use Rattle.reverb.specs.Reverb.{reverb}
-use Rattle.room_effects.specs.Units.{reverbUnit}
+use Rattle.effect.specs.Run.{ask, unitOf}
+use Rattle.reverb.specs.Reverb.{reverb, stateOf}
 use Rattle.room_effects.proofs.Laws.{stored, asked}
 use Rattle.room_effects.proofs.reverb_calls.room_raw_reverb_silent.Statement.{statement}
 use Rattle.room_effects.proofs.reverb_calls.room_raw_reverb_silent.Tie as tie
@@ -12,7 +11,7 @@ returns : tie.Need-returns
 returns c =
     let a = c .before .before .before .before .before .before .before .before .before .before .args in
     let does = c .before .before .silent .ensures in
-    let u = reverbUnit (a .comb-pos-l .now) (a .comb-pos-r .now) (a .comb-filter-state-l .now) (a .comb-filter-state-r .now) (a .allpass-pos-l .now) (a .allpass-pos-r .now) (a .predelay-pos) (a .sample-rate) (a .memory .now) in
+    let u = unitOf (stateOf (a .comb-pos-l .now) (a .comb-pos-r .now) (a .comb-filter-state-l .now) (a .comb-filter-state-r .now) (a .allpass-pos-l .now) (a .allpass-pos-r .now) (a .predelay-pos) (a .sample-rate)) (a .memory .now) in
     asked reverb does (stored reverb ask u does (c .number .ensures) refl) (c .before .flag .ensures)
 
 pub room-raw-reverb-silent-spec : {M : Type 1} → statement M

@@ -1,8 +1,8 @@
 -- `room_raw_tremolo_silent` is `Tremolo::silent`, in plain numbers. Assumes nothing.
 use mathlib.Core.Path.{refl}
-use Rattle.effect.specs.Run.{ask}
-use Rattle.tremolo.specs.Tremolo.{tremolo}
-use Rattle.room_effects.specs.Units.{tremoloUnit}
+use mathlib.Core.List.{[]}
+use Rattle.effect.specs.Run.{ask, unitOf}
+use Rattle.tremolo.specs.Tremolo.{tremolo, stateOf}
 use Rattle.room_effects.proofs.Laws.{stored, asked}
 use borrow.Author.Needs.{needs}
 use Rattle.room_effects.proofs.tremolo_calls.room_raw_tremolo_silent.Statement.{statement}
@@ -12,7 +12,7 @@ returns : tie.Need-returns
 returns c =
     let a = c .before .before .before .args in
     let does = c .before .before .silent .ensures in
-    asked tremolo does (stored tremolo ask (tremoloUnit (a .lfo-phase) (a .sample-rate)) does (c .number .ensures) refl) (c .before .flag .ensures)
+    asked tremolo does (stored tremolo ask (unitOf (stateOf (a .lfo-phase) (a .sample-rate)) []) does (c .number .ensures) refl) (c .before .flag .ensures)
 
 pub room-raw-tremolo-silent-spec : {M : Type 1} → statement M
 room-raw-tremolo-silent-spec = tie.close (tie.spec (search needs) (search needs) (search needs) returns)

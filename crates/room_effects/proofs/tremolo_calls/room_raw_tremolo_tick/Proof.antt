@@ -2,13 +2,12 @@
 use mathlib.Core.Path.{ap, sym, _∙_}
 use mathlib.Core.List.{[], _∷_}
 use Rattle.port.specs.Answer.{answerReply}
-use Rattle.effect.specs.Run.{tick, Device}
+use Rattle.effect.specs.Run.{tick, Device, unitOf}
 use Rattle.effect.specs.Contract.{Does}
 use Rattle.tremolo.specs.declared.Tremolo.{Tremolo}
-use Rattle.tremolo.specs.Tremolo.{tremolo, Tick, tickOf}
+use Rattle.tremolo.specs.Tremolo.{tremolo, Tick, tickOf, stateOf}
 use Rattle.tremolo.proofs.Demand1.{laws}
 use Rattle.room_effects.specs.Ports.{portAt}
-use Rattle.room_effects.specs.Units.{tremoloOf, tremoloUnit}
 use Rattle.room_effects.proofs.Laws.{of-tick, stored, kept, tick-settings, played}
 use borrow.Author.Needs.{needs}
 use Rattle.room_effects.proofs.tremolo_calls.room_raw_tremolo_tick.Statement.{statement}
@@ -23,7 +22,7 @@ handed s =
 abbrev unit : tie.Start → Device Tremolo
 unit s =
     let a = s .args in
-    tremoloUnit (a .lfo-phase .now) (a .sample-rate)
+    unitOf (stateOf (a .lfo-phase .now) (a .sample-rate)) []
 
 -- the inner tick, with the ports as the mask has them
 module _ (c : tie.After-tick) where
@@ -52,7 +51,7 @@ returns-2 c =
     let next = inner .tick .result .state in
     played tremolo 1 (does inner)
     (stored tremolo (tick (handed s)) (unit s) (does inner) (sym (c .if1 .left) ∙ numbered .number .ensures)
-    (ap (tremoloOf (next .«lfo_phase»)) (tick-settings tremolo laws (does inner))))
+    (ap (stateOf (next .«lfo_phase»)) (tick-settings tremolo laws (does inner))))
     (λ i. c .before .first .ensures i ∷ [])
 
 pub room-raw-tremolo-tick-spec : {M : Type 1} → statement M

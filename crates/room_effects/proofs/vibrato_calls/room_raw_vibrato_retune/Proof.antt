@@ -1,9 +1,8 @@
 -- `room_raw_vibrato_retune` is `Vibrato::set_sample_rate`, its state written back where it is accepted. Assumes nothing.
 use mathlib.Core.Path.{refl, _∙_, sym}
-use Rattle.effect.specs.Run.{retune, Device}
+use Rattle.effect.specs.Run.{retune, Device, unitOf}
 use Rattle.vibrato.specs.declared.Vibrato.{Vibrato}
-use Rattle.vibrato.specs.Vibrato.{vibrato}
-use Rattle.room_effects.specs.Units.{vibratoUnit}
+use Rattle.vibrato.specs.Vibrato.{vibrato, stateOf}
 use Rattle.room_effects.proofs.Laws.{stored, kept}
 use borrow.Author.Needs.{needs}
 use Rattle.room_effects.proofs.vibrato_calls.room_raw_vibrato_retune.Statement.{statement}
@@ -13,7 +12,7 @@ use Rattle.room_effects.proofs.vibrato_calls.room_raw_vibrato_retune.Ti
 abbrev unit : tie.Start → Device Vibrato
 unit s =
     let a = s .args in
-    vibratoUnit (a .write-pos .now) (a .lfo-phase .now) (a .sample-rate .now) (a .memory .now)
+    unitOf (stateOf (a .write-pos .now) (a .lfo-phase .now) (a .sample-rate .now)) (a .memory .now)
 
 returns : tie.Need-returns
 returns c =

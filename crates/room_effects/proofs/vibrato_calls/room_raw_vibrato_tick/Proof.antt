@@ -2,13 +2,12 @@
 use mathlib.Core.Path.{ap, sym, _∙_}
 use mathlib.Core.List.{[], _∷_}
 use Rattle.port.specs.Answer.{answerReply}
-use Rattle.effect.specs.Run.{tick, Device}
+use Rattle.effect.specs.Run.{tick, Device, unitOf}
 use Rattle.effect.specs.Contract.{Does}
 use Rattle.vibrato.specs.declared.Vibrato.{Vibrato}
-use Rattle.vibrato.specs.Vibrato.{vibrato, Tick, tickOf}
+use Rattle.vibrato.specs.Vibrato.{vibrato, Tick, tickOf, stateOf}
 use Rattle.vibrato.proofs.Demand1.{laws}
 use Rattle.room_effects.specs.Ports.{portAt}
-use Rattle.room_effects.specs.Units.{vibratoOf, vibratoUnit}
 use Rattle.room_effects.proofs.Laws.{of-tick, stored, kept, tick-settings, played}
 use borrow.Author.Needs.{needs}
 use Rattle.room_effects.proofs.vibrato_calls.room_raw_vibrato_tick.Statement.{statement}
@@ -23,7 +22,7 @@ handed s =
 abbrev unit : tie.Start → Device Vibrato
 unit s =
     let a = s .args in
-    vibratoUnit (a .write-pos .now) (a .lfo-phase .now) (a .sample-rate) (a .memory .now)
+    unitOf (stateOf (a .write-pos .now) (a .lfo-phase .now) (a .sample-rate)) (a .memory .now)
 
 -- the inner tick, with the ports as the mask has them
 module _ (c : tie.After-tick) where
@@ -52,7 +51,7 @@ returns-2 c =
     let next = inner .tick .result .state in
     played vibrato 1 (does inner)
     (stored vibrato (tick (handed s)) (unit s) (does inner) (sym (c .if1 .left) ∙ numbered .number .ensures)
-    (ap (vibratoOf (next .«write_pos») (next .«lfo_phase»)) (tick-settings vibrato laws (does inner))))
+    (ap (stateOf (next .«write_pos») (next .«lfo_phase»)) (tick-settings vibrato laws (does inner))))
     (λ i. c .before .first .ensures i ∷ [])
 
 pub room-raw-vibrato-tick-spec : {M : Type 1} → statement M

@@ -6,7 +6,7 @@ use Prim.Native.Nat.{ℕ}
 use mathlib.Core.Bool.{true, _&&_, _||_}
 use mathlib.Core.List.{[], _∷_}
 use native.Mathlib.Omega.{arith}
-use lib.Ieee.{Float, ofBits, ofInt, round, fits, isNan}
+use lib.Ieee.{ofBits, ofInt, round, fits, isNan}
 use borrow.Author.Needs.{needs}
 use borrow.Author.Tests.{not-true, not-false}
 use Rattle.float64.specs.Number.{plusZero, half, isNumber}
@@ -18,7 +18,7 @@ use Rattle.effect.specs.Run.{tick, numberIn}
 use Rattle.effect.proofs.Contract.{refuses, accepts, state-refused, tick-number}
 use Rattle.tremolo.specs.Tremolo.{tremolo, Tick, tickOf, tickNumber, next}
 use Rattle.tremolo.specs.Tremolo as page
-use Rattle.tremolo.proofs.Laws.{sample-is}
+use Rattle.tremolo.proofs.Laws.{samples-are}
 use Rattle.tremolo.proofs.Tremolo.tick.Statement.{statement}
 use Rattle.tremolo.proofs.Tremolo.tick.Tie as tie
 
@@ -99,8 +99,8 @@ returns-3 c =
     (sym (number-is causes 0 (ap numberOf (c .before .before .before .before .before .enum-told4 .given .1))))
     (rw (c .before .before .before .before .advance-phase .ensures))
     refl
-    (ap (λ (y : Float). played (y ∷ []))
-    (sample-is (handed s) (s .args .self) (input-is v) (amount-is v) (blend-is v) (c .before .before .before .clamp .ensures) (c .before .before .lfo .ensures) (c .before .clamp2 .ensures)
+    (ap played
+    (samples-are (handed s) (s .args .self) (input-is v) (amount-is v) (blend-is v) (c .before .before .before .clamp .ensures) (c .before .before .lfo .ensures) (c .before .clamp2 .ensures)
     (c .modulated .ensures)))
 
 pub tick-spec : {M : Type 1} → statement M
