@@ -16,7 +16,7 @@ use Rattle.effect.specs.Run.{CallOf, tick, start, reply, replies}
 use Rattle.delay_line.specs.DelayLine as delay
 use Rattle.tremolo.specs.Tremolo as trem
 use Rattle.reverb.specs.Freeverb.{combStore, combFed, combed, passOutput, passFed}
-use Rattle.reverb.specs.Tunings.{Side, left, right, ratio, spread, combLengths, allpassLengths}
+use Rattle.reverb.specs.Tunings.{Side, left, right, predelaySize, ratio, spread, combLengths, allpassLengths}
 use Rattle.reverb.specs.Reverb as rev
 use Rattle.room_effects.specs.Needed.{neededBy}
 
@@ -68,8 +68,8 @@ Holds (combs held store damping feedback input answer store' written) =
     (combed held 2 0 store damping ≡ record { output = answer; «filter_state» = store'; pos = 1 })
     × (combFed input (combStore held store damping) feedback ≡ written)
 Holds (passes held input answer written) = (passOutput input held ≡ answer) × (passFed input held ≡ written)
-Holds (lies w d p) = place 9600 w d ≡ p
-Holds (waits control rate n) = rev.delay (rev.tickOf Unset Unset Unset Unset (Set control)) rate ≡ n
+Holds (lies w d p) = place predelaySize w d ≡ p
+Holds (waits control rate n) = rev.delayBy (rev.controlsOf (rev.tickOf Unset Unset Unset Unset (Set control))) rate ≡ n
 
 abbrev pub AllHold : List Case → Type 0
 AllHold [] = Unit {0}

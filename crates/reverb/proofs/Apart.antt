@@ -17,7 +17,7 @@ use Rattle.reverb.specs.declared.filters.Combed.{Combed}
 use Rattle.reverb.specs.declared.filters.Passed.{Passed}
 use Rattle.reverb.specs.Freeverb.{combStore, combFed, combed, combLine, passOutput, passFed, passed, passLine}
 use Rattle.reverb.specs.Tunings.{Side, left, right, sided, combSize, combMost, allpassSize, allpassMost}
-use Rattle.reverb.specs.Tank.{Lines, InLines, combStart, allpassStart, predelayStart, tankSize, placeOf, held, moved, bySides, combsHeld, sumOf, combStored, combWrite, allpassesHeld, passedOn, allpassWrite}
+use Rattle.reverb.specs.Tank.{SidedLines, InLines, combStart, allpassStart, predelayStart, tankSize, placeOf, held, nextPosition, bySides, combsHeld, sumOf, combStored, combWrite, allpassesHeld, passedOn, allpassWrite}
 use Rattle.reverb.proofs.Lists.{below-at, below-long}
 
 -- what is equal on the left and on the right
@@ -63,17 +63,17 @@ module _ (f : ℕ → Side → Write) (m : List Float) (i : ℕ) (apart : (w v :
 
 -- ---- where the places lie
 
-module _ {count most : ℕ} {l : Lines} (f : InLines count most l) where
-  pub line-below : (side : Side) (i : ℕ) → i < count → (getD (l .positions side) i 0 < getD (l .sizes side) i 0) × (getD (l .sizes side) i 0 ≤ most)
-  line-below side i h = (below-at (l .positions side) (l .sizes side) i (f .below side) (omega (arith, f .counted side)), f .capped side i)
+module _ {count most : ℕ} {l : SidedLines} (f : InLines count most l) where
+  pub line-below : (side : Side) (i : ℕ) → i < count → (getD (l .positions side) i 0 < getD (l .lengths side) i 0) × (getD (l .lengths side) i 0 ≤ most)
+  line-below side i h = (below-at (l .positions side) (l .lengths side) i (f .inside side) (omega (arith, f .counted side)), f .capped side i)
 
   pub lines-long : (side : Side) → length (l .positions side) ≡ count
-  lines-long side = below-long (l .positions side) (l .sizes side) (f .below side) ∙ f .counted side
+  lines-long side = below-long (l .positions side) (l .lengths side) (f .inside side) ∙ f .counted side
 
-module _ {l : Lines} (f : InLines 8 combMost l) where
+module _ {l : SidedLines} (f : InLines 8 combMost l) where
   -- what a step of comb i of a side at the position w asks, in a memory of k places
   pub comb-asks : {w : ℕ} (side : Side) (i k : ℕ) → w ≡ getD (l .positions side) i 0 → i < 8 → tankSize ≤ k
-      → (w < getD (l .sizes side) i 0) × ((getD (l .sizes side) i 0 ≤ combSize) × (combStart side i + combSize ≤ k))
+      → (w < getD (l .lengths side) i 0) × ((getD (l .lengths side) i 0 ≤ combSize) × (combStart side i + combSize ≤ k))
   comb-asks {w} side i k at h room = let b = line-below f side i h in (omega (arith, at, b .0), (omega (arith, b .1), go side))
     where
       go : (v : Side) → combStart v i + combSize ≤ k
@@ -95,9 +95,9 @@ module _ {l : Lines} (f : InLines 8 combMost l) where
   pub comb-across : (i : ℕ) → i < 8 → placeOf combStart l right i ≢ placeOf combStart l left i
   comb-across i h = omega (arith, line-below f left i h)
 
-module _ {l : Lines} (f : InLines 4 allpassMost l) where
+module _ {l : SidedLines} (f : InLines 4 allpassMost l) where
   pub allpass-asks : {w : ℕ} (side : Side) (i k : ℕ) → w ≡ getD (l .positions side) i 0 → i < 4 → tankSize ≤ k
-      → (w < getD (l .sizes side) i 0) × ((getD (l .sizes side) i 0 ≤ allpassSize) × (allpassStart side i + allpassSize ≤ k))
+      → (w < getD (l .lengths side) i 0) × ((getD (l .lengths side) i 0 ≤ allpassSize) × (allpassStart side i + allpassSize ≤ k))
   allpass-asks {w} side i k at h room = let b = line-below f side i h in (omega (arith, at, b .0), (omega (arith, b .1), go side))
     where
       go : (v : Side) → allpassStart v i + allpassSize ≤ k
@@ -121,20 +121,20 @@ module _ {l : Lines} (f : InLines 4 allpassMost l) where
 
 -- ---- a step of line i of a side, at the position v, after stores in other lines, so that its place holds what it held in m
 
-module _ (start : Side → ℕ → ℕ) (count : ℕ) (l : Lines) (m : List Float) (side : Side) (i : ℕ) (h : i < count) (m' : List Float) {v : ℕ} (at : v ≡ getD (l .positions side) i 0) (same : getD m' (placeOf start l side i) nan ≡ getD m (placeOf start l side i) nan) where
+module _ (start : Side → ℕ → ℕ) (count : ℕ) (l : SidedLines) (m : List Float) (side : Side) (i : ℕ) (h : i < count) (m' : List Float) {v : ℕ} (at : v ≡ getD (l .positions side) i 0) (same : getD m' (placeOf start l side i) nan ≡ getD m (placeOf start l side i) nan) where
   read : getD m' (start side i + v) nan ≡ getD (held start count l m side) i nan
   unfolding held
   read = ap (λ (w : ℕ). getD m' (start side i + w) nan) at ∙ same ∙ sym (getD-table (λ k. getD m (placeOf start l side k) nan) count i nan h)
 
 -- a comb, whose store is read as y
-module _ (x d f : Float) (l : Lines) (z : Side → List Float) (m : List Float) (side : Side) (i : ℕ) (h : i < 8) (m' : List Float) {v : ℕ} {y : Float} (at : v ≡ getD (l .positions side) i 0) (kept : y ≡ getD (z side) i nan) (same : getD m' (placeOf combStart l side i) nan ≡ getD m (placeOf combStart l side i) nan) where
+module _ (x d f : Float) (l : SidedLines) (z : Side → List Float) (m : List Float) (side : Side) (i : ℕ) (h : i < 8) (m' : List Float) {v : ℕ} {y : Float} (at : v ≡ getD (l .positions side) i 0) (kept : y ≡ getD (z side) i nan) (same : getD m' (placeOf combStart l side i) nan ≡ getD m (placeOf combStart l side i) nan) where
   -- its answer, store and position
-  pub comb-gives : {r : Combed} → r ≡ combed (getD m' (combStart side i + v) nan) (getD (l .sizes side) i 0) v y d
-      → r ≡ record { output = getD (combsHeld l m side) i nan; «filter_state» = combStored d z (combsHeld l m) side i; pos = moved l side i }
-  unfolding combed combStored moved
+  pub comb-gives : {r : Combed} → r ≡ combed (getD m' (combStart side i + v) nan) (getD (l .lengths side) i 0) v y d
+      → r ≡ record { output = getD (combsHeld l m side) i nan; «filter_state» = combStored d z (combsHeld l m) side i; pos = nextPosition l side i }
+  unfolding combed combStored nextPosition
   comb-gives e =
       let b = read combStart 8 l m side i h m' at same in
-      e ∙ (λ j. record { output = b j; «filter_state» = combStore (b j) (kept j) d; pos = nextPlace (getD (l .sizes side) i 0) (at j) })
+      e ∙ (λ j. record { output = b j; «filter_state» = combStore (b j) (kept j) d; pos = nextPlace (getD (l .lengths side) i 0) (at j) })
 
   -- and its write
   pub comb-writes : combLine m' (combStart side i + v) y x d f
@@ -145,13 +145,13 @@ module _ (x d f : Float) (l : Lines) (z : Side → List Float) (m : List Float) 
       λ j. set m' (combStart side i + at j) (combFed x (combStore (b j) (kept j) d) f)
 
 -- an all-pass, with y into it
-module _ (x : Side → Float) (l : Lines) (m : List Float) (side : Side) (i : ℕ) (h : i < 4) (m' : List Float) (y : Float) {v : ℕ} (at : v ≡ getD (l .positions side) i 0) (same : getD m' (placeOf allpassStart l side i) nan ≡ getD m (placeOf allpassStart l side i) nan) (into : y ≡ passedOn (x side) (allpassesHeld l m side) i) where
-  pub pass-gives : {r : Passed} → r ≡ passed (getD m' (allpassStart side i + v) nan) (getD (l .sizes side) i 0) v y
-      → r ≡ record { output = passedOn (x side) (allpassesHeld l m side) (i + 1); pos = moved l side i }
-  unfolding passed passedOn moved
+module _ (x : Side → Float) (l : SidedLines) (m : List Float) (side : Side) (i : ℕ) (h : i < 4) (m' : List Float) (y : Float) {v : ℕ} (at : v ≡ getD (l .positions side) i 0) (same : getD m' (placeOf allpassStart l side i) nan ≡ getD m (placeOf allpassStart l side i) nan) (into : y ≡ passedOn (x side) (allpassesHeld l m side) i) where
+  pub pass-gives : {r : Passed} → r ≡ passed (getD m' (allpassStart side i + v) nan) (getD (l .lengths side) i 0) v y
+      → r ≡ record { output = passedOn (x side) (allpassesHeld l m side) (i + 1); pos = nextPosition l side i }
+  unfolding passed passedOn nextPosition
   pass-gives e =
       let b = read allpassStart 4 l m side i h m' at same in
-      rw (add-one i) (e ∙ (λ j. record { output = passOutput (into j) (b j); pos = nextPlace (getD (l .sizes side) i 0) (at j) }))
+      rw (add-one i) (e ∙ (λ j. record { output = passOutput (into j) (b j); pos = nextPlace (getD (l .lengths side) i 0) (at j) }))
 
   pub pass-writes : passLine m' (allpassStart side i + v) y
       ≡ set m' (allpassWrite x l (allpassesHeld l m) i side .place) (allpassWrite x l (allpassesHeld l m) i side .value)

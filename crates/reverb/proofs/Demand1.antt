@@ -17,7 +17,7 @@ use Rattle.effect.proofs.Demand1.{demand-1}
 use Rattle.reverb.specs.declared.tick.Controls.{Controls}
 use Rattle.reverb.specs.declared.Reverb.{Reverb}
 use Rattle.reverb.specs.Tunings.{Side, left, right, predelaySize, combMost, allpassMost, combTunings, allpassTunings, tuned}
-use Rattle.reverb.specs.Tank.{combStart, allpassStart, tankSize, placeOf, moved, bySides, combsHeld, combWrite, allpassesHeld, allpassWrite, InUse, of-comb, of-allpass, of-predelay}
+use Rattle.reverb.specs.Tank.{combStart, allpassStart, tankSize, placeOf, nextPosition, bySides, combsHeld, combWrite, allpassesHeld, allpassWrite, InUse, of-comb, of-allpass, of-predelay}
 use Rattle.reverb.specs.Reverb.{reverb, combs, stores, allpasses, fresh, blank, stateFits, controlsOf, damping, feedback, predelayed, summed, next, writes}
 use Rattle.reverb.proofs.Scaling.{lines-some, lines-most}
 use Rattle.reverb.proofs.Lists.{moved-below}
@@ -46,12 +46,12 @@ fresh-fits rate h =
     })
 
 next-fits : (c : Controls) (s : Reverb) (m : List Float) → stateFits s ≡ true → stateFits (next c s m) ≡ true
-unfolding next moved
+unfolding next nextPosition
 next-fits c s m e =
     let u = next c s m in
     let f = fits-parts s e in
-    let comb : (side : Side) → _ = λ side. moved-below (combs s .positions side) (combs s .sizes side) (f .combs .below side) in
-    let pass : (side : Side) → _ = λ side. moved-below (allpasses s .positions side) (allpasses s .sizes side) (f .allpasses .below side) in
+    let comb : (side : Side) → _ = λ side. moved-below (combs s .positions side) (combs s .lengths side) (f .combs .inside side) in
+    let pass : (side : Side) → _ = λ side. moved-below (allpasses s .positions side) (allpasses s .lengths side) (f .allpasses .inside side) in
     fit u
     (record {
       rate = f .rate;

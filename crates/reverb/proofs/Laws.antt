@@ -10,7 +10,7 @@ use Rattle.float64.proofs.Tests.{both}
 use Rattle.reverb.specs.declared.tunings.Lengths.{Lengths}
 use Rattle.reverb.specs.declared.Reverb.{Reverb}
 use Rattle.reverb.specs.Tunings.{Side, left, right, combMost, allpassMost, predelaySize, lengthsAt, noLengths, lengthsFor}
-use Rattle.reverb.specs.Tank.{Lines, allBelow, positionsFit, InLines}
+use Rattle.reverb.specs.Tank.{SidedLines, allBelow, positionsFit, InLines}
 use Rattle.reverb.specs.Reverb.{combs, allpasses, stateFits}
 use Rattle.reverb.proofs.Lists.{and-false, below-zero}
 use Rattle.reverb.proofs.Scaling.{roomy}
@@ -23,8 +23,8 @@ pub record Fits (s : Reverb) : Type 0 where
 
 module _ (s : Reverb) where
   -- the tests of positions
-  abbrev below : Lines → Side → Bool
-  below l side = allBelow (l .positions side) (l .sizes side)
+  abbrev below : SidedLines → Side → Bool
+  below l side = allBelow (l .positions side) (l .lengths side)
 
   abbrev sideBelow : Side → Bool
   sideBelow side = below (combs s) side && below (allpasses s) side
@@ -34,9 +34,9 @@ module _ (s : Reverb) where
 
   -- the lines of a state with such positions
   pub combs-in : below (combs s) left ≡ true → below (combs s) right ≡ true → InLines 8 combMost (combs s)
-  combs-in l r = record { counted = each; below = under; capped = roomy (s .«sample_rate») refl .combs }
+  combs-in l r = record { counted = each; inside = under; capped = roomy (s .«sample_rate») refl .combs }
     where
-      each : (side : Side) → length (combs s .sizes side) ≡ 8
+      each : (side : Side) → length (combs s .lengths side) ≡ 8
       each left = refl
       each right = refl
 
@@ -45,9 +45,9 @@ module _ (s : Reverb) where
       under right = r
 
   pub allpasses-in : below (allpasses s) left ≡ true → below (allpasses s) right ≡ true → InLines 4 allpassMost (allpasses s)
-  allpasses-in l r = record { counted = each; below = under; capped = roomy (s .«sample_rate») refl .allpasses }
+  allpasses-in l r = record { counted = each; inside = under; capped = roomy (s .«sample_rate») refl .allpasses }
     where
-      each : (side : Side) → length (allpasses s .sizes side) ≡ 4
+      each : (side : Side) → length (allpasses s .lengths side) ≡ 4
       each left = refl
       each right = refl
 
@@ -73,8 +73,8 @@ module _ (s : Reverb) where
   pub fit : Fits s → stateFits s ≡ true
   unfolding stateFits
   fit f =
-      let c = f .combs .below in
-      let p = f .allpasses .below in
+      let c = f .combs .inside in
+      let p = f .allpasses .inside in
       rw (f .rate, lt-ltb (s .«predelay_pos») predelaySize (f .predelay), c left, c right, p left, p right)
 
   -- by the positions and every line's length as the code finds it

@@ -19,7 +19,7 @@ use Rattle.reverb.specs.declared.tank.Sides.{Sides}
 use Rattle.reverb.specs.declared.tick.Controls.{Controls}
 use Rattle.reverb.specs.declared.Reverb.{Reverb}
 use Rattle.reverb.specs.Tunings.{Side, left, right, sided, predelaySize, lengthsAt}
-use Rattle.reverb.specs.Tank.{Lines, combLines, allpassLines, combStart, allpassStart, predelayStart, placeOf, held, moved, bySides, combsHeld, sumOf, combStored, combWrite, CombsStep, allpassesHeld, passedOn, allpassWrite, AllpassesStep}
+use Rattle.reverb.specs.Tank.{SidedLines, combLines, allpassLines, combStart, allpassStart, predelayStart, placeOf, held, nextPosition, bySides, combsHeld, sumOf, combStored, combWrite, CombsStep, allpassesHeld, passedOn, allpassWrite, AllpassesStep}
 use Rattle.reverb.specs.Reverb.{stateOf, combs, stores, allpasses, input, feedback, damping, mix, predelayed, summed, wet, combWrites, allpassWrites, writes, Advances}
 use Rattle.reverb.specs.Reverb as page
 use Rattle.reverb.proofs.Laws.{Fits}
@@ -96,10 +96,10 @@ module _ (c : Controls) (s : Reverb) (m : List Float) (f : Fits s) where
           → Advances c s m (stateOf (ws left) (ws right) (zs left) (zs right) (vs left) (vs right) p (s .«sample_rate»)) m' (played (l ∷ r ∷ []))
       unfolding page.next page.samples
       advances p l r =
-          let comb : (side : Side) → ws side ≡ table (moved (combs s) side) 8 = λ side. step .positions side ∙ (λ j. table (moved (combs-are j) side) 8) in
+          let comb : (side : Side) → ws side ≡ table (nextPosition (combs s) side) 8 = λ side. step .positions side ∙ (λ j. table (nextPosition (combs-are j) side) 8) in
           let store : (side : Side) → zs side ≡ table (combStored (damping c) (stores s) (combsHeld (combs s) m) side) 8 =
           λ side. step .stores side ∙ (λ j. table (combStored (damped j) (stores s) (held-is j) side) 8) in
-          let pass : (side : Side) → vs side ≡ table (moved (allpasses s) side) 4 = λ side. on .positions side ∙ (λ j. table (moved (allpasses-are j) side) 4) in
+          let pass : (side : Side) → vs side ≡ table (nextPosition (allpasses s) side) 4 = λ side. on .positions side ∙ (λ j. table (nextPosition (allpasses-are j) side) 4) in
           record {
             state = λ j. stateOf (comb left j) (comb right j) (store left j) (store right j) (pass left j) (pass right j) (p j) (s .«sample_rate»);
             memory = written;

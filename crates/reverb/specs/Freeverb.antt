@@ -1,5 +1,5 @@
 -- Freeverb's two filters, as Jezar at Dreampoint published them (2000, public domain), in binary64 and without his flush of denormal places and stores to 0.
--- Each works on a line: the first `size` places of its part of the tank, at a position that goes up by one and at the size back to 0.
+-- Each works on a line: the first n places of its part of the tank, at a position that goes up by one and at n back to 0.
 -- Definitions only. Assumes nothing.
 use Prim.Native.Nat.{ℕ}
 use mathlib.Core.List.{List}
@@ -22,7 +22,7 @@ combFed input store feedback = add binary64 input (mul binary64 store feedback)
 
 -- a step at the position pos of a line, whose place there held so much: what it answers, the next store and the next position
 unfoldable pub combed : Float → ℕ → ℕ → Float → Float → Combed
-combed held size pos store damping = record { output = held; «filter_state» = combStore held store damping; pos = nextPlace size pos }
+combed held n pos store damping = record { output = held; «filter_state» = combStore held store damping; pos = nextPlace n pos }
 
 -- and the places that it leaves, of which the one at p is its own
 unfoldable pub combLine : List Float → ℕ → Float → Float → Float → Float → List Float
@@ -40,7 +40,7 @@ passFed input held = add binary64 input (mul binary64 held half)
 
 -- a step, as of a comb
 unfoldable pub passed : Float → ℕ → ℕ → Float → Passed
-passed held size pos input = record { output = passOutput input held; pos = nextPlace size pos }
+passed held n pos input = record { output = passOutput input held; pos = nextPlace n pos }
 
 unfoldable pub passLine : List Float → ℕ → Float → List Float
 passLine m p input = set m p (passFed input (getD m p nan))

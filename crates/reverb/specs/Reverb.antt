@@ -15,7 +15,7 @@ use Rattle.effect.specs.Effect.{Effect, Write, laid}
 use Rattle.reverb.specs.declared.tick.Controls.{Controls}
 use Rattle.reverb.specs.declared.Reverb.{Reverb}
 use Rattle.reverb.specs.Tunings.{Side, left, right, sided, predelaySize, lengthsAt}
-use Rattle.reverb.specs.Tank.{Lines, combLines, allpassLines, predelayStart, tankSize, positionsFit, moved, bySides, combsHeld, sumOf, combStored, combWrite, allpassesHeld, passedOn, allpassWrite, delayed, InUse, silence}
+use Rattle.reverb.specs.Tank.{SidedLines, combLines, allpassLines, predelayStart, tankSize, positionsFit, nextPosition, bySides, combsHeld, sumOf, combStored, combWrite, allpassesHeld, passedOn, allpassWrite, delayed, InUse, silence}
 
 -- what a tick is handed: its ports; no curve number
 pub record Tick : Type 0 where
@@ -53,13 +53,13 @@ abbrev pub blank : Reverb
 blank = fresh plusZero
 
 -- a state's combs, with their damping stores, and its all-passes
-abbrev pub combs : Reverb → Lines
+abbrev pub combs : Reverb → SidedLines
 combs s = combLines (s .«comb_pos_l») (s .«comb_pos_r») (lengthsAt (s .«sample_rate»))
 
 abbrev pub stores : Reverb → Side → List Float
 stores s = sided (s .«comb_filter_state_l») (s .«comb_filter_state_r»)
 
-abbrev pub allpasses : Reverb → Lines
+abbrev pub allpasses : Reverb → SidedLines
 allpasses s = allpassLines (s .«allpass_pos_l») (s .«allpass_pos_r») (lengthsAt (s .«sample_rate»))
 
 -- the state test, cause 4: at an accepted rate, every position in its line; the stores may hold any float
@@ -100,15 +100,12 @@ damping c = mul binary64 (clampOf (c .damping) plusZero (floatOf 1)) (fraction 4
 abbrev pub mix : Controls → Float
 mix c = clampOf (c .mix) plusZero (floatOf 1)
 
--- the predelay's delay in samples: the whole part of control × 0.1 × rate, less than the line's length; and of a tick
+-- the predelay's delay in samples: the whole part of control × 0.1 × rate, less than the line's length
 unfoldable pub delaySamples : Float → Float → ℕ
 delaySamples control rate = wholePart (atMost (mul binary64 (mul binary64 control (fraction 1 10)) rate) (floatOf (predelaySize - 1)))
 
 abbrev pub delayBy : Controls → Float → ℕ
 delayBy c rate = delaySamples (clampOf (c .predelay) plusZero (floatOf 1)) rate
-
-abbrev pub delay : Tick → Float → ℕ
-delay t rate = delayBy (controlsOf t) rate
 
 -- ---- what it leaves and answers. Every line is read in the memory m before the tick
 
@@ -126,12 +123,12 @@ wet s m side = passedOn (summed s m side) (allpassesHeld (allpasses s) m side) 4
 unfoldable pub next : Controls → Reverb → List Float → Reverb
 next c s m =
     record {
-      «comb_pos_l» = table (moved (combs s) left) 8;
-      «comb_pos_r» = table (moved (combs s) right) 8;
+      «comb_pos_l» = table (nextPosition (combs s) left) 8;
+      «comb_pos_r» = table (nextPosition (combs s) right) 8;
       «comb_filter_state_l» = table (combStored (damping c) (stores s) (combsHeld (combs s) m) left) 8;
       «comb_filter_state_r» = table (combStored (damping c) (stores s) (combsHeld (combs s) m) right) 8;
-      «allpass_pos_l» = table (moved (allpasses s) left) 4;
-      «allpass_pos_r» = table (moved (allpasses s) right) 4;
+      «allpass_pos_l» = table (nextPosition (allpasses s) left) 4;
+      «allpass_pos_r» = table (nextPosition (allpasses s) right) 4;
       «predelay_pos» = nextPlace predelaySize (s .«predelay_pos»);
       «sample_rate» = s .«sample_rate»;
     }

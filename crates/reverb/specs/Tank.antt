@@ -33,16 +33,16 @@ tankSize = predelayStart + predelaySize
 
 -- ---- lines of one kind on both sides: the position in each, and its length
 
-pub record Lines : Type 0 where
+pub record SidedLines : Type 0 where
   pub positions : Side → List ℕ
-  pub sizes : Side → List ℕ
+  pub lengths : Side → List ℕ
 
 -- the combs with these positions, and the all-passes
-abbrev pub combLines : List ℕ → List ℕ → Lengths → Lines
-combLines l r n = record { positions = sided l r; sizes = sided (n .«comb_l») (n .«comb_r») }
+abbrev pub combLines : List ℕ → List ℕ → Lengths → SidedLines
+combLines l r n = record { positions = sided l r; lengths = sided (n .«comb_l») (n .«comb_r») }
 
-abbrev pub allpassLines : List ℕ → List ℕ → Lengths → Lines
-allpassLines l r n = record { positions = sided l r; sizes = sided (n .«allpass_l») (n .«allpass_r») }
+abbrev pub allpassLines : List ℕ → List ℕ → Lengths → SidedLines
+allpassLines l r n = record { positions = sided l r; lengths = sided (n .«allpass_l») (n .«allpass_r») }
 
 -- as many positions as lengths, each below its own
 unfoldable pub allBelow : List ℕ → List ℕ → Bool
@@ -52,10 +52,10 @@ allBelow (w ∷ ws) [] = false
 allBelow (w ∷ ws) (n ∷ ns) = ltb w n && allBelow ws ns
 
 -- `count` lines on each side, each position in its line, and no line longer than `most`
-pub record InLines (count most : ℕ) (l : Lines) : Type 0 where
-  pub counted : (side : Side) → length (l .sizes side) ≡ count
-  pub below : (side : Side) → allBelow (l .positions side) (l .sizes side) ≡ true
-  pub capped : (side : Side) → Capped most (l .sizes side)
+pub record InLines (count most : ℕ) (l : SidedLines) : Type 0 where
+  pub counted : (side : Side) → length (l .lengths side) ≡ count
+  pub inside : (side : Side) → allBelow (l .positions side) (l .lengths side) ≡ true
+  pub capped : (side : Side) → Capped most (l .lengths side)
 
 -- every position of a state is in its line, where the lines have the lengths n
 abbrev pub positionsFit : List ℕ → List ℕ → List ℕ → List ℕ → ℕ → Lengths → Bool
@@ -64,16 +64,16 @@ positionsFit combl combr passl passr predelay n =
     && ((allBelow combl (n .«comb_l») && allBelow passl (n .«allpass_l»)) && (allBelow combr (n .«comb_r») && allBelow passr (n .«allpass_r»)))
 
 -- the place of line i, of lines that start there
-abbrev pub placeOf : (Side → ℕ → ℕ) → Lines → Side → ℕ → ℕ
+abbrev pub placeOf : (Side → ℕ → ℕ) → SidedLines → Side → ℕ → ℕ
 placeOf start l side i = start side i + getD (l .positions side) i 0
 
 -- what the places of k lines hold
-unfoldable pub held : (Side → ℕ → ℕ) → ℕ → Lines → List Float → Side → List Float
+unfoldable pub held : (Side → ℕ → ℕ) → ℕ → SidedLines → List Float → Side → List Float
 held start k l m side = table (λ i. getD m (placeOf start l side i) nan) k
 
 -- where their positions go
-unfoldable pub moved : Lines → Side → ℕ → ℕ
-moved l side i = nextPlace (getD (l .sizes side) i 0) (getD (l .positions side) i 0)
+unfoldable pub nextPosition : SidedLines → Side → ℕ → ℕ
+nextPosition l side i = nextPlace (getD (l .lengths side) i 0) (getD (l .positions side) i 0)
 
 -- left and right, line by line, of the first n lines of a side
 unfoldable pub bySides : (ℕ → Side → Write) → ℕ → List Write
@@ -82,7 +82,7 @@ bySides f (suc n) = bySides f n ++ (f n left ∷ f n right ∷ [])
 
 -- ---- the combs. Each line is read before its own store, and the lines lie apart: what its place holds, h, is what it held before the step
 
-abbrev pub combsHeld : Lines → List Float → Side → List Float
+abbrev pub combsHeld : SidedLines → List Float → Side → List Float
 combsHeld l m = held combStart 8 l m
 
 -- +0, and then each answer in order, of the first n
@@ -95,19 +95,19 @@ unfoldable pub combStored : Float → (Side → List Float) → (Side → List F
 combStored d z h side i = combStore (getD (h side) i nan) (getD (z side) i nan) d
 
 -- what comb i writes, with the input x, the damping d and the feedback f
-unfoldable pub combWrite : Float → Float → Float → Lines → (Side → List Float) → (Side → List Float) → ℕ → Side → Write
+unfoldable pub combWrite : Float → Float → Float → SidedLines → (Side → List Float) → (Side → List Float) → ℕ → Side → Write
 combWrite x d f l z h i side = record { place = placeOf combStart l side i; value = combFed x (combStored d z h side i) f }
 
 -- a step of all combs l with the stores z, in the memory m: positions, stores and memory that it leaves, and the sums that it answers
-pub record CombsStep (x d f : Float) (l : Lines) (z : Side → List Float) (m : List Float) (w' : Side → List ℕ) (z' : Side → List Float) (m' : List Float) (r : Sides) : Type 0 where
-  pub positions : (side : Side) → w' side ≡ table (moved l side) 8
+pub record CombsStep (x d f : Float) (l : SidedLines) (z : Side → List Float) (m : List Float) (w' : Side → List ℕ) (z' : Side → List Float) (m' : List Float) (r : Sides) : Type 0 where
+  pub positions : (side : Side) → w' side ≡ table (nextPosition l side) 8
   pub stores : (side : Side) → z' side ≡ table (combStored d z (combsHeld l m) side) 8
   pub memory : m' ≡ laid (bySides (combWrite x d f l z (combsHeld l m)) 8) m
   pub sums : (side : Side) → sided (r .left) (r .right) side ≡ sumOf (combsHeld l m side) 8
 
 -- ---- the all-passes, with x into the first
 
-abbrev pub allpassesHeld : Lines → List Float → Side → List Float
+abbrev pub allpassesHeld : SidedLines → List Float → Side → List Float
 allpassesHeld l m = held allpassStart 4 l m
 
 -- what comes out of the first i of a side
@@ -115,13 +115,13 @@ unfoldable pub passedOn : Float → List Float → ℕ → Float
 passedOn x h zero = x
 passedOn x h (suc i) = passOutput (passedOn x h i) (getD h i nan)
 
-unfoldable pub allpassWrite : (Side → Float) → Lines → (Side → List Float) → ℕ → Side → Write
+unfoldable pub allpassWrite : (Side → Float) → SidedLines → (Side → List Float) → ℕ → Side → Write
 allpassWrite x l h i side =
     record { place = placeOf allpassStart l side i; value = passFed (passedOn (x side) (h side) i) (getD (h side) i nan) }
 
 -- a step of all of them
-pub record AllpassesStep (x : Side → Float) (l : Lines) (m : List Float) (w' : Side → List ℕ) (m' : List Float) (r : Sides) : Type 0 where
-  pub positions : (side : Side) → w' side ≡ table (moved l side) 4
+pub record AllpassesStep (x : Side → Float) (l : SidedLines) (m : List Float) (w' : Side → List ℕ) (m' : List Float) (r : Sides) : Type 0 where
+  pub positions : (side : Side) → w' side ≡ table (nextPosition l side) 4
   pub memory : m' ≡ laid (bySides (allpassWrite x l (allpassesHeld l m)) 4) m
   pub outputs : (side : Side) → sided (r .left) (r .right) side ≡ passedOn (x side) (allpassesHeld l m side) 4
 

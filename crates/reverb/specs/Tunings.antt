@@ -70,7 +70,7 @@ spread r = max (roundHalfAway (mul binary64 (floatOf 23) r)) 1
 
 -- a left length plus the spread, under the same cap
 unfoldable pub beside : ℕ → ℕ → ℕ → ℕ
-beside most wide size = min (size + wide) most
+beside most wide n = min (n + wide) most
 
 -- the lengths of the lines that have these tunings, at most `most`
 abbrev pub lineLengths : ℕ → List ℕ → Side → Float → List ℕ
@@ -105,7 +105,7 @@ lengthsFor rate = cond (rateFits rate) (lengthsAt rate) noLengths
 
 -- no length of these is more than `most`
 abbrev pub Capped : ℕ → List ℕ → Type 0
-Capped most sizes = (i : ℕ) → getD sizes i 0 ≤ most
+Capped most lengths = (i : ℕ) → getD lengths i 0 ≤ most
 
 -- every line has room in the tank
 pub record Roomy (n : Lengths) : Type 0 where

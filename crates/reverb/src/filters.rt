@@ -28,13 +28,13 @@ fn process_comb(
     pos: u64,
     filter_state: f64,
     input: f64,
-    size: u64,
+    n: u64,
     feedback: f64,
     damping: f64,
 ) -> Combed
-    requires { ⌜ pos < size ⌝ }
-    requires { ⌜ size ≤ ListN.length (now line) ⌝ }
-    ensures { λ r. ⌜ r ≡ combed (ListN.getD (now (line .entry)) pos nan) size pos «filter_state» damping ⌝ }
+    requires { ⌜ pos < n ⌝ }
+    requires { ⌜ n ≤ ListN.length (now line) ⌝ }
+    ensures { λ r. ⌜ r ≡ combed (ListN.getD (now (line .entry)) pos nan) n pos «filter_state» damping ⌝ }
     ensures { λ _. ⌜ now (line .exit) ≡ combLine (now (line .entry)) pos «filter_state» input damping feedback ⌝ }
 {
     let w = pos as usize;
@@ -44,7 +44,7 @@ fn process_comb(
     Combed {
         output,
         filter_state: store,
-        pos: common::next_place(size, pos),
+        pos: common::next_place(n, pos),
     }
 }
 
@@ -55,14 +55,14 @@ pub fn comb_at(
     pos: u64,
     filter_state: f64,
     input: f64,
-    size: u64,
+    n: u64,
     feedback: f64,
     damping: f64,
 ) -> Combed
-    requires { ⌜ pos < size ⌝ }
-    requires { ⌜ size ≤ combSize ⌝ }
+    requires { ⌜ pos < n ⌝ }
+    requires { ⌜ n ≤ combSize ⌝ }
     requires { ⌜ o + combSize ≤ ListN.length (now mem) ⌝ }
-    ensures { λ r. ⌜ r ≡ combed (ListN.getD (now (mem .entry)) (o + pos) nan) size pos «filter_state» damping ⌝ }
+    ensures { λ r. ⌜ r ≡ combed (ListN.getD (now (mem .entry)) (o + pos) nan) n pos «filter_state» damping ⌝ }
     ensures { λ _. ⌜ now (mem .exit) ≡ combLine (now (mem .entry)) (o + pos) «filter_state» input damping feedback ⌝ }
 {
     let e = o + Reverb::MAX_COMB_SIZE;
@@ -71,17 +71,17 @@ pub fn comb_at(
         pos,
         filter_state,
         input,
-        size,
+        n,
         feedback,
         damping,
     )
 }
 
 // One step of an all-pass on its part of the tank.
-fn process_allpass(line: &mut [f64], pos: u64, input: f64, size: u64) -> Passed
-    requires { ⌜ pos < size ⌝ }
-    requires { ⌜ size ≤ ListN.length (now line) ⌝ }
-    ensures { λ r. ⌜ r ≡ passed (ListN.getD (now (line .entry)) pos nan) size pos input ⌝ }
+fn process_allpass(line: &mut [f64], pos: u64, input: f64, n: u64) -> Passed
+    requires { ⌜ pos < n ⌝ }
+    requires { ⌜ n ≤ ListN.length (now line) ⌝ }
+    ensures { λ r. ⌜ r ≡ passed (ListN.getD (now (line .entry)) pos nan) n pos input ⌝ }
     ensures { λ _. ⌜ now (line .exit) ≡ passLine (now (line .entry)) pos input ⌝ }
 {
     let w = pos as usize;
@@ -89,20 +89,20 @@ fn process_allpass(line: &mut [f64], pos: u64, input: f64, size: u64) -> Passed
     line[w] = input + buffered * 0.5;
     Passed {
         output: -input + buffered,
-        pos: common::next_place(size, pos),
+        pos: common::next_place(n, pos),
     }
 }
 
 // The all-pass whose part of the tank starts at place o.
-pub fn allpass_at(mem: &mut [f64], o: usize, pos: u64, input: f64, size: u64) -> Passed
-    requires { ⌜ pos < size ⌝ }
-    requires { ⌜ size ≤ allpassSize ⌝ }
+pub fn allpass_at(mem: &mut [f64], o: usize, pos: u64, input: f64, n: u64) -> Passed
+    requires { ⌜ pos < n ⌝ }
+    requires { ⌜ n ≤ allpassSize ⌝ }
     requires { ⌜ o + allpassSize ≤ ListN.length (now mem) ⌝ }
-    ensures { λ r. ⌜ r ≡ passed (ListN.getD (now (mem .entry)) (o + pos) nan) size pos input ⌝ }
+    ensures { λ r. ⌜ r ≡ passed (ListN.getD (now (mem .entry)) (o + pos) nan) n pos input ⌝ }
     ensures { λ _. ⌜ now (mem .exit) ≡ passLine (now (mem .entry)) (o + pos) input ⌝ }
 {
     let e = o + Reverb::MAX_ALLPASS_SIZE;
-    process_allpass(&mut mem[o..e], pos, input, size)
+    process_allpass(&mut mem[o..e], pos, input, n)
 }
 
 // The predelay's delay in samples.

@@ -2,13 +2,13 @@
 ghost use mathlib.Core.Path.{_≡_};
 ghost use mathlib.Core.Bool.{cond};
 ghost use Rattle.float64.specs.Number.{rateFits};
-ghost use Rattle.port.specs.Answer.{numberOf, outcomeReply, answerReply, silenceReply};
-ghost use Rattle.effect.specs.Run.{tick, retune, reset, ask, ifNone, startNumber, numberIn};
+ghost use Rattle.port.specs.Answer.{numberOf, outcomeReply, silenceReply};
+ghost use Rattle.effect.specs.Run.{retune, reset, ask, ifNone, startNumber, numberIn};
 ghost use Rattle.effect.specs.Contract.{Does, Starts};
 ghost use Rattle.effect.specs.Needed.{placesNeeded};
 ghost use Rattle.reverb.specs.Tunings.{lengthsFor};
 ghost use Rattle.reverb.specs.Tank.{tankSize};
-ghost use Rattle.reverb.specs.Reverb.{reverb, tickOf, stateOf, fresh, stateFits};
+ghost use Rattle.reverb.specs.Reverb.{reverb, fresh, stateFits};
 
 mod filters;
 mod tank;
@@ -18,8 +18,6 @@ mod tunings;
 use crate::tunings::Lengths;
 use port::Answer;
 use port::Outcome;
-use port::Port;
-use port::Refusal;
 use port::Silence;
 
 // Positions and damping stores, a side at a time, and the rate.
@@ -214,123 +212,6 @@ impl Reverb {
             Silence::Silent
         } else {
             Silence::Sounding
-        }
-    }
-
-    // One sample, on a state that is lent in its parts: it is moved where it lies, and left as it was by a tick that is refused. A state by value would be
-    // copied whole, in and out, at each tick.
-    pub fn tick_in_place(
-        comb_pos_l: &mut [u64; 8],
-        comb_pos_r: &mut [u64; 8],
-        comb_filter_state_l: &mut [f64; 8],
-        comb_filter_state_r: &mut [f64; 8],
-        allpass_pos_l: &mut [u64; 4],
-        allpass_pos_r: &mut [u64; 4],
-        predelay_pos: &mut u64,
-        rate: f64,
-        mem: &mut [f64],
-        audio: Port,
-        size: Port,
-        damping: Port,
-        mix: Port,
-        predelay: Port,
-    ) -> Answer
-        ensures { λ r. ⌜ Does reverb (tick (tickOf audio size damping mix predelay))
-            (stateOf (now («comb_pos_l» .entry)) (now («comb_pos_r» .entry)) (now («comb_filter_state_l» .entry)) (now («comb_filter_state_r» .entry))
-            (now («allpass_pos_l» .entry)) (now («allpass_pos_r» .entry)) (now («predelay_pos» .entry)) rate) (now (mem .entry))
-            (stateOf (now («comb_pos_l» .exit)) (now («comb_pos_r» .exit)) (now («comb_filter_state_l» .exit)) (now («comb_filter_state_r» .exit))
-            (now («allpass_pos_l» .exit)) (now («allpass_pos_r» .exit)) (now («predelay_pos» .exit)) rate) (now (mem .exit))
-            (answerReply r) ⌝ }
-    {
-        let n = tunings::lengths_at(rate);
-        let fits = tank::positions_fit(
-            comb_pos_l,
-            comb_pos_r,
-            allpass_pos_l,
-            allpass_pos_r,
-            *predelay_pos,
-            n,
-        );
-        if !fits {
-            return Answer::Refused(Refusal::State);
-        }
-        let memory = effect::check_memory(Reverb::PLACES, mem.len());
-        if let Outcome::Refused(cause) = memory {
-            return Answer::Refused(cause);
-        }
-        let c = tick::controls_of(audio, size, damping, mix, predelay);
-        let causes = common::tick_causes(
-            float64::is_nan(c.size)
-                | (float64::is_nan(c.damping)
-                    | (float64::is_nan(c.mix) | float64::is_nan(c.predelay))),
-            true,
-        );
-        if let Outcome::Refused(cause) = causes {
-            return Answer::Refused(cause);
-        }
-        tick::advance(
-            comb_pos_l,
-            comb_pos_r,
-            comb_filter_state_l,
-            comb_filter_state_r,
-            allpass_pos_l,
-            allpass_pos_r,
-            predelay_pos,
-            rate,
-            n,
-            mem,
-            c,
-        )
-    }
-
-    // One sample.
-    pub fn tick(
-        self,
-        mem: &mut [f64],
-        audio: Port,
-        size: Port,
-        damping: Port,
-        mix: Port,
-        predelay: Port,
-    ) -> Ticked
-        ensures { λ r. ⌜ Does reverb (tick (tickOf audio size damping mix predelay)) self (now (mem .entry))
-            (r .state) (now (mem .exit)) (answerReply (r .answer)) ⌝ }
-    {
-        let mut comb_pos_l = self.comb_pos_l;
-        let mut comb_pos_r = self.comb_pos_r;
-        let mut comb_filter_state_l = self.comb_filter_state_l;
-        let mut comb_filter_state_r = self.comb_filter_state_r;
-        let mut allpass_pos_l = self.allpass_pos_l;
-        let mut allpass_pos_r = self.allpass_pos_r;
-        let mut predelay_pos = self.predelay_pos;
-        let answer = Reverb::tick_in_place(
-            &mut comb_pos_l,
-            &mut comb_pos_r,
-            &mut comb_filter_state_l,
-            &mut comb_filter_state_r,
-            &mut allpass_pos_l,
-            &mut allpass_pos_r,
-            &mut predelay_pos,
-            self.sample_rate,
-            mem,
-            audio,
-            size,
-            damping,
-            mix,
-            predelay,
-        );
-        Ticked {
-            state: Reverb {
-                comb_pos_l,
-                comb_pos_r,
-                comb_filter_state_l,
-                comb_filter_state_r,
-                allpass_pos_l,
-                allpass_pos_r,
-                predelay_pos,
-                sample_rate: self.sample_rate,
-            },
-            answer,
         }
     }
 }

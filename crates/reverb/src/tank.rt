@@ -16,14 +16,14 @@ pub struct Sides {
 }
 
 // Whether each position is below its line's length. No branch at each: a tick asks this of 24 lines.
-fn all_below(positions: &[u64], sizes: &[u16]) -> bool
-    requires { ⌜ ListN.length (now positions) ≡ ListN.length (now sizes) ⌝ }
-    ensures { λ r. ⌜ r ≡ allBelow (now (positions .entry)) (now (sizes .entry)) ⌝ }
+fn all_below(positions: &[u64], lengths: &[u16]) -> bool
+    requires { ⌜ ListN.length (now positions) ≡ ListN.length (now lengths) ⌝ }
+    ensures { λ r. ⌜ r ≡ allBelow (now (positions .entry)) (now (lengths .entry)) ⌝ }
 {
     let mut below = true;
     let mut i: usize = 0;
     while i < positions.len() {
-        below = below & (positions[i] < sizes[i] as u64);
+        below = below & (positions[i] < lengths[i] as u64);
         i += 1;
     }
     below
@@ -78,15 +78,15 @@ pub fn combs(
     while i < 8 {
         let o = i * Reverb::MAX_COMB_SIZE;
         let w = pos_l[i];
-        let size = n.comb_l[i] as u64;
-        let l = comb_at(mem, o, w, filter_state_l[i], input, size, feedback, damping);
+        let len = n.comb_l[i] as u64;
+        let l = comb_at(mem, o, w, filter_state_l[i], input, len, feedback, damping);
         pos_l[i] = l.pos;
         filter_state_l[i] = l.filter_state;
         sum_l = sum_l + l.output;
         let o = Reverb::COMBS_R + i * Reverb::MAX_COMB_SIZE;
         let w = pos_r[i];
-        let size = n.comb_r[i] as u64;
-        let r = comb_at(mem, o, w, filter_state_r[i], input, size, feedback, damping);
+        let len = n.comb_r[i] as u64;
+        let r = comb_at(mem, o, w, filter_state_r[i], input, len, feedback, damping);
         pos_r[i] = r.pos;
         filter_state_r[i] = r.filter_state;
         sum_r = sum_r + r.output;
@@ -135,15 +135,15 @@ pub fn allpasses(
 }
 
 // Whether the lines that lie `apart` places from each other, the first from place o on, are zeros up to their lengths.
-fn lines_zero(mem: &[f64], o: usize, apart: usize, sizes: &[u16]) -> bool
-    requires { ⌜ o + ListN.length (now sizes) * apart ≤ ListN.length (now mem) ⌝ }
-    requires { ⌜ Capped apart (now sizes) ⌝ }
-    ensures { λ r. ⌜ r ≡ linesZero o apart (now (sizes .entry)) (now (mem .entry)) ⌝ }
+fn lines_zero(mem: &[f64], o: usize, apart: usize, lengths: &[u16]) -> bool
+    requires { ⌜ o + ListN.length (now lengths) * apart ≤ ListN.length (now mem) ⌝ }
+    requires { ⌜ Capped apart (now lengths) ⌝ }
+    ensures { λ r. ⌜ r ≡ linesZero o apart (now (lengths .entry)) (now (mem .entry)) ⌝ }
 {
     let mut at = o;
     let mut i: usize = 0;
-    while i < sizes.len() {
-        let end = at + sizes[i] as usize;
+    while i < lengths.len() {
+        let end = at + lengths[i] as usize;
         if !common::all_zero(&mem[at..end]) {
             return false;
         }

@@ -8,6 +8,9 @@ ghost use Rattle.float64.specs.Number.{floatOf, fraction, inRange};
 ghost use Rattle.reverb.specs.Tunings.{combMost, leastTuning, mostTuning, scaled, spread, beside, lengthsFor, tuned};
 use crate::Reverb;
 
+// An all-pass that is held to the longest, in the rows of `lengths_at`.
+const CAPPED: u16 = Reverb::MAX_ALLPASS_LENGTH;
+
 // Sixteen bits hold every length, and make the 24 of them three moves.
 pub struct Lengths {
     pub comb_l: [u16; 8],
@@ -23,7 +26,7 @@ fn scaled(base: u32, ratio: f64, most: u32) -> u32
     requires { ⌜ inRange ratio (fraction 1 8) (floatOf 5) ≡ true ⌝ }
     ensures { λ r. ⌜ r ≡ scaled most ratio base ⌝ }
 {
-    let n = float64::whole_part_small((base as f64) * ratio) as u32;
+    let n = float64::whole_part_small(float64::from_u32(base) * ratio) as u32;
     if n < most { n } else { most }
 }
 
@@ -43,12 +46,12 @@ fn stereo_spread(ratio: f64) -> u32
 }
 
 // A left length plus the spread, at most `most`.
-fn beside(size: u32, wide: u32, most: u32) -> u32
-    requires { ⌜ size ≤ combMost ⌝ }
+fn beside(n: u32, wide: u32, most: u32) -> u32
+    requires { ⌜ n ≤ combMost ⌝ }
     requires { ⌜ wide ≤ combMost ⌝ }
-    ensures { λ r. ⌜ r ≡ beside most wide size ⌝ }
+    ensures { λ r. ⌜ r ≡ beside most wide n ⌝ }
 {
-    let sum = size + wide;
+    let sum = n + wide;
     if sum < most { sum } else { most }
 }
 
@@ -65,9 +68,9 @@ fn scale(tunings: &[u32], ratio: f64, wide: u32, most: u16, left: &mut [u16], ri
 {
     let mut i: usize = 0;
     while i < tunings.len() {
-        let size = scaled(tunings[i], ratio, most as u32);
-        left[i] = size as u16;
-        right[i] = beside(size, wide, most as u32) as u16;
+        let n = scaled(tunings[i], ratio, most as u32);
+        left[i] = n as u16;
+        right[i] = beside(n, wide, most as u32) as u16;
         i += 1;
     }
 }
@@ -156,16 +159,16 @@ pub fn lengths_at(rate: f64) -> Lengths
         return Lengths {
             comb_l: [Reverb::MAX_COMB_LENGTH; 8],
             comb_r: [Reverb::MAX_COMB_LENGTH; 8],
-            allpass_l: [1499, 1499, 1484, 979],
-            allpass_r: [1499, 1499, 1499, 1079],
+            allpass_l: [CAPPED, CAPPED, 1484, 979],
+            allpass_r: [CAPPED, CAPPED, CAPPED, 1079],
         };
     }
     if rate == 176400.0 {
         return Lengths {
             comb_l: [Reverb::MAX_COMB_LENGTH; 8],
             comb_r: [Reverb::MAX_COMB_LENGTH; 8],
-            allpass_l: [1499, 1499, 1364, 900],
-            allpass_r: [1499, 1499, 1456, 992],
+            allpass_l: [CAPPED, CAPPED, 1364, 900],
+            allpass_r: [CAPPED, CAPPED, 1456, 992],
         };
     }
     scaled_lengths(rate)

@@ -19,7 +19,7 @@ returns c =
     let m = a .mem .now in
     let k = a .o + allpassSize - a .o in
     let held = part-getD (a .o) k m (a .pos) nan (omega (arith, s .pre)) in (
-      p .process-allpass .ensures .0 ∙ ap (λ (x : Float). passed x (a .size) (a .pos) (a .input)) held,
+      p .process-allpass .ensures .0 ∙ ap (λ (x : Float). passed x (a .n) (a .pos) (a .input)) held,
       rw (p .process-allpass .ensures .1, held) (part-set (a .o) k m (a .pos) _ (omega (arith, s .pre)) (omega (arith, s .pre))),
     )
 

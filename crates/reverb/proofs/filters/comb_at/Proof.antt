@@ -19,7 +19,7 @@ returns c =
     let m = a .mem .now in
     let k = a .o + combSize - a .o in
     let held = part-getD (a .o) k m (a .pos) nan (omega (arith, s .pre)) in (
-      p .process-comb .ensures .0 ∙ ap (λ (x : Float). combed x (a .size) (a .pos) (a .filter-state) (a .damping)) held,
+      p .process-comb .ensures .0 ∙ ap (λ (x : Float). combed x (a .n) (a .pos) (a .filter-state) (a .damping)) held,
       rw (p .process-comb .ensures .1, held) (part-set (a .o) k m (a .pos) _ (omega (arith, s .pre)) (omega (arith, s .pre))),
     )
 

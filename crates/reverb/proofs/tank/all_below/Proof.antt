@@ -12,11 +12,11 @@ use Rattle.reverb.proofs.tank.all_below.Statement.{statement}
 use Rattle.reverb.proofs.tank.all_below.Tie as tie
 
 abbrev Inv-loop : tie.InvT-loop
-Inv-loop positions sizes below₀ i₀ below i =
-    (i ≤ length positions) × (allBelow positions sizes ≡ below && allBelow (drop i positions) (drop i sizes))
+Inv-loop positions lengths below₀ i₀ below i =
+    (i ≤ length positions) × (allBelow positions lengths ≡ below && allBelow (drop i positions) (drop i lengths))
 
 abbrev μ-loop : tie.MeasureT-loop
-μ-loop positions sizes below₀ i₀ below i = length positions - i
+μ-loop positions lengths below₀ i₀ below i = length positions - i
 
 loop-holds : tie.Need-loop-holds Inv-loop μ-loop
 loop-holds c = (omega arith, refl)
@@ -32,7 +32,7 @@ loop-again c =
     let l = c .before .before .before .loop in
     let s = c .before .before .before .before in
     let ws = s .args .positions .now in
-    let ns = s .args .sizes .now in
+    let ns = s .args .lengths .now in
     let i = l .i in (
       omega arith,
       l .inv .1
@@ -46,7 +46,7 @@ returns c =
     let l = c .before .loop in
     let a = c .before .before .args in
     let s = c .before .before in
-    sym (l .inv .1 ∙ rw (drop-of-length-le (a .positions .now) {i = l .i} (omega arith), drop-of-length-le (a .sizes .now) {i = l .i} (omega (arith, s .pre))) (and-true (l .below)))
+    sym (l .inv .1 ∙ rw (drop-of-length-le (a .positions .now) {i = l .i} (omega arith), drop-of-length-le (a .lengths .now) {i = l .i} (omega (arith, s .pre))) (and-true (l .below)))
 
 pub all-below-spec : {M : Type 1} → statement M
 all-below-spec = tie.close (tie.spec Inv-loop μ-loop loop-holds (search needs) (search needs) (search needs) shared-slice-read-below-2 cast-below (search needs) (search needs) loop-again returns)

@@ -10,7 +10,7 @@ use Rattle.common.proofs.Tables.{tabled, tabled-none, tabled-more, tabled-next,
 use Rattle.effect.specs.Effect.{laid}
 use Rattle.reverb.specs.declared.filters.Passed.{Passed}
 use Rattle.reverb.specs.Tunings.{Side, left, right, sided, allpassMost}
-use Rattle.reverb.specs.Tank.{Lines, InLines, tankSize, allpassLines, moved, bySides, allpassesHeld, passedOn, allpassWrite}
+use Rattle.reverb.specs.Tank.{SidedLines, InLines, tankSize, allpassLines, nextPosition, bySides, allpassesHeld, passedOn, allpassWrite}
 use Rattle.reverb.proofs.Apart.{lines-long, allpass-asks, allpass-apart, allpass-across, by-sides, first-held, then-held, turned, pass-gives, pass-writes}
 use borrow.Author.Needs.{needs}
 use Rattle.reverb.proofs.tank.allpasses.Statement.{statement}
@@ -22,8 +22,8 @@ Inv-loop pos-l₀ pos-r₀ mem₀ input-l input-r n output-l₀ output-r₀ i₀
     let held = allpassesHeld lines mem₀ in
     (i ≤ 4) × (length mem ≡ length mem₀)
     × (mem ≡ laid (bySides (allpassWrite (sided input-l input-r) lines held) i) mem₀)
-    × (pos-l ≡ tabled (moved lines left) i pos-l₀)
-    × (pos-r ≡ tabled (moved lines right) i pos-r₀)
+    × (pos-l ≡ tabled (nextPosition lines left) i pos-l₀)
+    × (pos-r ≡ tabled (nextPosition lines right) i pos-r₀)
     × (output-l ≡ passedOn input-l (held left) i)
     × (output-r ≡ passedOn input-r (held right) i)
 
@@ -36,7 +36,7 @@ loop-holds c = (omega arith, refl, refl, tabled-none _ _, tabled-none _ _, refl,
 
 -- what is lent, as lines
 module _ (s : tie.Start Inv-loop μ-loop) where
-  abbrev lines : Lines
+  abbrev lines : SidedLines
   lines = let a = s .args in allpassLines (a .pos-l .now) (a .pos-r .now) (a .t3)
 
   fits : InLines 4 allpassMost lines
@@ -118,9 +118,9 @@ returns c =
     let e : l .i ≡ 4 = omega arith in
     record {
       positions =
-          by-sides (λ side. table (moved u side) 4)
-          (rw e at (l .inv .3) ∙ tabled-all (moved u left) 4 (a .pos-l .now) (lines-long (fits s) left))
-          (rw e at (l .inv .4) ∙ tabled-all (moved u right) 4 (a .pos-r .now) (lines-long (fits s) right));
+          by-sides (λ side. table (nextPosition u side) 4)
+          (rw e at (l .inv .3) ∙ tabled-all (nextPosition u left) 4 (a .pos-l .now) (lines-long (fits s) left))
+          (rw e at (l .inv .4) ∙ tabled-all (nextPosition u right) 4 (a .pos-r .now) (lines-long (fits s) right));
       memory = rw e at (l .inv .2);
       outputs = by-sides (λ side. passedOn (x side) (h side) 4) (rw e at (l .inv .5)) (rw e at (l .inv .6));
     }

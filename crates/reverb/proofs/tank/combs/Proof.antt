@@ -11,7 +11,7 @@ use Rattle.common.proofs.Tables.{tabled, tabled-none, tabled-more, tabled-next,
 use Rattle.effect.specs.Effect.{laid}
 use Rattle.reverb.specs.declared.filters.Combed.{Combed}
 use Rattle.reverb.specs.Tunings.{Side, left, right, sided, combMost}
-use Rattle.reverb.specs.Tank.{Lines, InLines, tankSize, combLines, moved, bySides, combsHeld, sumOf, combStored, combWrite}
+use Rattle.reverb.specs.Tank.{SidedLines, InLines, tankSize, combLines, nextPosition, bySides, combsHeld, sumOf, combStored, combWrite}
 use Rattle.reverb.proofs.Apart.{lines-long, comb-asks, comb-apart, comb-across, by-sides, first-held, then-held, turned, comb-gives, comb-writes, sum-more}
 use borrow.Author.Needs.{needs}
 use Rattle.reverb.proofs.tank.combs.Statement.{statement}
@@ -24,8 +24,8 @@ Inv-loop pos-l₀ pos-r₀ filter-state-l₀ filter-state-r₀ mem₀ input feed
     let held = combsHeld lines mem₀ in
     (i ≤ 8) × (length mem ≡ length mem₀)
     × (mem ≡ laid (bySides (combWrite input damping feedback lines stores held) i) mem₀)
-    × (pos-l ≡ tabled (moved lines left) i pos-l₀)
-    × (pos-r ≡ tabled (moved lines right) i pos-r₀)
+    × (pos-l ≡ tabled (nextPosition lines left) i pos-l₀)
+    × (pos-r ≡ tabled (nextPosition lines right) i pos-r₀)
     × (filter-state-l ≡ tabled (combStored damping stores held left) i filter-state-l₀)
     × (filter-state-r ≡ tabled (combStored damping stores held right) i filter-state-r₀)
     × (sum-l ≡ sumOf (held left) i)
@@ -41,7 +41,7 @@ loop-holds c = let s = c .before .before .before in (omega arith, refl, refl, ta
 
 -- what is lent, as lines and stores
 module _ (s : tie.Start Inv-loop μ-loop) where
-  abbrev lines : Lines
+  abbrev lines : SidedLines
   lines = let a = s .args in combLines (a .pos-l .now) (a .pos-r .now) (a .t5)
 
   abbrev stores : Side → List Float
@@ -80,8 +80,8 @@ comb-at-requires c κs =
 slice-write-filter-state-l : tie.Need-slice-write-filter-state-l Inv-loop μ-loop
 slice-write-filter-state-l c = let t = c .before .before .before .before .before .before .before in omega (arith, t .loop-test .taken, t .before .loop .inv .9)
 
-cast-size-2 : tie.Need-cast-size-2 Inv-loop μ-loop
-cast-size-2 c =
+cast-len-2 : tie.Need-cast-len-2 Inv-loop μ-loop
+cast-len-2 c =
     let t = c .before .before .before .before .before .before .before .before .before .before in
     omega (arith, comb-asks (fits (start t)) right (t .before .loop .i) tankSize (at-r t) (t .loop-test .taken) (omega arith) .1 .0)
 
@@ -154,9 +154,9 @@ returns c =
     let e : l .i ≡ 8 = omega arith in
     record {
       positions =
-          by-sides (λ side. table (moved u side) 8)
-          (rw e at (l .inv .3) ∙ tabled-all (moved u left) 8 (a .pos-l .now) (lines-long (fits s) left))
-          (rw e at (l .inv .4) ∙ tabled-all (moved u right) 8 (a .pos-r .now) (lines-long (fits s) right));
+          by-sides (λ side. table (nextPosition u side) 8)
+          (rw e at (l .inv .3) ∙ tabled-all (nextPosition u left) 8 (a .pos-l .now) (lines-long (fits s) left))
+          (rw e at (l .inv .4) ∙ tabled-all (nextPosition u right) 8 (a .pos-r .now) (lines-long (fits s) right));
       stores =
           by-sides (λ side. table (combStored d (stores s) h side) 8)
           (rw e at (l .inv .5) ∙ tabled-all (combStored d (stores s) h left) 8 (stores s left) (s .pre .1 .0))
@@ -166,4 +166,4 @@ returns c =
     }
 
 pub combs-spec : {M : Type 1} → statement M
-combs-spec = tie.close (tie.spec Inv-loop μ-loop loop-holds (λ c. search needs) (λ c. search needs) (λ c. search needs) (λ c. search needs) (λ c. search needs) (λ c. search needs) (λ c. search needs) slice-read-comb-at comb-at-requires (λ c. search needs) (λ c. search needs) (λ c. search needs) slice-write-filter-state-l (λ c. search needs) (λ c. search needs) (λ c. search needs) (λ c. search needs) (λ c. search needs) (λ c. search needs) cast-size-2 (λ c. search needs) slice-read-comb-at-2 comb-at-requires-2 (λ c. search needs) (λ c. search needs) (λ c. search needs) slice-write-filter-state-r (λ c. search needs) (λ c. search needs) loop-again same-length same-length-2 same-length-3 returns)
+combs-spec = tie.close (tie.spec Inv-loop μ-loop loop-holds (λ c. search needs) (λ c. search needs) (λ c. search needs) (λ c. search needs) (λ c. search needs) (λ c. search needs) (λ c. search needs) slice-read-comb-at comb-at-requires (λ c. search needs) (λ c. search needs) (λ c. search needs) slice-write-filter-state-l (λ c. search needs) (λ c. search needs) (λ c. search needs) (λ c. search needs) (λ c. search needs) (λ c. search needs) cast-len-2 (λ c. search needs) slice-read-comb-at-2 comb-at-requires-2 (λ c. search needs) (λ c. search needs) (λ c. search needs) slice-write-filter-state-r (λ c. search needs) (λ c. search needs) loop-again same-length same-length-2 same-length-3 returns)

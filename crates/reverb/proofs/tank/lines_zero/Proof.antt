@@ -13,17 +13,17 @@ use Rattle.reverb.proofs.tank.lines_zero.Statement.{statement}
 use Rattle.reverb.proofs.tank.lines_zero.Tie as tie
 
 abbrev Inv-loop : tie.InvT-loop
-Inv-loop mem o apart sizes at₀ i₀ at i =
-    (i ≤ length sizes) × (at + (length sizes - i) * apart ≤ length mem) × (linesZero o apart sizes mem ≡ linesZero at apart (drop i sizes) mem)
+Inv-loop mem o apart lengths at₀ i₀ at i =
+    (i ≤ length lengths) × (at + (length lengths - i) * apart ≤ length mem) × (linesZero o apart lengths mem ≡ linesZero at apart (drop i lengths) mem)
 
 abbrev μ-loop : tie.MeasureT-loop
-μ-loop mem o apart sizes at₀ i₀ at i = length sizes - i
+μ-loop mem o apart lengths at₀ i₀ at i = length lengths - i
 
 loop-holds : tie.Need-loop-holds Inv-loop μ-loop
 loop-holds c =
     let s = c .before .before in
     let a = s .args in
-    (omega arith, room-all (length (a .sizes .now)) (a .o) (a .apart) (length (a .mem .now)) (s .pre .0), refl)
+    (omega arith, room-all (length (a .lengths .now)) (a .o) (a .apart) (length (a .mem .now)) (s .pre .0), refl)
 
 -- the line of this turn
 module _ (c : tie.In-loop Inv-loop μ-loop) where
@@ -31,13 +31,13 @@ module _ (c : tie.In-loop Inv-loop μ-loop) where
   start = c .before .before .before .before
 
   abbrev n : ℕ
-  n = getD (start .args .sizes .now) (c .before .loop .i) 0
+  n = getD (start .args .lengths .now) (c .before .loop .i) 0
 
-  next-room : c .before .loop .at + start .args .apart + (length (start .args .sizes .now) - (c .before .loop .i + 1)) * start .args .apart ≤ length (start .args .mem .now)
+  next-room : c .before .loop .at + start .args .apart + (length (start .args .lengths .now) - (c .before .loop .i + 1)) * start .args .apart ≤ length (start .args .mem .now)
   next-room =
       let a = start .args in
       let l = c .before .loop in
-      room-more (length (a .sizes .now)) (l .i) (l .at) (a .apart) (length (a .mem .now)) (omega arith) (l .inv .1)
+      room-more (length (a .lengths .now)) (l .i) (l .at) (a .apart) (length (a .mem .now)) (omega arith) (l .inv .1)
 
   next-end : c .before .loop .at + start .args .apart ≤ length (start .args .mem .now)
   next-end = omega (arith, next-room)
@@ -45,13 +45,13 @@ module _ (c : tie.In-loop Inv-loop μ-loop) where
   line-end : c .before .loop .at + n ≤ length (start .args .mem .now)
   line-end = omega (arith, next-end, start .pre .1 (c .before .loop .i))
 
-  lines-are : linesZero (start .args .o) (start .args .apart) (start .args .sizes .now) (start .args .mem .now)
+  lines-are : linesZero (start .args .o) (start .args .apart) (start .args .lengths .now) (start .args .mem .now)
       ≡ allZero (take n (drop (c .before .loop .at) (start .args .mem .now)))
-      && linesZero (c .before .loop .at + start .args .apart) (start .args .apart) (drop (c .before .loop .i + 1) (start .args .sizes .now)) (start .args .mem .now)
+      && linesZero (c .before .loop .at + start .args .apart) (start .args .apart) (drop (c .before .loop .i + 1) (start .args .lengths .now)) (start .args .mem .now)
   lines-are =
       let a = start .args in
       let l = c .before .loop in
-      l .inv .2 ∙ zero-more (l .at) (a .apart) (a .sizes .now) (a .mem .now) (l .i) (omega arith)
+      l .inv .2 ∙ zero-more (l .at) (a .apart) (a .lengths .now) (a .mem .now) (l .i) (omega arith)
 
   -- the test of the part that is the line
   tested : {b : Bool} → b ≡ allZero (take (c .before .loop .at + n - c .before .loop .at) (drop (c .before .loop .at) (start .args .mem .now)))
@@ -91,7 +91,7 @@ unfolding linesZero
 returns-2 c =
     let l = c .before .loop in
     let a = c .before .before .before .before .args in
-    sym (l .inv .2 ∙ rw (drop-of-length-le (a .sizes .now) {i = l .i} (c .loop-test .left)))
+    sym (l .inv .2 ∙ rw (drop-of-length-le (a .lengths .now) {i = l .i} (c .loop-test .left)))
 
 pub lines-zero-spec : {M : Type 1} → statement M
 lines-zero-spec = tie.close (tie.spec Inv-loop μ-loop loop-holds (search needs) (search needs) cast-end add-end (search needs) (search needs) (search needs) part-all-zero-end (search needs) returns add-at add-i (search needs) loop-again returns-2)
