@@ -8,7 +8,8 @@ use lib.Ieee.{Float, isNan, round}
 use lib.Ieee as Ieee
 use Rattle.float64.specs.Number.{half, isNumber, sineFits}
 use Rattle.float64.proofs.Parts.{parts-of}
-use Rattle.common.specs.Line.{newestFirst, readLine}
+use Rattle.common.specs.Line.{newestFirst}
+use Rattle.common.proofs.Ring.{readLine}
 use Rattle.common.proofs.Sweep.{control-in}
 use Rattle.effect.specs.Run.{Run}
 use Rattle.effect.specs.Demand3.{Demand3}

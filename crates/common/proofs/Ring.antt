@@ -13,8 +13,12 @@ use lib.Seq.{ext-getD, getD-set-same, getD-set-other, getD-take, getD-drop}
 use lib.Ieee.{Float, nan}
 use Rattle.float64.specs.Number.{plusZero, wholePart, fractionPart}
 use Rattle.common.specs.Signal.{blended}
-use Rattle.common.specs.Line.{zeros, place, nextPlace, lineAt, readAt, newestFirst, readLine}
+use Rattle.common.specs.Line.{zeros, place, nextPlace, lineAt, readAt, newestFirst}
 use Rattle.common.proofs.Tables.{length-table, getD-table, table-ext}
+
+-- a read at a distance, of a line read newest to oldest
+unfoldable pub readLine : List Float → Float → Float
+readLine l distance = readAt (λ d. getD l (d - 1) nan) distance
 
 -- ---- places
 

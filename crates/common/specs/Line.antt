@@ -53,7 +53,3 @@ isZero x = eq x plusZero
 unfoldable pub allZero : List Float → Bool
 allZero [] = true
 allZero (x ∷ xs) = isZero x && allZero xs
-
--- a read at a distance, of a line read newest to oldest
-unfoldable pub readLine : List Float → Float → Float
-readLine l distance = readAt (λ d. getD l (d - 1) nan) distance

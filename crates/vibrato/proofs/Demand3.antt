@@ -9,7 +9,8 @@ use lib.Ieee.{Float, binary64, div, isNan, round}
 use lib.Ieee as Ieee
 use Rattle.float64.specs.Number.{half, isNumber}
 use Rattle.common.specs.Signal.{blended, advanced}
-use Rattle.common.specs.Line.{newestFirst, readLine}
+use Rattle.common.specs.Line.{newestFirst}
+use Rattle.common.proofs.Ring.{readLine}
 use Rattle.common.proofs.Sweep.{control-in}
 use Rattle.float64.proofs.Parts.{parts-of}
 use Rattle.effect.specs.Run.{Run}
@@ -18,25 +19,25 @@ use Rattle.effect.proofs.LineLaws.{LineLaws}
 use Rattle.effect.proofs.Lines.{read-of}
 use Rattle.effect.proofs.Demand3.{demand-3}
 use Rattle.vibrato.specs.declared.Vibrato.{Vibrato}
-use Rattle.vibrato.specs.Vibrato.{Tick, vibrato, lines, stateFits, lineLength, tickNumber, input, depth, mix, distance, delayed, next, writes, sample}
+use Rattle.vibrato.specs.Vibrato.{Tick, vibrato, lines, stateFits, lineLength, tickNumber, input, depth, mix, distance, delayed, next, writes, samples}
 use Rattle.vibrato.proofs.Laws.{fits-parts, length-fits, tick-fits, distance-in}
 use Rattle.vibrato.proofs.Demand1.{laws}
 
 -- what a tick at the rate answers where the line, read newest to oldest, is l
-abbrev heard : Tick → Float → List Float → Float
-heard t rate l = blended (input t) (readLine l (distance rate (depth t) (t .sine))) (mix t)
+abbrev heard : Tick → Float → List Float → List Float
+heard t rate l = blended (input t) (readLine l (distance rate (depth t) (t .sine))) (mix t) ∷ []
 
 plays : (t : Tick) (s : Vibrato) (m l : List Float) → stateFits s ≡ true → tickNumber t ≡ 0
     → newestFirst (0 * lineLength (s .«sample_rate»)) (lineLength (s .«sample_rate»)) (s .«write_pos») m ≡ l
-    → sample t s m ≡ heard t (s .«sample_rate») l
-unfolding sample delayed isNumber Ieee.fits isNan round
+    → samples t s m ≡ heard t (s .«sample_rate») l
+unfolding samples delayed isNumber Ieee.fits isNan round
 plays t s m l f n e =
     let rate = s .«sample_rate» in
     let h = fits-parts s f .rate in
     let k = tick-fits t n in
     let some = length-fits rate h in
     let d = parts-of (lineLength rate - 1) (omega arith) (distance-in rate (depth t) (t .sine) h (control-in (t .depth) half (k .depth) refl) (k .sine)) in
-    ap (λ (x : Float). blended (input t) x (mix t))
+    ap (λ (x : Float). blended (input t) x (mix t) ∷ [])
     (read-of 0 0 (lineLength rate) (s .«write_pos») m l (distance rate (depth t) (t .sine)) (zero-mul (lineLength rate)) e (d .at-least) (omega (arith, d .at-most)))
 
 pub line-laws : LineLaws vibrato lines
@@ -50,8 +51,8 @@ line-laws =
       next-position = λ t s m. refl;
       advanced = λ t rate phase. advanced phase (div binary64 (t .frequency) rate);
       next-phase = λ t s m. refl;
-      played = λ t rate phase l. heard t rate l ∷ [];
-      plays = λ t s m l f r n e. ap (λ (x : Float). x ∷ []) (plays t s m l f n (e 0 (omega arith)));
+      played = λ t rate phase l. heard t rate l;
+      plays = λ t s m l f r n e. plays t s m l f n (e 0 (omega arith));
     }
 
 pub shown3 : (x y : Run vibrato) → Demand3 vibrato lines x y
