@@ -135,16 +135,16 @@ glided primed last coefficient target = cond primed (add binary64 target (mul bi
 
 -- the distance that a tick reads at, when its target is so many samples: the target is clamped to 1 to L − 1, the glide is not
 unfoldable pub readsAt : DelayLine → Float → Float
-readsAt s samples =
+readsAt s target =
     let L = lineLength (s .«sample_rate») (s .«max_delay_secs») in
-    glided (s .«delay_primed») (s .«smoothed_delay») (s .«delay_smooth_coef») (clampOf samples (floatOf 1) (floatOf (L - 1)))
+    glided (s .«delay_primed») (s .«smoothed_delay») (s .«delay_smooth_coef») (clampOf target (floatOf 1) (floatOf (L - 1)))
 
 unfoldable pub distance : Tick → DelayLine → Float
 distance t s = readsAt s (samplesOf (s .«sample_rate») (delayMs t s))
 
 -- what the line holds at that distance, before the store
 unfoldable pub delayedBy : DelayLine → Float → List Float → Float
-delayedBy s samples m = readAt (lineAt 0 (lineLength (s .«sample_rate») (s .«max_delay_secs»)) (s .«write_pos») m) (readsAt s samples)
+delayedBy s target m = readAt (lineAt 0 (lineLength (s .«sample_rate») (s .«max_delay_secs»)) (s .«write_pos») m) (readsAt s target)
 
 unfoldable pub delayed : Tick → DelayLine → List Float → Float
 delayed t s m = delayedBy s (samplesOf (s .«sample_rate») (delayMs t s)) m

@@ -108,7 +108,7 @@ module _ (E : Effect) (laws : Laws E) where
         asks = λ h. ifNone-both (λ u. u ≡ h) (numberAt E ask h) refl refl;
         refused-start = λ a m. ifNone-some (startNumber E a (length m)) (started E a m) (record { state = E .blank; memory = m });
         blank = laws .blank-refused;
-        lengths = λ c h. ifNone-both (λ (u : Device (E .State)). length (u .memory) ≡ length (h .memory)) (numberAt E c h) (length-changed E c h) refl;
+        keeps-length = λ c h. ifNone-both (λ (u : Device (E .State)). length (u .memory) ≡ length (h .memory)) (numberAt E c h) (length-changed E c h) refl;
         starts = λ a m e. start-in E laws (record { handed = a; memory = m; accepted = e; calls = [] }) .stateFits;
         returns = λ c h e. rw e (changed-fits E laws c h (accepted E (length (h .memory)) c (h .state) e));
       }

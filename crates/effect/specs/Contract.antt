@@ -6,13 +6,13 @@ use denote.Ref.{RefT, now}
 use denote.Triple.Both.{Both}
 use Rattle.port.specs.Answer.{Reply}
 use Rattle.effect.specs.Effect.{Effect}
-use Rattle.effect.specs.Run.{CallOf, step, reply, start, startReply}
+use Rattle.effect.specs.Run.{CallOf, deviceOf, step, reply, start, startReply}
 
 -- The call c of a unit with the state s and the memory m leaves the state s' and the memory m', and answers a.
 pub record Does (E : Effect) (c : CallOf E) (s : E .State) (m : List Float) (s' : E .State) (m' : List Float) (a : Reply) : Type 0 where
-  pub state : s' ≡ step E c (record { state = s; memory = m }) .state
-  pub memory : m' ≡ step E c (record { state = s; memory = m }) .memory
-  pub answer : a ≡ reply E c (record { state = s; memory = m })
+  pub state : s' ≡ step E c (deviceOf s m) .state
+  pub memory : m' ≡ step E c (deviceOf s m) .memory
+  pub answer : a ≡ reply E c (deviceOf s m)
 
 -- A start that is handed x and the memory m gives the state s', leaves the memory m', and answers a.
 pub record Starts (E : Effect) (x : E .Start) (m : List Float) (s' : E .State) (m' : List Float) (a : Reply) : Type 0 where
@@ -20,17 +20,17 @@ pub record Starts (E : Effect) (x : E .Start) (m : List Float) (s' : E .State) (
   pub memory : m' ≡ start E x m .memory
   pub answer : a ≡ startReply E x m
 
--- ---- of a call on lent numbers, by its two moments
+-- ---- a call on lent numbers, at its two moments
 
 pub data Moment : Type 0 where
   entry : Moment
   exit : Moment
 
--- what is lent behind a reference, at a moment
-abbrev pub lent : {A : Type 0} → Both (RefT A) (RefT A) → Moment → A
-lent x entry = now (x .entry)
-lent x exit = now (x .exit)
+-- What is lent behind a reference, at a moment. `Both (RefT A) (RefT A)` is what the name of a `&mut` stands for in an `ensures`.
+abbrev pub lentAt : {A : Type 0} → Both (RefT A) (RefT A) → Moment → A
+lentAt x entry = now (x .entry)
+lentAt x exit = now (x .exit)
 
 -- R holds between what u is at the entry and what it is at the exit
-abbrev pub over : {A : Type 0} → (Moment → A) → (A → A → Type 0) → Type 0
-over u R = R (u entry) (u exit)
+abbrev pub fromTo : {A : Type 0} → (Moment → A) → (A → A → Type 0) → Type 0
+fromTo u R = R (u entry) (u exit)

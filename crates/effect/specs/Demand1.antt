@@ -65,7 +65,7 @@ pub record Demand1 (E : Effect) : Type 0 where
   pub refused-start : (a : E .Start) (m : List Float) → startNumber E a (length m) ≢ 0 → start E a m ≡ record { state = E .blank; memory = m }
   pub blank : E .stateFits (E .blank) ≡ false
   -- no call changes the memory's length
-  pub lengths : (c : CallOf E) (h : Device (E .State)) → length (step E c h .memory) ≡ length (h .memory)
+  pub keeps-length : (c : CallOf E) (h : Device (E .State)) → length (step E c h .memory) ≡ length (h .memory)
   -- every state that an accepted call returns passes the state test
   pub starts : (a : E .Start) (m : List Float) → startNumber E a (length m) ≡ 0 → E .stateFits (start E a m .state) ≡ true
   pub returns : (c : CallOf E) (h : Device (E .State)) → numberAt E c h ≡ 0 → E .stateFits (step E c h .state) ≡ true

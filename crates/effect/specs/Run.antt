@@ -23,8 +23,8 @@ pub record Device (S : Type 0) : Type 0 where
   pub state : S
   pub memory : List Float
 
-abbrev pub unitOf : {S : Type 0} → S → List Float → Device S
-unitOf s m = record { state = s; memory = m }
+abbrev pub deviceOf : {S : Type 0} → S → List Float → Device S
+deviceOf s m = record { state = s; memory = m }
 
 -- a where the number is 0 (none), else b
 abbrev pub ifNone : {A : Type 0} → ℕ → A → A → A

@@ -1,6 +1,6 @@
 -- The tank's lines lie apart: a tick that passes the state test works, in each, on a place of its own. So a line is read as it was before the stores in the
 -- others, and what a step of comb i or all-pass i leaves is what the page says. Assumes nothing.
-use Prim.Native.Nat.{ℕ, zero, suc, _+_, _*_, _≤_, _<_}
+use Prim.Native.Nat.{ℕ, zero, suc, _+_, _≤_, _<_}
 use native.Mathlib.Numerals.{add-one}
 use native.Mathlib.Omega.{arith}
 use mathlib.Core.Path.{_≡_, refl, sym, ap, _∙_}

@@ -4,7 +4,6 @@ use native.Mathlib.Omega.{arith}
 use mathlib.Core.Path.{_≡_, refl}
 use mathlib.Core.Bool.{true, false}
 use mathlib.Core.List.{List, [], _∷_, _++_}
-use lib.ListN.{getD}
 use lib.Ieee.{Float, le, ofInt}
 use lib.Ieee as Ieee
 use Rattle.float64.specs.Number.{rateFits, inRange}
@@ -20,7 +19,7 @@ use Rattle.reverb.specs.Tunings.{Side, left, right, predelaySize, combMo
 use Rattle.reverb.specs.Tank.{combStart, allpassStart, tankSize, placeOf, nextPosition, bySides, combsHeld, combWrite, allpassesHeld, allpassWrite, InUse, of-comb, of-allpass, of-predelay}
 use Rattle.reverb.specs.Reverb.{reverb, combs, stores, allpasses, fresh, blank, stateFits, controlsOf, damping, feedback, predelayed, summed, next, writes}
 use Rattle.reverb.proofs.Scaling.{lines-some, lines-most}
-use Rattle.reverb.proofs.Lists.{moved-below}
+use Rattle.reverb.proofs.Lists.{next-below}
 use Rattle.reverb.proofs.Laws.{combs-in, allpasses-in, Fits, fits-parts, fit}
 use Rattle.reverb.proofs.Apart.{line-below}
 
@@ -50,8 +49,8 @@ unfolding next nextPosition
 next-fits c s m e =
     let u = next c s m in
     let f = fits-parts s e in
-    let comb : (side : Side) → _ = λ side. moved-below (combs s .positions side) (combs s .lengths side) (f .combs .inside side) in
-    let pass : (side : Side) → _ = λ side. moved-below (allpasses s .positions side) (allpasses s .lengths side) (f .allpasses .inside side) in
+    let comb : (side : Side) → _ = λ side. next-below (combs s .positions side) (combs s .lengths side) (f .combs .inside side) in
+    let pass : (side : Side) → _ = λ side. next-below (allpasses s .positions side) (allpasses s .lengths side) (f .allpasses .inside side) in
     fit u
     (record {
       rate = f .rate;

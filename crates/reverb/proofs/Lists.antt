@@ -59,14 +59,14 @@ below-zero [] ns = refl
 below-zero (w ∷ ws) ns = rw (le-ltb w 0 (omega arith))
 
 -- after a move each is below again
-pub moved-below : (ws ns : List ℕ) → allBelow ws ns ≡ true → allBelow (table (λ i. nextPlace (getD ns i 0) (getD ws i 0)) (length ns)) ns ≡ true
+pub next-below : (ws ns : List ℕ) → allBelow ws ns ≡ true → allBelow (table (λ i. nextPlace (getD ns i 0) (getD ws i 0)) (length ns)) ns ≡ true
 unfolding allBelow table
-moved-below [] [] e = refl
-moved-below [] (n ∷ ns) e = clash e refl
-moved-below (w ∷ ws) [] e = clash e refl
-moved-below (w ∷ ws) (n ∷ ns) e =
+next-below [] [] e = refl
+next-below [] (n ∷ ns) e = clash e refl
+next-below (w ∷ ws) [] e = clash e refl
+next-below (w ∷ ws) (n ∷ ns) e =
     let b = both (ltb w n) (allBelow ws ns) e in
-    rw (lt-ltb (nextPlace n w) n (next-lt n w (ltb-true w n (b .0)))) (moved-below ws ns (b .1))
+    rw (lt-ltb (nextPlace n w) n (next-lt n w (ltb-true w n (b .0)))) (next-below ws ns (b .1))
 
 -- ---- lines of zeros
 

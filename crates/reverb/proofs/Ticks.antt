@@ -2,7 +2,7 @@
 -- Assumes nothing.
 use Prim.Native.Nat.{ℕ, _+_}
 use native.Mathlib.Omega.{arith}
-use mathlib.Core.Path.{_≡_, sym, ap, _∙_}
+use mathlib.Core.Path.{_≡_, sym, _∙_}
 use mathlib.Core.List.{List, [], _∷_}
 use lib.ListN.{getD, set}
 use lib.Seq.{getD-set-other}
@@ -19,7 +19,7 @@ use Rattle.reverb.specs.declared.tank.Sides.{Sides}
 use Rattle.reverb.specs.declared.tick.Controls.{Controls}
 use Rattle.reverb.specs.declared.Reverb.{Reverb}
 use Rattle.reverb.specs.Tunings.{Side, left, right, sided, predelaySize, lengthsAt}
-use Rattle.reverb.specs.Tank.{SidedLines, combLines, allpassLines, combStart, allpassStart, predelayStart, placeOf, held, nextPosition, bySides, combsHeld, sumOf, combStored, combWrite, CombsStep, allpassesHeld, passedOn, allpassWrite, AllpassesStep}
+use Rattle.reverb.specs.Tank.{combLines, allpassLines, combStart, allpassStart, predelayStart, placeOf, held, nextPosition, bySides, combsHeld, sumOf, combStored, combWrite, CombsStep, allpassesHeld, passedOn, allpassWrite, AllpassesStep}
 use Rattle.reverb.specs.Reverb.{stateOf, combs, stores, allpasses, input, feedback, damping, mix, predelayed, summed, wet, combWrites, allpassWrites, writes, Advances}
 use Rattle.reverb.specs.Reverb as page
 use Rattle.reverb.proofs.Laws.{Fits}
@@ -53,9 +53,9 @@ module _ (c : Controls) (s : Reverb) (m : List Float) (f : Fits s) where
       ∙ getD-set-other m _ p (input c) nan (omega (arith, b .1))) j
 
   -- what the code has: the lengths n, the input y of the combs, damping d, feedback b, the memory n1 after the predelay's store, and the combs' step
-  module _ {n : Lengths} (sizes : n ≡ lengthsAt (s .«sample_rate»)) {y d b : Float} {n1 : List Float} (into : y ≡ predelayed c s m) (damped : d ≡ damping c) (fed : b ≡ feedback c) (first : n1 ≡ m1) {ws : Side → List ℕ} {zs : Side → List Float} {n2 : List Float} {sums : Sides} (step : CombsStep y d b (combLines (s .«comb_pos_l») (s .«comb_pos_r») n) (stores s) n1 ws zs n2 sums) where
+  module _ {n : Lengths} (long : n ≡ lengthsAt (s .«sample_rate»)) {y d b : Float} {n1 : List Float} (into : y ≡ predelayed c s m) (damped : d ≡ damping c) (fed : b ≡ feedback c) (first : n1 ≡ m1) {ws : Side → List ℕ} {zs : Side → List Float} {n2 : List Float} {sums : Sides} (step : CombsStep y d b (combLines (s .«comb_pos_l») (s .«comb_pos_r») n) (stores s) n1 ws zs n2 sums) where
     combs-are : combLines (s .«comb_pos_l») (s .«comb_pos_r») n ≡ combs s
-    combs-are = λ j. combLines (s .«comb_pos_l») (s .«comb_pos_r») (sizes j)
+    combs-are = λ j. combLines (s .«comb_pos_l») (s .«comb_pos_r») (long j)
 
     held-is : combsHeld (combLines (s .«comb_pos_l») (s .«comb_pos_r») n) n1 ≡ combsHeld (combs s) m
     held-is = (λ j. combsHeld (combs-are j) (first j)) ∙ combs-same
@@ -70,7 +70,7 @@ module _ (c : Controls) (s : Reverb) (m : List Float) (f : Fits s) where
     -- and the all-passes' step, with x into them
     module _ {x : Side → Float} (eighth : (side : Side) → x side ≡ mul binary64 (sided (sums .left) (sums .right) side) (fraction 1 8)) {vs : Side → List ℕ} {m' : List Float} {outs : Sides} (on : AllpassesStep x (allpassLines (s .«allpass_pos_l») (s .«allpass_pos_r») n) n2 vs m' outs) where
       allpasses-are : allpassLines (s .«allpass_pos_l») (s .«allpass_pos_r») n ≡ allpasses s
-      allpasses-are = λ j. allpassLines (s .«allpass_pos_l») (s .«allpass_pos_r») (sizes j)
+      allpasses-are = λ j. allpassLines (s .«allpass_pos_l») (s .«allpass_pos_r») (long j)
 
       passes-held : allpassesHeld (allpassLines (s .«allpass_pos_l») (s .«allpass_pos_r») n) n2 ≡ allpassesHeld (allpasses s) m
       passes-held = (λ j. allpassesHeld (allpasses-are j) (second j)) ∙ allpasses-same

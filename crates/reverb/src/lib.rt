@@ -1,4 +1,5 @@
-// The reverb: a predelay, and on each side eight combs in parallel and four all-passes in series, in one lent tank. The state goes in and out by value.
+// The reverb: a predelay, and on each side eight combs in parallel and four all-passes in series, in one lent tank. The state goes in and out
+// by value, but for `tick_in_place` of tick.rt.
 ghost use mathlib.Core.Path.{_≡_};
 ghost use mathlib.Core.Bool.{cond};
 ghost use Rattle.float64.specs.Number.{rateFits};

@@ -1,6 +1,6 @@
-// The tank: eight left combs, eight right, four left all-passes, four right, and the predelay, in one lent memory; a step of its lines, and their tests.
+// The tank: eight left combs, eight right, four left all-passes, four right, and the predelay, in one lentAt memory; a step of its lines, and their tests.
 ghost use mathlib.Core.Path.{_≡_};
-ghost use Prim.Native.Nat.{ℕ, _+_, _*_, _≤_, _<_};
+ghost use Prim.Native.Nat.{_+_, _*_, _≤_, _<_};
 ghost use lib.ListN as ListN;
 ghost use Rattle.reverb.specs.Tunings.{combMost, allpassMost, Capped, Roomy, sided};
 ghost use Rattle.reverb.specs.Tank.{tankSize, combLines, allpassLines, allBelow, positionsFit, InLines, CombsStep, AllpassesStep, linesZero, silence};

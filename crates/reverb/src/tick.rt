@@ -4,10 +4,9 @@ ghost use mathlib.Core.Bool.{true};
 ghost use Prim.Native.Nat.{_≤_};
 ghost use lib.ListN as ListN;
 ghost use Rattle.float64.specs.Number.{isNumber};
-ghost use Rattle.port.specs.Port.{valueOr};
 ghost use Rattle.port.specs.Answer.{answerReply};
 ghost use Rattle.effect.specs.Run.{tick};
-ghost use Rattle.effect.specs.Contract.{Does, lent, over};
+ghost use Rattle.effect.specs.Contract.{Does, lentAt, fromTo};
 ghost use Rattle.reverb.specs.Tunings.{lengthsAt};
 ghost use Rattle.reverb.specs.Tank.{tankSize};
 ghost use Rattle.reverb.specs.Reverb.{reverb, tickOf, controlsOf, stateOf, stateFits, Advances};
@@ -71,8 +70,8 @@ pub fn advance(
         (now «allpass_pos_l») (now «allpass_pos_r») (now «predelay_pos») rate) ≡ true ⌝ }
     requires { ⌜ tankSize ≤ ListN.length (now mem) ⌝ }
     requires { ⌜ isNumber (c .predelay) ≡ true ⌝ }
-    ensures { λ r. ⌜ over (λ k. stateOf (lent «comb_pos_l» k) (lent «comb_pos_r» k) (lent «comb_filter_state_l» k)
-        (lent «comb_filter_state_r» k) (lent «allpass_pos_l» k) (lent «allpass_pos_r» k) (lent «predelay_pos» k) rate)
+    ensures { λ r. ⌜ fromTo (λ k. stateOf (lentAt «comb_pos_l» k) (lentAt «comb_pos_r» k) (lentAt «comb_filter_state_l» k)
+        (lentAt «comb_filter_state_r» k) (lentAt «allpass_pos_l» k) (lentAt «allpass_pos_r» k) (lentAt «predelay_pos» k) rate)
         (λ s s'. Advances c s (now (mem .entry)) s' (now (mem .exit)) (answerReply r)) ⌝ }
 {
     let input = common::sanitize_audio(c.audio);
@@ -121,8 +120,8 @@ impl Reverb {
         mix: Port,
         predelay: Port,
     ) -> Answer
-        ensures { λ r. ⌜ over (λ k. stateOf (lent «comb_pos_l» k) (lent «comb_pos_r» k) (lent «comb_filter_state_l» k)
-            (lent «comb_filter_state_r» k) (lent «allpass_pos_l» k) (lent «allpass_pos_r» k) (lent «predelay_pos» k) rate)
+        ensures { λ r. ⌜ fromTo (λ k. stateOf (lentAt «comb_pos_l» k) (lentAt «comb_pos_r» k) (lentAt «comb_filter_state_l» k)
+            (lentAt «comb_filter_state_r» k) (lentAt «allpass_pos_l» k) (lentAt «allpass_pos_r» k) (lentAt «predelay_pos» k) rate)
             (λ s s'. Does reverb (tick (tickOf audio size damping mix predelay)) s (now (mem .entry)) s' (now (mem .exit)) (answerReply r)) ⌝ }
     {
         let n = lengths_at(rate);

@@ -8,8 +8,8 @@ ghost use Rattle.float64.specs.Number.{floatOf, fraction, inRange};
 ghost use Rattle.reverb.specs.Tunings.{combMost, leastTuning, mostTuning, scaled, spread, beside, lengthsFor, tuned};
 use crate::Reverb;
 
-// An all-pass that is held to the longest, in the rows of `lengths_at`.
-const CAPPED: u16 = Reverb::MAX_ALLPASS_LENGTH;
+// The longest all-pass, for the rows of `lengths_at`.
+const LONGEST: u16 = Reverb::MAX_ALLPASS_LENGTH;
 
 // Sixteen bits hold every length, and make the 24 of them three moves.
 pub struct Lengths {
@@ -159,16 +159,16 @@ pub fn lengths_at(rate: f64) -> Lengths
         return Lengths {
             comb_l: [Reverb::MAX_COMB_LENGTH; 8],
             comb_r: [Reverb::MAX_COMB_LENGTH; 8],
-            allpass_l: [CAPPED, CAPPED, 1484, 979],
-            allpass_r: [CAPPED, CAPPED, CAPPED, 1079],
+            allpass_l: [LONGEST, LONGEST, 1484, 979],
+            allpass_r: [LONGEST, LONGEST, LONGEST, 1079],
         };
     }
     if rate == 176400.0 {
         return Lengths {
             comb_l: [Reverb::MAX_COMB_LENGTH; 8],
             comb_r: [Reverb::MAX_COMB_LENGTH; 8],
-            allpass_l: [CAPPED, CAPPED, 1364, 900],
-            allpass_r: [CAPPED, CAPPED, 1456, 992],
+            allpass_l: [LONGEST, LONGEST, 1364, 900],
+            allpass_r: [LONGEST, LONGEST, 1456, 992],
         };
     }
     scaled_lengths(rate)

@@ -12,7 +12,7 @@ use Rattle.effect.specs.Run.{tick, retune, reset, ask, CallOf, Device, ifNone, 
 use Rattle.effect.specs.Contract.{Does, Starts}
 use Rattle.effect.proofs.Laws.{Laws}
 use Rattle.effect.proofs.Table.{ifNone-both}
-use Rattle.room_effects.specs.Units.{isOn, FlagWritten, FlagLeft}
+use Rattle.room_effects.specs.States.{isOn, FlagWritten, FlagLeft}
 use Rattle.room_effects.specs.Lent.{samplesFrom, StartReturns, CallReturns, TickReturns, AskReturns}
 
 -- a call whose answer has a number leaves the unit as it was

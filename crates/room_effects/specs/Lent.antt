@@ -1,5 +1,6 @@
 -- What a call of the C interface leaves in the numbers and the memory lent to it and what it returns: the effect's own state, memory and answer, in
--- plain numbers. For any effect; specs/Units.antt has each one's unit in lent numbers. Definitions only. Assumes nothing.
+-- plain numbers. For any effect: the state that the lent numbers make is `stateOf` of its page, and of
+-- chorus and delay in specs/States.antt. Definitions only. Assumes nothing.
 use Prim.Native.Nat.{ℕ, zero, suc}
 use mathlib.Core.Path.{_≡_}
 use mathlib.Core.List.{List, [], _∷_}

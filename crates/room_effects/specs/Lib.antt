@@ -1,4 +1,4 @@
 pub mod Ports
 pub mod Lent
-pub mod Units
+pub mod States
 pub mod Needed

@@ -1,9 +1,9 @@
 // The chorus's calls.
-ghost use Rattle.effect.specs.Run.{retune, reset, unitOf};
-ghost use Rattle.effect.specs.Contract.{lent, over};
+ghost use Rattle.effect.specs.Run.{retune, reset, deviceOf};
+ghost use Rattle.effect.specs.Contract.{lentAt, fromTo};
 ghost use Rattle.chorus.specs.Chorus.{chorus, tickOf};
 ghost use Rattle.room_effects.specs.Lent.{StartReturns, CallReturns, TickReturns, AskReturns};
-ghost use Rattle.room_effects.specs.Units.{chorusOf};
+ghost use Rattle.room_effects.specs.States.{chorusOf};
 ghost use Rattle.room_effects.specs.Ports.{portAt};
 ghost use mathlib.Core.Path.{_≡_};
 use crate::shared::port_at;
@@ -39,7 +39,7 @@ pub extern "C" fn room_raw_chorus_start(
     lfo_phases: &mut [f64; 3],
     sample_rate: &mut f64,
 ) -> u32
-    ensures { λ r. ⌜ StartReturns chorus «new_sample_rate» (now (memory .entry)) (unitOf (chorusOf (now («write_pos» .exit))
+    ensures { λ r. ⌜ StartReturns chorus «new_sample_rate» (now (memory .entry)) (deviceOf (chorusOf (now («write_pos» .exit))
         (now («lfo_phases» .exit)) (now («sample_rate» .exit))) (now (memory .exit))) r ⌝ }
 {
     let started = Chorus::new(new_sample_rate, memory);
@@ -58,8 +58,8 @@ pub extern "C" fn room_raw_chorus_retune(
     lfo_phases: &mut [f64; 3],
     sample_rate: &mut f64,
 ) -> u32
-    ensures { λ r. ⌜ over (λ k. unitOf (chorusOf (lent «write_pos» k) (lent «lfo_phases» k) (lent «sample_rate» k))
-        (lent memory k))
+    ensures { λ r. ⌜ fromTo (λ k. deviceOf (chorusOf (lentAt «write_pos» k) (lentAt «lfo_phases» k) (lentAt «sample_rate» k))
+        (lentAt memory k))
         (λ u u'. CallReturns chorus (retune «new_sample_rate») u u' r) ⌝ }
 {
     let state = chorus_of(*write_pos, lfo_phases, *sample_rate);
@@ -82,7 +82,7 @@ pub extern "C" fn room_raw_chorus_reset(
     lfo_phases: &mut [f64; 3],
     sample_rate: f64,
 ) -> u32
-    ensures { λ r. ⌜ over (λ k. unitOf (chorusOf (lent «write_pos» k) (lent «lfo_phases» k) «sample_rate») (lent memory k))
+    ensures { λ r. ⌜ fromTo (λ k. deviceOf (chorusOf (lentAt «write_pos» k) (lentAt «lfo_phases» k) «sample_rate») (lentAt memory k))
         (λ u u'. CallReturns chorus reset u u' r) ⌝ }
 {
     let state = chorus_of(*write_pos, lfo_phases, sample_rate);
@@ -113,7 +113,7 @@ pub extern "C" fn room_raw_chorus_tick(
     sine2: f64,
     out: &mut [f64; 3],
 ) -> u32
-    ensures { λ r. ⌜ over (λ k. unitOf (chorusOf (lent «write_pos» k) (lent «lfo_phases» k) «sample_rate») (lent memory k))
+    ensures { λ r. ⌜ fromTo (λ k. deviceOf (chorusOf (lentAt «write_pos» k) (lentAt «lfo_phases» k) «sample_rate») (lentAt memory k))
         (λ u u'. TickReturns chorus 3 (tickOf (portAt set 1 audio) (portAt set 2 depth) (portAt set 4 mix) frequency sine0 sine1
         sine2) u u' (now (out .exit)) r) ⌝ }
 {
@@ -146,7 +146,7 @@ pub extern "C" fn room_raw_chorus_silent(
     memory: &[f64],
     out: &mut u32,
 ) -> u32
-    ensures { λ r. ⌜ AskReturns chorus (unitOf (chorusOf «write_pos» (now («lfo_phases» .entry)) «sample_rate»)
+    ensures { λ r. ⌜ AskReturns chorus (deviceOf (chorusOf «write_pos» (now («lfo_phases» .entry)) «sample_rate»)
         (now (memory .entry))) (now (out .exit)) r ⌝ }
 {
     let state = chorus_of(write_pos, lfo_phases, sample_rate);

@@ -2,11 +2,11 @@
 ghost use mathlib.Core.Path.{_≡_};
 ghost use mathlib.Core.Bool.{cond};
 ghost use mathlib.Core.List.{[], _∷_};
-ghost use Rattle.effect.specs.Run.{retune, reset, unitOf};
-ghost use Rattle.effect.specs.Contract.{lent, over};
+ghost use Rattle.effect.specs.Run.{retune, reset, deviceOf};
+ghost use Rattle.effect.specs.Contract.{lentAt, fromTo};
 ghost use Rattle.delay_line.specs.DelayLine.{delayLine, handing, retuning, tickOf};
 ghost use Rattle.room_effects.specs.Lent.{StartReturns, CallReturns, TickReturns, AskReturns};
-ghost use Rattle.room_effects.specs.Units.{isOn, FlagWritten, FlagLeft, delayOf};
+ghost use Rattle.room_effects.specs.States.{isOn, FlagWritten, FlagLeft, delayOf};
 ghost use Rattle.room_effects.specs.Ports.{portAt};
 use crate::shared::port_at;
 use delay_line::DelayLine;
@@ -58,7 +58,7 @@ pub extern "C" fn room_raw_delay_start(
     linear_time: &mut u32,
 ) -> u32
     ensures { λ r. ⌜ StartReturns delayLine (handing «new_sample_rate» «new_delay_smooth_coef» «new_max_delay_secs»
-        (isOn «new_linear_time»)) (now (memory .entry)) (unitOf (delayOf (now («write_pos» .exit))
+        (isOn «new_linear_time»)) (now (memory .entry)) (deviceOf (delayOf (now («write_pos» .exit))
         (now («smoothed_delay» .exit)) (isOn (now («delay_primed» .exit))) (now («sample_rate» .exit))
         (now («delay_smooth_coef» .exit)) (now («max_delay_secs» .exit)) (isOn (now («linear_time» .exit))))
         (now (memory .exit))) r × FlagWritten (now («delay_primed» .exit)) × FlagWritten (now («linear_time» .exit)) ⌝ }
@@ -94,10 +94,10 @@ pub extern "C" fn room_raw_delay_retune(
     max_delay_secs: f64,
     linear_time: u32,
 ) -> u32
-    ensures { λ r. ⌜ over (λ k. unitOf (delayOf (lent «write_pos» k) (lent «smoothed_delay» k) (isOn (lent «delay_primed» k))
-        (lent «sample_rate» k) (lent «delay_smooth_coef» k) «max_delay_secs» (isOn «linear_time»)) (lent memory k))
+    ensures { λ r. ⌜ fromTo (λ k. deviceOf (delayOf (lentAt «write_pos» k) (lentAt «smoothed_delay» k) (isOn (lentAt «delay_primed» k))
+        (lentAt «sample_rate» k) (lentAt «delay_smooth_coef» k) «max_delay_secs» (isOn «linear_time»)) (lentAt memory k))
         (λ u u'. CallReturns delayLine (retune (retuning «new_sample_rate» «new_delay_smooth_coef»)) u u' r)
-        × over (lent «delay_primed») (FlagLeft r) ⌝ }
+        × fromTo (lentAt «delay_primed») (FlagLeft r) ⌝ }
 {
     let state = delay_of(
         *write_pos,
@@ -133,10 +133,10 @@ pub extern "C" fn room_raw_delay_reset(
     max_delay_secs: f64,
     linear_time: u32,
 ) -> u32
-    ensures { λ r. ⌜ over (λ k. unitOf (delayOf (lent «write_pos» k) (lent «smoothed_delay» k) (isOn (lent «delay_primed» k))
-        «sample_rate» «delay_smooth_coef» «max_delay_secs» (isOn «linear_time»)) (lent memory k))
+    ensures { λ r. ⌜ fromTo (λ k. deviceOf (delayOf (lentAt «write_pos» k) (lentAt «smoothed_delay» k) (isOn (lentAt «delay_primed» k))
+        «sample_rate» «delay_smooth_coef» «max_delay_secs» (isOn «linear_time»)) (lentAt memory k))
         (λ u u'. CallReturns delayLine reset u u' r)
-        × over (lent «delay_primed») (FlagLeft r) ⌝ }
+        × fromTo (lentAt «delay_primed») (FlagLeft r) ⌝ }
 {
     let state = delay_of(
         *write_pos,
@@ -178,10 +178,10 @@ pub extern "C" fn room_raw_delay_tick(
     milliseconds: f64,
     out: &mut f64,
 ) -> u32
-    ensures { λ r. ⌜ over (λ k. unitOf (delayOf (lent «write_pos» k) (lent «smoothed_delay» k) (isOn (lent «delay_primed» k))
-        «sample_rate» «delay_smooth_coef» «max_delay_secs» (isOn «linear_time»)) (lent memory k))
+    ensures { λ r. ⌜ fromTo (λ k. deviceOf (delayOf (lentAt «write_pos» k) (lentAt «smoothed_delay» k) (isOn (lentAt «delay_primed» k))
+        «sample_rate» «delay_smooth_coef» «max_delay_secs» (isOn «linear_time»)) (lentAt memory k))
         (λ u u'. TickReturns delayLine 1 (tickOf (portAt set 1 audio) (portAt set 2 time) (portAt set 4 feedback)
-        (portAt set 8 mix) milliseconds) u u' (now (out .exit) ∷ []) r) × over (lent «delay_primed») (FlagLeft r) ⌝ }
+        (portAt set 8 mix) milliseconds) u u' (now (out .exit) ∷ []) r) × fromTo (lentAt «delay_primed») (FlagLeft r) ⌝ }
 {
     let state = delay_of(
         *write_pos,
@@ -224,7 +224,7 @@ pub extern "C" fn room_raw_delay_silent(
     memory: &[f64],
     out: &mut u32,
 ) -> u32
-    ensures { λ r. ⌜ AskReturns delayLine (unitOf (delayOf «write_pos» «smoothed_delay» (isOn «delay_primed») «sample_rate»
+    ensures { λ r. ⌜ AskReturns delayLine (deviceOf (delayOf «write_pos» «smoothed_delay» (isOn «delay_primed») «sample_rate»
         «delay_smooth_coef» «max_delay_secs» (isOn «linear_time»)) (now (memory .entry))) (now (out .exit)) r ⌝ }
 {
     let state = delay_of(

@@ -1,6 +1,6 @@
 // The flanger's calls.
-ghost use Rattle.effect.specs.Run.{retune, reset, unitOf};
-ghost use Rattle.effect.specs.Contract.{lent, over};
+ghost use Rattle.effect.specs.Run.{retune, reset, deviceOf};
+ghost use Rattle.effect.specs.Contract.{lentAt, fromTo};
 ghost use Rattle.flanger.specs.Flanger.{flanger, tickOf, stateOf};
 ghost use Rattle.room_effects.specs.Lent.{StartReturns, CallReturns, TickReturns, AskReturns};
 ghost use Rattle.room_effects.specs.Ports.{portAt};
@@ -17,7 +17,7 @@ pub extern "C" fn room_raw_flanger_start(
     lfo_phase: &mut f64,
     sample_rate: &mut f64,
 ) -> u32
-    ensures { λ r. ⌜ StartReturns flanger «new_sample_rate» (now (memory .entry)) (unitOf (stateOf (now («write_pos» .exit))
+    ensures { λ r. ⌜ StartReturns flanger «new_sample_rate» (now (memory .entry)) (deviceOf (stateOf (now («write_pos» .exit))
         (now («lfo_phase» .exit)) (now («sample_rate» .exit))) (now (memory .exit))) r ⌝ }
 {
     let started = Flanger::new(new_sample_rate, memory);
@@ -36,8 +36,8 @@ pub extern "C" fn room_raw_flanger_retune(
     lfo_phase: &mut f64,
     sample_rate: &mut f64,
 ) -> u32
-    ensures { λ r. ⌜ over (λ k. unitOf (stateOf (lent «write_pos» k) (lent «lfo_phase» k) (lent «sample_rate» k))
-        (lent memory k))
+    ensures { λ r. ⌜ fromTo (λ k. deviceOf (stateOf (lentAt «write_pos» k) (lentAt «lfo_phase» k) (lentAt «sample_rate» k))
+        (lentAt memory k))
         (λ u u'. CallReturns flanger (retune «new_sample_rate») u u' r) ⌝ }
 {
     let state = Flanger {
@@ -64,7 +64,7 @@ pub extern "C" fn room_raw_flanger_reset(
     lfo_phase: &mut f64,
     sample_rate: f64,
 ) -> u32
-    ensures { λ r. ⌜ over (λ k. unitOf (stateOf (lent «write_pos» k) (lent «lfo_phase» k) «sample_rate») (lent memory k))
+    ensures { λ r. ⌜ fromTo (λ k. deviceOf (stateOf (lentAt «write_pos» k) (lentAt «lfo_phase» k) «sample_rate») (lentAt memory k))
         (λ u u'. CallReturns flanger reset u u' r) ⌝ }
 {
     let state = Flanger {
@@ -100,7 +100,7 @@ pub extern "C" fn room_raw_flanger_tick(
     sine1: f64,
     out: &mut [f64; 3],
 ) -> u32
-    ensures { λ r. ⌜ over (λ k. unitOf (stateOf (lent «write_pos» k) (lent «lfo_phase» k) «sample_rate») (lent memory k))
+    ensures { λ r. ⌜ fromTo (λ k. deviceOf (stateOf (lentAt «write_pos» k) (lentAt «lfo_phase» k) «sample_rate») (lentAt memory k))
         (λ u u'. TickReturns flanger 3 (tickOf (portAt set 1 audio) (portAt set 2 depth) (portAt set 4 feedback)
         (portAt set 8 mix) frequency sine0 sine1) u u' (now (out .exit)) r) ⌝ }
 {
@@ -138,7 +138,7 @@ pub extern "C" fn room_raw_flanger_silent(
     memory: &[f64],
     out: &mut u32,
 ) -> u32
-    ensures { λ r. ⌜ AskReturns flanger (unitOf (stateOf «write_pos» «lfo_phase» «sample_rate») (now (memory .entry)))
+    ensures { λ r. ⌜ AskReturns flanger (deviceOf (stateOf «write_pos» «lfo_phase» «sample_rate») (now (memory .entry)))
         (now (out .exit)) r ⌝ }
 {
     let state = Flanger {

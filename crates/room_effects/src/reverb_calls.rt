@@ -1,7 +1,7 @@
 // The reverb's calls. Its state crosses as lent arrays: the combs' and all-passes' positions, the combs' damping stores; and the predelay's position.
 ghost use mathlib.Core.Path.{_≡_};
-ghost use Rattle.effect.specs.Run.{retune, reset, unitOf};
-ghost use Rattle.effect.specs.Contract.{lent, over};
+ghost use Rattle.effect.specs.Run.{retune, reset, deviceOf};
+ghost use Rattle.effect.specs.Contract.{lentAt, fromTo};
 ghost use Rattle.reverb.specs.Reverb.{reverb, tickOf, stateOf};
 ghost use Rattle.room_effects.specs.Lent.{StartReturns, CallReturns, TickReturns, AskReturns};
 ghost use Rattle.room_effects.specs.Ports.{portAt};
@@ -52,7 +52,7 @@ pub extern "C" fn room_raw_reverb_start(
     predelay_pos: &mut u64,
     sample_rate: &mut f64,
 ) -> u32
-    ensures { λ r. ⌜ StartReturns reverb «new_sample_rate» (now (memory .entry)) (unitOf (stateOf (now («comb_pos_l» .exit))
+    ensures { λ r. ⌜ StartReturns reverb «new_sample_rate» (now (memory .entry)) (deviceOf (stateOf (now («comb_pos_l» .exit))
         (now («comb_pos_r» .exit)) (now («comb_filter_state_l» .exit)) (now («comb_filter_state_r» .exit))
         (now («allpass_pos_l» .exit)) (now («allpass_pos_r» .exit)) (now («predelay_pos» .exit)) (now («sample_rate» .exit)))
         (now (memory .exit))) r ⌝ }
@@ -86,9 +86,9 @@ pub extern "C" fn room_raw_reverb_retune(
     predelay_pos: &mut u64,
     sample_rate: &mut f64,
 ) -> u32
-    ensures { λ r. ⌜ over (λ k. unitOf (stateOf (lent «comb_pos_l» k) (lent «comb_pos_r» k) (lent «comb_filter_state_l» k)
-        (lent «comb_filter_state_r» k) (lent «allpass_pos_l» k) (lent «allpass_pos_r» k) (lent «predelay_pos» k)
-        (lent «sample_rate» k)) (lent memory k))
+    ensures { λ r. ⌜ fromTo (λ k. deviceOf (stateOf (lentAt «comb_pos_l» k) (lentAt «comb_pos_r» k) (lentAt «comb_filter_state_l» k)
+        (lentAt «comb_filter_state_r» k) (lentAt «allpass_pos_l» k) (lentAt «allpass_pos_r» k) (lentAt «predelay_pos» k)
+        (lentAt «sample_rate» k)) (lentAt memory k))
         (λ u u'. CallReturns reverb (retune «new_sample_rate») u u' r) ⌝ }
 {
     let state = Reverb {
@@ -133,9 +133,9 @@ pub extern "C" fn room_raw_reverb_reset(
     predelay_pos: &mut u64,
     sample_rate: f64,
 ) -> u32
-    ensures { λ r. ⌜ over (λ k. unitOf (stateOf (lent «comb_pos_l» k) (lent «comb_pos_r» k) (lent «comb_filter_state_l» k)
-        (lent «comb_filter_state_r» k) (lent «allpass_pos_l» k) (lent «allpass_pos_r» k) (lent «predelay_pos» k) «sample_rate»)
-        (lent memory k))
+    ensures { λ r. ⌜ fromTo (λ k. deviceOf (stateOf (lentAt «comb_pos_l» k) (lentAt «comb_pos_r» k) (lentAt «comb_filter_state_l» k)
+        (lentAt «comb_filter_state_r» k) (lentAt «allpass_pos_l» k) (lentAt «allpass_pos_r» k) (lentAt «predelay_pos» k) «sample_rate»)
+        (lentAt memory k))
         (λ u u'. CallReturns reverb reset u u' r) ⌝ }
 {
     let state = Reverb {
@@ -188,9 +188,9 @@ pub extern "C" fn room_raw_reverb_tick(
     predelay: f64,
     out: &mut [f64; 2],
 ) -> u32
-    ensures { λ r. ⌜ over (λ k. unitOf (stateOf (lent «comb_pos_l» k) (lent «comb_pos_r» k) (lent «comb_filter_state_l» k)
-        (lent «comb_filter_state_r» k) (lent «allpass_pos_l» k) (lent «allpass_pos_r» k) (lent «predelay_pos» k) «sample_rate»)
-        (lent memory k))
+    ensures { λ r. ⌜ fromTo (λ k. deviceOf (stateOf (lentAt «comb_pos_l» k) (lentAt «comb_pos_r» k) (lentAt «comb_filter_state_l» k)
+        (lentAt «comb_filter_state_r» k) (lentAt «allpass_pos_l» k) (lentAt «allpass_pos_r» k) (lentAt «predelay_pos» k) «sample_rate»)
+        (lentAt memory k))
         (λ u u'. TickReturns reverb 2 (tickOf (portAt set 1 audio) (portAt set 2 size) (portAt set 4 damping) (portAt set 8 mix)
         (portAt set 16 predelay)) u u' (now (out .exit)) r) ⌝ }
 {
@@ -227,7 +227,7 @@ pub extern "C" fn room_raw_reverb_silent(
     memory: &[f64],
     out: &mut u32,
 ) -> u32
-    ensures { λ r. ⌜ AskReturns reverb (unitOf (stateOf (now («comb_pos_l» .entry)) (now («comb_pos_r» .entry))
+    ensures { λ r. ⌜ AskReturns reverb (deviceOf (stateOf (now («comb_pos_l» .entry)) (now («comb_pos_r» .entry))
         (now («comb_filter_state_l» .entry)) (now («comb_filter_state_r» .entry)) (now («allpass_pos_l» .entry))
         (now («allpass_pos_r» .entry)) «predelay_pos» «sample_rate») (now (memory .entry))) (now (out .exit)) r ⌝ }
 {

@@ -1,6 +1,6 @@
 // The tremolo's calls.
-ghost use Rattle.effect.specs.Run.{reset, unitOf};
-ghost use Rattle.effect.specs.Contract.{lent, over};
+ghost use Rattle.effect.specs.Run.{reset, deviceOf};
+ghost use Rattle.effect.specs.Contract.{lentAt, fromTo};
 ghost use Rattle.tremolo.specs.Tremolo.{tremolo, tickOf, stateOf};
 ghost use Rattle.room_effects.specs.Lent.{StartReturns, CallReturns, TickReturns, AskReturns};
 ghost use Rattle.room_effects.specs.Ports.{portAt};
@@ -15,7 +15,7 @@ pub extern "C" fn room_raw_tremolo_start(
     lfo_phase: &mut f64,
     sample_rate: &mut f64,
 ) -> u32
-    ensures { λ r. ⌜ StartReturns tremolo «new_sample_rate» [] (unitOf (stateOf (now («lfo_phase» .exit))
+    ensures { λ r. ⌜ StartReturns tremolo «new_sample_rate» [] (deviceOf (stateOf (now («lfo_phase» .exit))
         (now («sample_rate» .exit))) []) r ⌝ }
 {
     let started = Tremolo::new(new_sample_rate);
@@ -27,7 +27,7 @@ pub extern "C" fn room_raw_tremolo_start(
 
 #[no_mangle]
 pub extern "C" fn room_raw_tremolo_reset(lfo_phase: &mut f64, sample_rate: f64) -> u32
-    ensures { λ r. ⌜ over (λ k. unitOf (stateOf (lent «lfo_phase» k) «sample_rate») [])
+    ensures { λ r. ⌜ fromTo (λ k. deviceOf (stateOf (lentAt «lfo_phase» k) «sample_rate») [])
         (λ u u'. CallReturns tremolo reset u u' r) ⌝ }
 {
     let state = Tremolo {
@@ -57,7 +57,7 @@ pub extern "C" fn room_raw_tremolo_tick(
     sine: f64,
     out: &mut f64,
 ) -> u32
-    ensures { λ r. ⌜ over (λ k. unitOf (stateOf (lent «lfo_phase» k) «sample_rate») [])
+    ensures { λ r. ⌜ fromTo (λ k. deviceOf (stateOf (lentAt «lfo_phase» k) «sample_rate») [])
         (λ u u'. TickReturns tremolo 1 (tickOf (portAt set 1 audio) (portAt set 2 depth) (portAt set 4 shape) frequency sine) u
         u' (now (out .exit) ∷ []) r) ⌝ }
 {
@@ -84,7 +84,7 @@ pub extern "C" fn room_raw_tremolo_tick(
 
 #[no_mangle]
 pub extern "C" fn room_raw_tremolo_silent(lfo_phase: f64, sample_rate: f64, out: &mut u32) -> u32
-    ensures { λ r. ⌜ AskReturns tremolo (unitOf (stateOf «lfo_phase» «sample_rate») []) (now (out .exit)) r ⌝ }
+    ensures { λ r. ⌜ AskReturns tremolo (deviceOf (stateOf «lfo_phase» «sample_rate») []) (now (out .exit)) r ⌝ }
 {
     let state = Tremolo {
         lfo_phase,

@@ -1,6 +1,6 @@
 // The vibrato's calls.
-ghost use Rattle.effect.specs.Run.{retune, reset, unitOf};
-ghost use Rattle.effect.specs.Contract.{lent, over};
+ghost use Rattle.effect.specs.Run.{retune, reset, deviceOf};
+ghost use Rattle.effect.specs.Contract.{lentAt, fromTo};
 ghost use Rattle.vibrato.specs.Vibrato.{vibrato, tickOf, stateOf};
 ghost use Rattle.room_effects.specs.Lent.{StartReturns, CallReturns, TickReturns, AskReturns};
 ghost use Rattle.room_effects.specs.Ports.{portAt};
@@ -17,7 +17,7 @@ pub extern "C" fn room_raw_vibrato_start(
     lfo_phase: &mut f64,
     sample_rate: &mut f64,
 ) -> u32
-    ensures { λ r. ⌜ StartReturns vibrato «new_sample_rate» (now (memory .entry)) (unitOf (stateOf (now («write_pos» .exit))
+    ensures { λ r. ⌜ StartReturns vibrato «new_sample_rate» (now (memory .entry)) (deviceOf (stateOf (now («write_pos» .exit))
         (now («lfo_phase» .exit)) (now («sample_rate» .exit))) (now (memory .exit))) r ⌝ }
 {
     let started = Vibrato::new(new_sample_rate, memory);
@@ -36,8 +36,8 @@ pub extern "C" fn room_raw_vibrato_retune(
     lfo_phase: &mut f64,
     sample_rate: &mut f64,
 ) -> u32
-    ensures { λ r. ⌜ over (λ k. unitOf (stateOf (lent «write_pos» k) (lent «lfo_phase» k) (lent «sample_rate» k))
-        (lent memory k))
+    ensures { λ r. ⌜ fromTo (λ k. deviceOf (stateOf (lentAt «write_pos» k) (lentAt «lfo_phase» k) (lentAt «sample_rate» k))
+        (lentAt memory k))
         (λ u u'. CallReturns vibrato (retune «new_sample_rate») u u' r) ⌝ }
 {
     let state = Vibrato {
@@ -64,7 +64,7 @@ pub extern "C" fn room_raw_vibrato_reset(
     lfo_phase: &mut f64,
     sample_rate: f64,
 ) -> u32
-    ensures { λ r. ⌜ over (λ k. unitOf (stateOf (lent «write_pos» k) (lent «lfo_phase» k) «sample_rate») (lent memory k))
+    ensures { λ r. ⌜ fromTo (λ k. deviceOf (stateOf (lentAt «write_pos» k) (lentAt «lfo_phase» k) «sample_rate») (lentAt memory k))
         (λ u u'. CallReturns vibrato reset u u' r) ⌝ }
 {
     let state = Vibrato {
@@ -98,7 +98,7 @@ pub extern "C" fn room_raw_vibrato_tick(
     sine: f64,
     out: &mut f64,
 ) -> u32
-    ensures { λ r. ⌜ over (λ k. unitOf (stateOf (lent «write_pos» k) (lent «lfo_phase» k) «sample_rate») (lent memory k))
+    ensures { λ r. ⌜ fromTo (λ k. deviceOf (stateOf (lentAt «write_pos» k) (lentAt «lfo_phase» k) «sample_rate») (lentAt memory k))
         (λ u u'. TickReturns vibrato 1 (tickOf (portAt set 1 audio) (portAt set 2 depth) (portAt set 4 mix) frequency sine) u u'
         (now (out .exit) ∷ []) r) ⌝ }
 {
@@ -134,7 +134,7 @@ pub extern "C" fn room_raw_vibrato_silent(
     memory: &[f64],
     out: &mut u32,
 ) -> u32
-    ensures { λ r. ⌜ AskReturns vibrato (unitOf (stateOf «write_pos» «lfo_phase» «sample_rate») (now (memory .entry)))
+    ensures { λ r. ⌜ AskReturns vibrato (deviceOf (stateOf «write_pos» «lfo_phase» «sample_rate») (now (memory .entry)))
         (now (out .exit)) r ⌝ }
 {
     let state = Vibrato {

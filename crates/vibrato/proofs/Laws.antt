@@ -5,7 +5,7 @@ use native.Mathlib.Omega.{arith}
 use mathlib.Core.Path.{_≡_, refl, ap, _∙_}
 use mathlib.Core.Bool.{true, false, _&&_, _||_, cond}
 use mathlib.Core.List.{List, [], _∷_}
-use lib.Dec.{T, ltb}
+use lib.Dec.{ltb}
 use lib.ListN.{length, take, set}
 use lib.Ieee.{Float, binary64, add, mul, div, neg, le, lt, ofInt, round}
 use lib.Ieee as Ieee
@@ -21,7 +21,7 @@ use Rattle.port.specs.Port.{valueOr, isNanSet}
 use Rattle.port.specs.Answer.{Reply, played}
 use Rattle.common.specs.Signal.{blended, advanced}
 use Rattle.common.specs.Line.{nextPlace, lineAt, readAt}
-use Rattle.common.proofs.Sweep.{size-tests, small, no-cause, neither, part-read}
+use Rattle.common.proofs.Sweep.{size-tests, no-cause, neither, part-read}
 use Rattle.effect.specs.Effect.{laid}
 use Rattle.effect.specs.Lines.{inEach}
 use Rattle.effect.specs.Run.{tick, numberIn}

@@ -37,15 +37,15 @@ module _ (c : tie.After-enum-told) where
   passed = accepted reverb (length (start .args .mem .now)) ask (start .args .self) (sym (c .before .before .refusal .ensures) ∙ ap numberOf (c .enum-told .given .1))
 
   -- so the lengths are those at its rate
-  sizes : c .before .before .before .scaled-lengths .result ≡ lengthsAt (start .args .self .«sample_rate»)
-  sizes =
+  long : c .before .before .before .scaled-lengths .result ≡ lengthsAt (start .args .self .«sample_rate»)
+  long =
       let s = start .args .self in
       lengths-are (s .«sample_rate») (fits-parts s (passed .stateFits) .rate) (c .before .before .before .scaled-lengths .ensures)
 
 all-silent-requires : tie.Need-all-silent-requires
 all-silent-requires c κs =
     let s = start c .args .self in
-    (roomy (s .«sample_rate») (sizes c), enough tankSize _ (passed c .number))
+    (roomy (s .«sample_rate») (long c), enough tankSize _ (passed c .number))
 
 -- accepted, with the answer b
 answered : (c : tie.After-all-silent) (b : Bool) → c .all-silent .result ≡ b
@@ -57,7 +57,7 @@ answered c b e =
     (sym (told .before .before .refusal .ensures) ∙ ap numberOf (told .enum-told .given .1))
     refl
     refl
-    (ap answer.silent (sym e ∙ c .all-silent .ensures ∙ ap (λ (n : Lengths). silence n (a .mem .now)) (sizes told)))
+    (ap answer.silent (sym e ∙ c .all-silent .ensures ∙ ap (λ (n : Lengths). silence n (a .mem .now)) (long told)))
 
 returns-2 : tie.Need-returns-2
 returns-2 c = answered (c .before) true (c .if1 .taken)

@@ -1,12 +1,12 @@
 -- `room_raw_chorus_reset` is `Chorus::reset`, its state without the rate written back where it is accepted. Assumes nothing.
 use mathlib.Core.Path.{ap, sym, _∙_}
-use Rattle.effect.specs.Run.{reset, Device, unitOf}
+use Rattle.effect.specs.Run.{reset, Device, deviceOf}
 use Rattle.effect.specs.Contract.{Does}
 use Rattle.port.specs.Answer.{outcomeReply}
 use Rattle.chorus.specs.declared.Chorus.{Chorus}
 use Rattle.chorus.specs.Chorus.{chorus}
 use Rattle.chorus.proofs.Demand1.{laws}
-use Rattle.room_effects.specs.Units.{chorusOf}
+use Rattle.room_effects.specs.States.{chorusOf}
 use Rattle.room_effects.proofs.Laws.{of-state, stored, kept, reset-settings}
 use borrow.Author.Needs.{needs}
 use Rattle.room_effects.proofs.chorus_calls.room_raw_chorus_reset.Statement.{statement}
@@ -16,7 +16,7 @@ use Rattle.room_effects.proofs.chorus_calls.room_raw_chorus_reset.Tie a
 abbrev unit : tie.Start → Device Chorus
 unit s =
     let a = s .args in
-    unitOf (chorusOf (a .write-pos .now) (a .lfo-phases .now) (a .sample-rate)) (a .memory .now)
+    deviceOf (chorusOf (a .write-pos .now) (a .lfo-phases .now) (a .sample-rate)) (a .memory .now)
 
 -- the inner call, of the state as the lent numbers have it
 module _ (c : tie.After-reset) where

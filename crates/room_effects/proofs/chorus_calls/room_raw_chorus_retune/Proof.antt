@@ -1,11 +1,11 @@
 -- `room_raw_chorus_retune` is `Chorus::set_sample_rate`, its state written back where it is accepted. Assumes nothing.
 use mathlib.Core.Path.{_∙_, sym}
-use Rattle.effect.specs.Run.{retune, CallOf, Device, unitOf}
+use Rattle.effect.specs.Run.{retune, CallOf, Device, deviceOf}
 use Rattle.effect.specs.Contract.{Does}
 use Rattle.port.specs.Answer.{outcomeReply}
 use Rattle.chorus.specs.declared.Chorus.{Chorus}
 use Rattle.chorus.specs.Chorus.{chorus}
-use Rattle.room_effects.specs.Units.{chorusOf}
+use Rattle.room_effects.specs.States.{chorusOf}
 use Rattle.room_effects.proofs.Laws.{of-state, stored, kept}
 use borrow.Author.Needs.{needs}
 use Rattle.room_effects.proofs.chorus_calls.room_raw_chorus_retune.Statement.{statement}
@@ -15,7 +15,7 @@ use Rattle.room_effects.proofs.chorus_calls.room_raw_chorus_retune.Tie 
 abbrev unit : tie.Start → Device Chorus
 unit s =
     let a = s .args in
-    unitOf (chorusOf (a .write-pos .now) (a .lfo-phases .now) (a .sample-rate .now)) (a .memory .now)
+    deviceOf (chorusOf (a .write-pos .now) (a .lfo-phases .now) (a .sample-rate .now)) (a .memory .now)
 
 -- the inner call, of the state as the lent numbers have it
 module _ (c : tie.After-set-sample-rate) where

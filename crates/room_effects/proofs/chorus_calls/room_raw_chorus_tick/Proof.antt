@@ -1,13 +1,13 @@
 -- `room_raw_chorus_tick` is `Chorus::tick` with the ports of the mask, its state without the rate written back where it is accepted. Assumes nothing.
 use mathlib.Core.Path.{ap, sym, _∙_}
 use Rattle.port.specs.Answer.{answerReply}
-use Rattle.effect.specs.Run.{tick, Device, unitOf}
+use Rattle.effect.specs.Run.{tick, Device, deviceOf}
 use Rattle.effect.specs.Contract.{Does}
 use Rattle.chorus.specs.declared.Chorus.{Chorus}
 use Rattle.chorus.specs.Chorus.{chorus, Tick, tickOf}
 use Rattle.chorus.proofs.Demand1.{laws}
 use Rattle.room_effects.specs.Ports.{portAt}
-use Rattle.room_effects.specs.Units.{chorusOf}
+use Rattle.room_effects.specs.States.{chorusOf}
 use Rattle.room_effects.proofs.Laws.{of-tick, of-state, stored, kept, tick-settings, played}
 use borrow.Author.Needs.{needs}
 use Rattle.room_effects.proofs.chorus_calls.room_raw_chorus_tick.Statement.{statement}
@@ -22,7 +22,7 @@ handed s =
 abbrev unit : tie.Start → Device Chorus
 unit s =
     let a = s .args in
-    unitOf (chorusOf (a .write-pos .now) (a .lfo-phases .now) (a .sample-rate)) (a .memory .now)
+    deviceOf (chorusOf (a .write-pos .now) (a .lfo-phases .now) (a .sample-rate)) (a .memory .now)
 
 -- the inner tick, with the state as the lent numbers have it and the ports as the mask has them
 module _ (c : tie.After-tick) where

@@ -1,11 +1,11 @@
 -- `room_raw_delay_reset` is `DelayLine::reset`, its state without the settings written back where it is accepted. Assumes nothing.
 use mathlib.Core.Path.{sym, _∙_}
 use borrow.Author.Needs.{needs}
-use Rattle.effect.specs.Run.{Device, reset, unitOf}
+use Rattle.effect.specs.Run.{Device, reset, deviceOf}
 use Rattle.delay_line.specs.declared.DelayLine.{DelayLine}
 use Rattle.delay_line.specs.DelayLine.{delayLine}
 use Rattle.delay_line.proofs.Demand1.{laws}
-use Rattle.room_effects.specs.Units.{isOn, delayOf}
+use Rattle.room_effects.specs.States.{isOn, delayOf}
 use Rattle.room_effects.proofs.Laws.{of-state, on-flag, written, unwritten, stored, kept, reset-settings}
 use Rattle.room_effects.proofs.delay_calls.room_raw_delay_reset.Statement.{statement}
 use Rattle.room_effects.proofs.delay_calls.room_raw_delay_reset.Tie as tie
@@ -14,7 +14,7 @@ use Rattle.room_effects.proofs.delay_calls.room_raw_delay_reset.Tie as 
 abbrev unit : tie.Start → Device DelayLine
 unit s =
     let a = s .args in
-    unitOf (delayOf (a .write-pos .now) (a .smoothed-delay .now) (isOn (a .delay-primed .now)) (a .sample-rate) (a .delay-smooth-coef) (a .max-delay-secs) (isOn (a .linear-time))) (a .memory .now)
+    deviceOf (delayOf (a .write-pos .now) (a .smoothed-delay .now) (isOn (a .delay-primed .now)) (a .sample-rate) (a .delay-smooth-coef) (a .max-delay-secs) (isOn (a .linear-time))) (a .memory .now)
 
 abbrev start : tie.After-reset → tie.Start
 start c = c .before .before .before .before .before .before

@@ -1,11 +1,11 @@
 -- `room_raw_delay_retune` is `DelayLine::set_sample_rate`, its state without maximum and mode, which it keeps, written back where it is accepted. Assumes nothing.
 use mathlib.Core.Path.{_≡_, refl, sym, ap, _∙_}
 use borrow.Author.Needs.{needs}
-use Rattle.effect.specs.Run.{Device, retune, numberAt, step, unitOf}
+use Rattle.effect.specs.Run.{Device, retune, numberAt, step, deviceOf}
 use Rattle.effect.proofs.Table.{ifNone-both}
 use Rattle.delay_line.specs.declared.DelayLine.{DelayLine}
 use Rattle.delay_line.specs.DelayLine.{Retune, delayLine, retuning}
-use Rattle.room_effects.specs.Units.{isOn, delayOf}
+use Rattle.room_effects.specs.States.{isOn, delayOf}
 use Rattle.room_effects.proofs.Laws.{of-state, on-flag, written, unwritten, stored, kept}
 use Rattle.room_effects.proofs.delay_calls.room_raw_delay_retune.Statement.{statement}
 use Rattle.room_effects.proofs.delay_calls.room_raw_delay_retune.Tie as tie
@@ -14,7 +14,7 @@ use Rattle.room_effects.proofs.delay_calls.room_raw_delay_retune.Tie as
 abbrev unit : tie.Start → Device DelayLine
 unit s =
     let a = s .args in
-    unitOf (delayOf (a .write-pos .now) (a .smoothed-delay .now) (isOn (a .delay-primed .now)) (a .sample-rate .now) (a .delay-smooth-coef .now) (a .max-delay-secs) (isOn (a .linear-time))) (a .memory .now)
+    deviceOf (delayOf (a .write-pos .now) (a .smoothed-delay .now) (isOn (a .delay-primed .now)) (a .sample-rate .now) (a .delay-smooth-coef .now) (a .max-delay-secs) (isOn (a .linear-time))) (a .memory .now)
 
 abbrev handed : tie.Start → Retune
 handed s = retuning (s .args .new-sample-rate) (s .args .new-delay-smooth-coef)

@@ -1,7 +1,7 @@
 -- `room_raw_delay_start` writes the state that `DelayLine::with_max_delay` gives, and returns its number. Assumes nothing.
 use borrow.Author.Needs.{needs}
 use Rattle.delay_line.specs.DelayLine.{delayLine}
-use Rattle.room_effects.specs.Units.{delayOf}
+use Rattle.room_effects.specs.States.{delayOf}
 use Rattle.room_effects.proofs.Laws.{on-flag, written, began}
 use Rattle.room_effects.proofs.delay_calls.room_raw_delay_start.Statement.{statement}
 use Rattle.room_effects.proofs.delay_calls.room_raw_delay_start.Tie as tie

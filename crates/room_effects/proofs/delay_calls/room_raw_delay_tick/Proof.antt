@@ -3,13 +3,13 @@ use mathlib.Core.Path.{sym, _∙_}
 use mathlib.Core.List.{[], _∷_}
 use borrow.Author.Needs.{needs}
 use Rattle.port.specs.Answer.{answerReply}
-use Rattle.effect.specs.Run.{Device, tick, unitOf}
+use Rattle.effect.specs.Run.{Device, tick, deviceOf}
 use Rattle.effect.specs.Contract.{Does}
 use Rattle.delay_line.specs.declared.DelayLine.{DelayLine}
 use Rattle.delay_line.specs.DelayLine.{Tick, delayLine, tickOf}
 use Rattle.delay_line.proofs.Demand1.{laws}
 use Rattle.room_effects.specs.Ports.{portAt}
-use Rattle.room_effects.specs.Units.{isOn, delayOf}
+use Rattle.room_effects.specs.States.{isOn, delayOf}
 use Rattle.room_effects.proofs.Laws.{of-state, of-tick, on-flag, written, unwritten, stored, kept, tick-settings, played}
 use Rattle.room_effects.proofs.delay_calls.room_raw_delay_tick.Statement.{statement}
 use Rattle.room_effects.proofs.delay_calls.room_raw_delay_tick.Tie as tie
@@ -23,7 +23,7 @@ handed s =
 abbrev unit : tie.Start → Device DelayLine
 unit s =
     let a = s .args in
-    unitOf (delayOf (a .write-pos .now) (a .smoothed-delay .now) (isOn (a .delay-primed .now)) (a .sample-rate) (a .delay-smooth-coef) (a .max-delay-secs) (isOn (a .linear-time))) (a .memory .now)
+    deviceOf (delayOf (a .write-pos .now) (a .smoothed-delay .now) (isOn (a .delay-primed .now)) (a .sample-rate) (a .delay-smooth-coef) (a .max-delay-secs) (isOn (a .linear-time))) (a .memory .now)
 
 -- the inner tick, with the ports as the mask has them
 module _ (c : tie.After-tick) where

@@ -1,6 +1,6 @@
 -- `room_raw_flanger_reset` is `Flanger::reset`, its state without the rate written back where it is accepted. Assumes nothing.
 use mathlib.Core.Path.{ap, sym, _∙_}
-use Rattle.effect.specs.Run.{reset, Device, unitOf}
+use Rattle.effect.specs.Run.{reset, Device, deviceOf}
 use Rattle.flanger.specs.declared.Flanger.{Flanger}
 use Rattle.flanger.specs.Flanger.{flanger, stateOf}
 use Rattle.flanger.proofs.Demand1.{laws}
@@ -13,7 +13,7 @@ use Rattle.room_effects.proofs.flanger_calls.room_raw_flanger_reset.Tie
 abbrev unit : tie.Start → Device Flanger
 unit s =
     let a = s .args in
-    unitOf (stateOf (a .write-pos .now) (a .lfo-phase .now) (a .sample-rate)) (a .memory .now)
+    deviceOf (stateOf (a .write-pos .now) (a .lfo-phase .now) (a .sample-rate)) (a .memory .now)
 
 returns : tie.Need-returns
 returns c =

@@ -1,7 +1,7 @@
 -- `room_raw_flanger_tick` is `Flanger::tick` with the ports of the mask, its state without the rate written back where it is accepted. Assumes nothing.
 use mathlib.Core.Path.{ap, sym, _∙_}
 use Rattle.port.specs.Answer.{answerReply}
-use Rattle.effect.specs.Run.{tick, Device, unitOf}
+use Rattle.effect.specs.Run.{tick, Device, deviceOf}
 use Rattle.effect.specs.Contract.{Does}
 use Rattle.flanger.specs.declared.Flanger.{Flanger}
 use Rattle.flanger.specs.Flanger.{flanger, Tick, tickOf, stateOf}
@@ -21,7 +21,7 @@ handed s =
 abbrev unit : tie.Start → Device Flanger
 unit s =
     let a = s .args in
-    unitOf (stateOf (a .write-pos .now) (a .lfo-phase .now) (a .sample-rate)) (a .memory .now)
+    deviceOf (stateOf (a .write-pos .now) (a .lfo-phase .now) (a .sample-rate)) (a .memory .now)
 
 -- the inner tick, with the ports as the mask has them
 module _ (c : tie.After-tick) where

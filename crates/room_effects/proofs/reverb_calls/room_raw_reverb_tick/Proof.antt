@@ -3,7 +3,7 @@ use mathlib.Core.Path.{refl}
 use mathlib.Core.List.{[], _∷_}
 use borrow.Author.Needs.{needs}
 use Rattle.port.specs.Answer.{answerReply}
-use Rattle.effect.specs.Run.{Device, tick, unitOf}
+use Rattle.effect.specs.Run.{Device, tick, deviceOf}
 use Rattle.effect.specs.Contract.{Does}
 use Rattle.reverb.specs.declared.Reverb.{Reverb}
 use Rattle.reverb.specs.Reverb.{Tick, reverb, tickOf, stateOf}
@@ -22,7 +22,7 @@ handed s =
 abbrev unit : tie.Start → Device Reverb
 unit s =
     let a = s .args in
-    unitOf (stateOf (a .comb-pos-l .now) (a .comb-pos-r .now) (a .comb-filter-state-l .now) (a .comb-filter-state-r .now) (a .allpass-pos-l .now) (a .allpass-pos-r .now) (a .predelay-pos .now) (a .sample-rate)) (a .memory .now)
+    deviceOf (stateOf (a .comb-pos-l .now) (a .comb-pos-r .now) (a .comb-filter-state-l .now) (a .comb-filter-state-r .now) (a .allpass-pos-l .now) (a .allpass-pos-r .now) (a .predelay-pos .now) (a .sample-rate)) (a .memory .now)
 
 -- the inner tick, with the ports as the mask has them
 module _ (c : tie.After-tick-in-place) where
@@ -33,7 +33,7 @@ module _ (c : tie.After-tick-in-place) where
   abbrev next : Device Reverb
   next =
       let l = c .tick-in-place .last in
-      unitOf (stateOf (l .0) (l .1 .0) (l .1 .1 .0) (l .1 .1 .1 .0) (l .1 .1 .1 .1 .0) (l .1 .1 .1 .1 .1 .0) (l .1 .1 .1 .1 .1 .1 .0) (start .args .sample-rate)) (l .1 .1 .1 .1 .1 .1 .1 .1 .0)
+      deviceOf (stateOf (l .0) (l .1 .0) (l .1 .1 .0) (l .1 .1 .1 .0) (l .1 .1 .1 .1 .0) (l .1 .1 .1 .1 .1 .0) (l .1 .1 .1 .1 .1 .1 .0) (start .args .sample-rate)) (l .1 .1 .1 .1 .1 .1 .1 .1 .0)
 
   does : Does reverb (tick (handed start)) (unit start .state) (unit start .memory) (next .state) (next .memory) (answerReply (c .tick-in-place .result))
   does =

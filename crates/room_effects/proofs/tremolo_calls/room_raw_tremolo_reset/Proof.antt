@@ -1,7 +1,7 @@
 -- `room_raw_tremolo_reset` is `Tremolo::reset`, its state without the rate written back where it is accepted. Assumes nothing.
 use mathlib.Core.Path.{ap, sym, _∙_}
 use mathlib.Core.List.{[]}
-use Rattle.effect.specs.Run.{reset, Device, unitOf}
+use Rattle.effect.specs.Run.{reset, Device, deviceOf}
 use Rattle.tremolo.specs.declared.Tremolo.{Tremolo}
 use Rattle.tremolo.specs.Tremolo.{tremolo, stateOf}
 use Rattle.tremolo.proofs.Demand1.{laws}
@@ -14,7 +14,7 @@ use Rattle.room_effects.proofs.tremolo_calls.room_raw_tremolo_reset.Tie
 abbrev unit : tie.Start → Device Tremolo
 unit s =
     let a = s .args in
-    unitOf (stateOf (a .lfo-phase .now) (a .sample-rate)) []
+    deviceOf (stateOf (a .lfo-phase .now) (a .sample-rate)) []
 
 returns : tie.Need-returns
 returns c =

@@ -2,7 +2,7 @@
 use mathlib.Core.Path.{ap, sym, _∙_}
 use mathlib.Core.List.{[], _∷_}
 use Rattle.port.specs.Answer.{answerReply}
-use Rattle.effect.specs.Run.{tick, Device, unitOf}
+use Rattle.effect.specs.Run.{tick, Device, deviceOf}
 use Rattle.effect.specs.Contract.{Does}
 use Rattle.tremolo.specs.declared.Tremolo.{Tremolo}
 use Rattle.tremolo.specs.Tremolo.{tremolo, Tick, tickOf, stateOf}
@@ -22,7 +22,7 @@ handed s =
 abbrev unit : tie.Start → Device Tremolo
 unit s =
     let a = s .args in
-    unitOf (stateOf (a .lfo-phase .now) (a .sample-rate)) []
+    deviceOf (stateOf (a .lfo-phase .now) (a .sample-rate)) []
 
 -- the inner tick, with the ports as the mask has them
 module _ (c : tie.After-tick) where

@@ -2,7 +2,7 @@
 use mathlib.Core.Path.{ap, sym, _∙_}
 use mathlib.Core.List.{[], _∷_}
 use Rattle.port.specs.Answer.{answerReply}
-use Rattle.effect.specs.Run.{tick, Device, unitOf}
+use Rattle.effect.specs.Run.{tick, Device, deviceOf}
 use Rattle.effect.specs.Contract.{Does}
 use Rattle.vibrato.specs.declared.Vibrato.{Vibrato}
 use Rattle.vibrato.specs.Vibrato.{vibrato, Tick, tickOf, stateOf}
@@ -22,7 +22,7 @@ handed s =
 abbrev unit : tie.Start → Device Vibrato
 unit s =
     let a = s .args in
-    unitOf (stateOf (a .write-pos .now) (a .lfo-phase .now) (a .sample-rate)) (a .memory .now)
+    deviceOf (stateOf (a .write-pos .now) (a .lfo-phase .now) (a .sample-rate)) (a .memory .now)
 
 -- the inner tick, with the ports as the mask has them
 module _ (c : tie.After-tick) where
