@@ -86,7 +86,7 @@ static double control(void)
     }
 }
 
-/* The audio may be any float; tame most of the time, so that lines that feed back are not full of NaN at once. */
+/* The audio may be any float; from -1 to 1 most of the time, so that lines that feed back are not full of NaN at once. */
 static double audio(void)
 {
     return one_in(12) ? any_float() : one_in(3) ? 0.0 : from_to(-1.0, 1.0);
