@@ -96,8 +96,8 @@
  * What calls cost
  *
  * A tick takes some 5 ns (tremolo) to 35 ns (reverb at 44,100 to 96,000) on an AMD EPYC, whatever the length of the lines, but
- * for two. The reverb takes 48 ns at rates whose lengths are not at hand (at hand are 44,100, 48,000, 88,200, 96,000, 176,400
- * and 192,000), and more above some 130,000, where more than eight of its combs are equally long and fall into one set of the
+ * for two. The reverb takes 48 to 55 ns at rates whose lengths are not at hand (at hand are 44,100, 48,000, 88,200, 96,000,
+ * 176,400 and 192,000), and more above some 130,000, where more than eight of its combs are equally long and fall into one set of the
  * cache; from 161,819 on all sixteen are. At 150,000, 176,400 and 192,000 it took 2.2 to 2.3 times as long as at 96,000, some
  * 80 ns, and at 162,000, whose lengths are not at hand, 2.6 times. A delay whose time is swept over a line that no cache
  * holds takes up to 100 ns. Start, retune and reset write all places that are lent, at memset's speed; silent reads the places
