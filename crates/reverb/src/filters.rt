@@ -5,7 +5,7 @@ ghost use lib.ListN as ListN;
 ghost use lib.Ieee.{nan};
 ghost use Rattle.reverb.specs.Tunings.{combSize, allpassSize, predelaySize};
 ghost use Rattle.reverb.specs.Freeverb.{combed, combLine, passed, passLine};
-ghost use Rattle.reverb.specs.Tank.{predelayStart, tankSize, delayed};
+ghost use Rattle.reverb.specs.Tank.{delayed};
 ghost use Rattle.reverb.specs.Reverb.{delaySamples};
 use crate::Reverb;
 
@@ -134,15 +134,14 @@ fn process_predelay(line: &mut [f64], pos: u64, samples: u64, input: f64) -> f64
     line[back]
 }
 
-// The predelay, in the tank.
-pub fn predelay(mem: &mut [f64], pos: u64, samples: u64, input: f64) -> f64
+// The predelay whose part of the tank starts at place o.
+pub fn predelay_at(mem: &mut [f64], o: usize, pos: u64, samples: u64, input: f64) -> f64
     requires { ⌜ pos < predelaySize ⌝ }
     requires { ⌜ samples < predelaySize ⌝ }
-    requires { ⌜ tankSize ≤ ListN.length (now mem) ⌝ }
-    ensures { λ r. ⌜ r ≡ delayed predelayStart pos samples input (now (mem .entry)) ⌝ }
-    ensures { λ _. ⌜ now (mem .exit) ≡ ListN.set (now (mem .entry)) (predelayStart + pos) input ⌝ }
+    requires { ⌜ o + predelaySize ≤ ListN.length (now mem) ⌝ }
+    ensures { λ r. ⌜ r ≡ delayed o pos samples input (now (mem .entry)) ⌝ }
+    ensures { λ _. ⌜ now (mem .exit) ≡ ListN.set (now (mem .entry)) (o + pos) input ⌝ }
 {
-    let o = Reverb::PREDELAY;
-    let e = Reverb::END;
+    let e = o + Reverb::MAX_PREDELAY_SIZE;
     process_predelay(&mut mem[o..e], pos, samples, input)
 }

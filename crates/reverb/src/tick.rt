@@ -12,7 +12,7 @@ ghost use Rattle.reverb.specs.Tank.{tankSize};
 ghost use Rattle.reverb.specs.Reverb.{reverb, tickOf, controlsOf, stateOf, stateFits, Advances};
 use crate::Reverb;
 use crate::Ticked;
-use crate::filters::predelay;
+use crate::filters::predelay_at;
 use crate::filters::predelay_samples;
 use crate::tank::allpasses;
 use crate::tank::combs;
@@ -80,7 +80,7 @@ pub fn advance(
     let wet = float64::clamp(c.mix, 0.0, 1.0);
     let samples = predelay_samples(float64::clamp(c.predelay, 0.0, 1.0), rate);
     let w = *predelay_pos;
-    let delayed = predelay(mem, w, samples, input);
+    let delayed = predelay_at(mem, Reverb::PREDELAY, w, samples, input);
     *predelay_pos = common::next_place(Reverb::MAX_PREDELAY_SIZE as u64, w);
     let sums = combs(
         comb_pos_l,

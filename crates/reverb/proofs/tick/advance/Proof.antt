@@ -49,9 +49,9 @@ clamp-requires-4 c κs = tt
 predelay-samples-requires : tie.Need-predelay-samples-requires
 predelay-samples-requires c κs = tt
 
-predelay-requires : tie.Need-predelay-requires
+predelay-at-requires : tie.Need-predelay-at-requires
 unfolding Ieee.fits le ofBits ofInt
-predelay-requires c κs =
+predelay-at-requires c κs =
     let s = c .before .before .before .before .before .before .before .before .before in
     let a = s .args in
     let control = clamp-in (a .c .predelay) tt tt (s .pre .1 .1 .1) in (
@@ -60,22 +60,22 @@ predelay-requires c κs =
     )
 
 -- what the predelay leaves and passes on, and the controls
-module _ (p : tie.After-predelay) where
+module _ (p : tie.After-predelay-at) where
   abbrev start : tie.Start
   start = p .before .before .before .before .before .before .before .before .before .before
 
   audio-is : p .before .before .before .before .before .before .before .before .sanitize-audio .result ≡ input (start .args .c)
   audio-is = p .before .before .before .before .before .before .before .before .sanitize-audio .ensures
 
-  first-is : p .predelay .last .0 ≡ m1 (start .args .c) (self start) (start .args .mem .now) (unit start)
-  first-is = p .predelay .ensures .1 ∙ ap (λ (x : Float). set (start .args .mem .now) (predelayStart + start .args .predelay-pos .now) x) audio-is
+  first-is : p .predelay-at .last .0 ≡ m1 (start .args .c) (self start) (start .args .mem .now) (unit start)
+  first-is = p .predelay-at .ensures .1 ∙ ap (λ (x : Float). set (start .args .mem .now) (predelayStart + start .args .predelay-pos .now) x) audio-is
 
-  into-is : p .predelay .result ≡ predelayed (start .args .c) (self start) (start .args .mem .now)
+  into-is : p .predelay-at .result ≡ predelayed (start .args .c) (self start) (start .args .mem .now)
   unfolding ofBits ofInt
   into-is =
       let a = start .args in
       let samples = p .before .before .before .predelay-samples .ensures ∙ ap (λ (x : Float). delaySamples x (a .rate)) (p .before .before .before .before .clamp4 .ensures) in
-      p .predelay .ensures .0 ∙ (λ i. delayed predelayStart (a .predelay-pos .now) (samples i) (audio-is i) (a .mem .now))
+      p .predelay-at .ensures .0 ∙ (λ i. delayed predelayStart (a .predelay-pos .now) (samples i) (audio-is i) (a .mem .now))
 
   mixed-is : p .before .before .before .before .before .clamp3 .result ≡ page.mix (start .args .c)
   unfolding ofBits ofInt
@@ -136,4 +136,4 @@ returns c =
     (c .blend2 .ensures ∙ (λ i. blended (audio-is p i) (q .allpasses .result .right) (mixed-is p i)))
 
 pub advance-spec : {M : Type 1} → statement M
-advance-spec = tie.close (tie.spec sanitize-audio-requires clamp-requires clamp-requires-2 clamp-requires-3 clamp-requires-4 predelay-samples-requires predelay-requires next-place-requires combs-requires allpasses-requires blend-requires blend-requires-2 same-length returns)
+advance-spec = tie.close (tie.spec sanitize-audio-requires clamp-requires clamp-requires-2 clamp-requires-3 clamp-requires-4 predelay-samples-requires predelay-at-requires next-place-requires combs-requires allpasses-requires blend-requires blend-requires-2 same-length returns)
