@@ -7,12 +7,12 @@ use mathlib.Core.Path.{_≡_, refl, ap, _∙_}
 use mathlib.Core.Logic.{_≢_}
 use mathlib.Core.Bool.{Bool, true, false, _&&_, _||_, cond}
 use mathlib.Core.List.{List}
-use lib.Dec.{T, ltb}
+use lib.Dec.{ltb}
 use lib.ListN.{length, take, drop, length-drop}
 use lib.Seq.{length-take-le}
 use lib.Ieee.{Float, binary64, fits, isNan, mul, div, le, lt, ofInt}
 use borrow.Author.Tests.{not-false, le-ltb}
-use Rattle.float64.specs.Number.{plusZero, floatOf, isNumber, rateFits, clampOf, atLeast, atMost}
+use Rattle.float64.specs.Number.{plusZero, floatOf, Small, isNumber, rateFits, clampOf, atLeast, atMost}
 use Rattle.float64.proofs.Order.{le-lt-lt, le-transitive, le→not-lt}
 use Rattle.float64.proofs.Interval.{In, hi-fits, point, mul-in, div-in}
 use Rattle.float64.proofs.Ranges.{rate-in, range-in}
@@ -66,9 +66,9 @@ swept-in rate milliseconds h k = div-in (floatOf 8) (floatOf 19200) tt tt tt (mu
 -- ---- distances
 
 -- a number of samples from 1 on is small enough for the quick whole part
-pub small : {x : Float} → In binary64 (floatOf 1) (floatOf 16777216) x → T (le (floatOf 1) x) × T (lt x (floatOf 9007199254740992))
+pub small : {x : Float} → In binary64 (floatOf 1) (floatOf 16777216) x → Small x
 unfolding fits le lt ofInt
-small {x} i = (i .lower, le-lt-lt binary64 x (floatOf 16777216) (floatOf 9007199254740992) (i .fit) tt tt (i .upper) tt)
+small {x} i = (i .lower, le-lt-lt binary64 x (floatOf 16777216) (floatOf (2 ^ 52)) (i .fit) tt tt (i .upper) tt)
 
 -- the last place of a line is not below 1
 pub last-above : (M : ℕ) → M ≤ 2 ^ 24 → 1 ≤ M → lt (floatOf M) (floatOf 1) ≡ false

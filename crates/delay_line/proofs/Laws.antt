@@ -12,7 +12,7 @@ use lib.Ieee as Ieee
 use lib.Ieee.Bits.{is-true}
 use lib.Ieee.Positive.{positive, between}
 use borrow.Author.Tests.{ltb-true, lt-ltb}
-use Rattle.float64.specs.Number.{plusZero, floatOf, fraction, half, isNumber, isFinite, inRange, rateFits, coefficientFits, clampOf}
+use Rattle.float64.specs.Number.{plusZero, floatOf, fraction, half, isNumber, isFinite, inRange, rateFits, coefficientFits, clampOf, Small}
 use Rattle.float64.proofs.Tests.{clash, both}
 use Rattle.float64.proofs.Interval.{In, mul-in}
 use Rattle.float64.proofs.Ranges.{rate-in, range-in, in-range, in-number, finite-number}
@@ -55,7 +55,7 @@ module _ (rate maximum : Float) (h : rateFits rate ≡ true) (k : maximumFits ma
   length-fits = let l = line-length rate h (maximum-in k) in (omega (arith, l .0), l .1)
 
   -- rate × maximum is small enough for the quick whole part
-  pub samples-small : T (le (floatOf 1) (mul binary64 rate maximum)) × T (lt (mul binary64 rate maximum) (floatOf 9007199254740992))
+  pub samples-small : Small (mul binary64 rate maximum)
   unfolding Ieee.fits le lt mul ofInt round
   samples-small = small (mul-in (floatOf 1) (floatOf 16777216) tt tt tt (rate-in h) (maximum-in k))
 

@@ -70,3 +70,20 @@ at-most-in {lo} {top} {x} hi t h i =
     go : (b : Bool) → (T (not b) → T (le x hi)) → In binary64 lo hi (cond b hi x)
     go true k = box t u h (le-reflexive binary64 hi u q)
     go false k = box t (i .fit) (i .lower) (k tt)
+
+-- ... whatever it was, if it is a number then
+pub at-most-le : (x hi : Float) → T (fits binary64 x) → T (fits binary64 hi) → T (not (isNan hi)) → T (not (isNan (atMost x hi))) → T (le (atMost x hi) hi)
+unfolding atMost
+at-most-le x hi f u q n = go (lt hi x) n (λ (p : T (not (isNan x))). not-lt→le binary64 hi x u f q p)
+  where
+    go : (b : Bool) → T (not (isNan (cond b hi x))) → (T (not (isNan x)) → T (not b) → T (le x hi)) → T (le (cond b hi x) hi)
+    go true m k = le-reflexive binary64 hi u q
+    go false m k = k m tt
+
+pub at-most-fits : (x hi : Float) → T (fits binary64 x) → T (fits binary64 hi) → T (fits binary64 (atMost x hi))
+unfolding atMost
+at-most-fits x hi f u = go (lt hi x)
+  where
+    go : (b : Bool) → T (fits binary64 (cond b hi x))
+    go true = u
+    go false = f

@@ -60,6 +60,9 @@ module _ {f : Format} {x y : Float} {i j : ℕ} (a : At f x (cap f + i)) (b : At
   pub le-of-size : i ≤ j → T (le x y)
   le-of-size h = le-of a b (omega arith)
 
+  pub lt-of-size : i < j → T (lt x y)
+  lt-of-size h = lt-of a b (omega arith)
+
   pub size-of-le : T (le x y) → i ≤ j
   size-of-le h = omega (arith, of-le a b h)
 

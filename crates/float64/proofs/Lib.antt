@@ -15,7 +15,7 @@ pub mod Glide
 pub mod Parts
 pub mod Lengths
 pub mod Rounding
-pub mod Digits
+pub mod Fields
 pub mod Tests
 pub mod Absolute
 pub mod Equal

@@ -1,4 +1,4 @@
--- The whole part of a value x from 1 to a whole number M of at most 2 ^ 24: 1 ≤ whole part ≤ M, and x is below 2 ^ 53. And what is clamped to 1 .. M lies
+-- The whole part of a value x from 1 to a whole number M of at most 2 ^ 24: 1 ≤ whole part ≤ M, and x is below 2 ^ 52. And what is clamped to 1 .. M lies
 -- there; whole numbers keep their order. Assumes nothing.
 use mathlib.Core.Path.{_≡_, sym}
 use mathlib.Core.Bool.{true, _&&_}
@@ -9,7 +9,7 @@ use lib.Dec.{T, lit<}
 use lib.Ieee.{Float, binary64, fits, le, lt, ofInt}
 use lib.Ieee.Fits.{and-i}
 use lib.Ieee.Scale.{finite}
-use Rattle.float64.specs.Number.{plusZero, floatOf, wholePart, isNumber, clampOf}
+use Rattle.float64.specs.Number.{plusZero, floatOf, wholePart, Small, isNumber, clampOf}
 use Rattle.float64.proofs.Units.{one, one-pos}
 use Rattle.float64.proofs.Keys.{le-of-size, ofInt-at}
 use Rattle.float64.proofs.Order.{plusZero-at, le-lt-lt, le-transitive}
@@ -20,7 +20,7 @@ use Rattle.float64.proofs.Clamped.{clamp-in}
 pub record Parts (M : ℕ) (x : Float) : Type 0 where
   pub at-least : 1 ≤ wholePart x
   pub at-most : wholePart x ≤ M
-  pub small : T (lt x (floatOf 9007199254740992))
+  pub small : Small x
 
 module _ (M : ℕ) (h : M ≤ 2 ^ 24) where
   wide : M < 2 ^ 53
@@ -54,7 +54,7 @@ module _ (M : ℕ) (h : M ≤ 2 ^ 24) where
       record {
         at-least = le-trans (le-div-iff-mul-le (one-pos B) .1 (le-trans (le-of-eq (one-mul o)) (k .low))) (le-of-eq (sym e));
         at-most = le-trans (le-of-eq e) (whole-le M wide (k .high) x');
-        small = le-lt-lt B x (floatOf 16777216) (floatOf 9007199254740992) (i .fit) tt tt top tt;
+        small = (i .lower, le-lt-lt B x (floatOf 16777216) (floatOf (2 ^ 52)) (i .fit) tt tt top tt);
       }
 
 -- a whole number between two others lies between them as a float

@@ -30,11 +30,15 @@ pub number-num : (x : Float) → isNumber x ≡ true → T (not (isNan x))
 unfolding isNumber
 number-num x h = and-r (fits binary64 x) (not (isNan x)) (yes h)
 
+pub finite-parts : (x : Float) → isFinite x ≡ true → T (fits binary64 x) × T (finite x)
+unfolding isFinite
+finite-parts x h = (and-l (fits binary64 x) (finite x) (yes h), and-r (fits binary64 x) (finite x) (yes h))
+
 pub finite-number : (x : Float) → isFinite x ≡ true → isNumber x ≡ true
-unfolding isFinite isNumber
+unfolding isNumber
 finite-number x h =
-    let f = and-l (fits binary64 x) (finite x) (yes h) in
-    passed (fits binary64 x && not (isNan x)) (and-i (fits binary64 x) (not (isNan x)) f (finite-num x (and-r (fits binary64 x) (finite x) (yes h))))
+    let f = finite-parts x h in
+    passed (fits binary64 x && not (isNan x)) (and-i (fits binary64 x) (not (isNan x)) (f .0) (finite-num x (f .1)))
 
 pub in-number : {lo hi x : Float} → In binary64 lo hi x → isNumber x ≡ true
 unfolding isNumber

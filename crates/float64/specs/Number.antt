@@ -1,9 +1,9 @@
 -- The numbers of the room effects: IEEE 754 binary64 values, and what the helpers on them answer. Definitions only.
 -- Two floats are equal here as data: every NaN is the one `nan`, and +0 and −0 differ. Assumes nothing.
-use Prim.Native.Nat.{ℕ, _+_, _-_, _*_, _/_, _^_, min}
+use Prim.Native.Nat.{ℕ, _+_, _-_, _*_, _/_, _%_, _^_, min}
 use mathlib.Core.Bool.{Bool, false, not, cond, _&&_}
 use lib.IntN.{pos}
-use lib.Dec.{eqb}
+use lib.Dec.{T, eqb}
 use lib.Ieee.{Float, nan, inf, fin, binary64, round, ofInt, neg, sub, lt, le, toUnsigned, up, down, fits, isNan, toBits}
 use lib.Ieee.Scale.{finite}
 
@@ -89,6 +89,20 @@ absolute (fin s m e) = fin false m e
 -- the whole part, as the Rust's `as usize`: toward zero, held to 0 .. 2 ^ 64 − 1, and 0 for a NaN
 abbrev pub wholePart : Float → ℕ
 wholePart x = toUnsigned 64 x
+
+-- the exponent field of an f64, and the 53-bit significand by a pattern whose field is neither 0 nor 2047: the 52 bits that are stored, under a leading one
+abbrev pub exponentField : Float → ℕ
+exponentField x = toBits binary64 x % 2 ^ 63 / 2 ^ 52
+
+abbrev pub significandOf : ℕ → ℕ
+significandOf bits = 2 ^ 52 + bits % 2 ^ 52
+
+abbrev pub significand : Float → ℕ
+significand x = significandOf (toBits binary64 x)
+
+-- From 1 to below 2 ^ 52: the exponent field is from 1,023 to 1,074, so that there is a whole part and there are fraction bits.
+abbrev pub Small : Float → Type 0
+Small x = T (le (floatOf 1) x) × T (lt x (floatOf (2 ^ 52)))
 
 -- the fraction that the whole part leaves
 abbrev pub fractionPart : Float → Float

@@ -1,9 +1,14 @@
 // Helpers on f64 that the Rust has in its library: clamp, whole part, rounding, range tests.
 ghost use mathlib.Core.Path.{_≡_};
 ghost use mathlib.Core.Bool.{not};
-ghost use lib.Dec.{T};
-ghost use lib.Ieee as Ieee;
-ghost use Rattle.float64.specs.Number.{floatOf, isNumber, isFinite, inRange, inUnit, isPlusZero, rateFits, coefficientFits, phaseFits, frequencyFits, sineFits, clampOf, atLeast, atMost, absolute, wholePart, roundHalfAway};
+ghost use Rattle.float64.specs.Number.{floatOf, isNumber, isFinite, inRange, inUnit, isPlusZero, rateFits, coefficientFits, phaseFits, frequencyFits, sineFits, clampOf, atLeast, atMost, absolute, wholePart, significandOf, Small, roundHalfAway};
+
+// IEEE 754's exponent field, the eleven bits under the sign. The field of 1.0: a number with a lower one is below one.
+const FIELD_OF_ONE: u64 = 1023;
+// The field of 2^52, from where on the significand's last bit weighs one or more: no bit is left for a fraction.
+const FIELD_WITHOUT_FRACTION: u64 = 1075;
+// The field of 2^64, the least number that a u64 does not hold.
+const FIELD_BEYOND_U64: u64 = 1087;
 
 // Whether x is a NaN.
 pub fn is_nan(x: f64) -> bool
@@ -120,27 +125,42 @@ pub fn from_u32(n: u32) -> f64
     n as f64
 }
 
-// The whole part of a number from 1 to below 2^53: the digits, shifted. Reads and line lengths use it; `whole_part` is total and costs more.
+// The 53-bit significand of a number whose exponent field is neither 0 nor 2047, by its bits: the 52 that are stored, under a leading one.
+fn significand(bits: u64) -> u64
+    ensures { λ r. ⌜ r ≡ significandOf bits ⌝ }
+{
+    (bits & 0xf_ffff_ffff_ffff) | 0x10_0000_0000_0000
+}
+
+// The whole part of a number from 1 to below 2^52, whose field is from 1,023 to 1,074: the second case of `whole_part`, which calls it there. Reads and line
+// lengths, whose range is known, call it alone.
 pub fn whole_part_small(x: f64) -> u64
-    requires { ⌜ T (Ieee.le (floatOf 1) x) ⌝ ∗ ⌜ T (Ieee.lt x (floatOf 9007199254740992)) ⌝ }
+    requires { ⌜ Small x ⌝ }
     ensures { λ r. ⌜ r ≡ wholePart x ⌝ }
 {
     let bits: u64 = f64::to_bits(x);
-    let exponent: u64 = bits >> 52;
-    let digits: u64 = (bits & 0xf_ffff_ffff_ffff) | 0x10_0000_0000_0000;
-    digits >> (1075 - exponent)
+    significand(bits) >> (FIELD_WITHOUT_FRACTION - (bits >> 52))
 }
 
-// The Rust's `x as usize`: toward zero, held to 0..=2^64 - 1, and 0 for a NaN. No effect meets a number of 2^53 or more.
+// The Rust's `x as usize`: toward zero, held to 0..=2^64 - 1, and 0 for a NaN; by the cases of the exponent field.
 pub fn whole_part(x: f64) -> u64
     ensures { λ r. ⌜ r ≡ wholePart x ⌝ }
 {
-    if x >= 1.0 {
-        if x < 9007199254740992.0 {
+    // A NaN's bits may not be asked for, and a sign would stand above the field.
+    if 0.0 < x {
+        let bits: u64 = f64::to_bits(x);
+        let field: u64 = bits >> 52;
+        // Below one.
+        if field < FIELD_OF_ONE {
+            return 0;
+        }
+        // To the last exponent with fraction bits.
+        if field < FIELD_WITHOUT_FRACTION {
             return whole_part_small(x);
         }
-        if x < 18446744073709551616.0 {
-            return std::num::truncating_f64_to_u64(x);
+        // Above: no fraction.
+        if field < FIELD_BEYOND_U64 {
+            return significand(bits) << (field - FIELD_WITHOUT_FRACTION);
         }
         return 18446744073709551615;
     }

@@ -1,21 +1,25 @@
 -- The predelay by its cases: a delay of 0, and one that does not or does go past the line's start; it is less than the line at every control and rate.
 -- Assumes nothing.
-use Prim.Native.Nat.{ℕ, _-_, _≤_, _<_}
+use Prim.Native.Nat.{ℕ, _-_, _^_, _≤_, _<_}
 use native.Mathlib.Omega.{arith}
 use native.Mathlib.Nat.{zero-add}
 use mathlib.Core.Path.{_≡_, sym, ap, _∙_}
 use mathlib.Core.Logic.{_≢_}
-use mathlib.Core.Bool.{true}
+use mathlib.Core.Bool.{true, false}
 use mathlib.Core.List.{List}
 use lib.ListN.{getD, set, take, drop}
 use lib.Seq.{getD-set-other}
+use lib.Dec.{T}
 use lib.Ieee.{Float, nan, binary64, mul, le, lt, ofInt, round, toUnsigned}
 use lib.Ieee as Ieee
 use borrow.Author.Tests.{eq-eqb, ne-eqb}
-use Rattle.float64.specs.Number.{plusZero, floatOf, fraction, rateFits}
+use Rattle.float64.specs.Number.{plusZero, floatOf, fraction, rateFits, atMost, wholePart, Small}
 use Rattle.float64.proofs.Interval.{In, point, mul-in, cut-in}
-use Rattle.float64.proofs.Ranges.{rate-in}
-use Rattle.float64.proofs.Clamped.{at-most-in}
+use Rattle.float64.proofs.Keys.{le-num-r}
+use Rattle.float64.proofs.Order.{le-lt-lt}
+use Rattle.float64.proofs.Ranges.{yes, rate-in}
+use Rattle.float64.proofs.Clamped.{at-most-in, at-most-le, at-most-fits}
+use Rattle.float64.proofs.Fields.{whole-under-one}
 use Rattle.common.specs.Line.{lineAt, place}
 use Rattle.common.proofs.Ring.{place-low, place-high, place-other, part-at}
 use Rattle.reverb.specs.Tunings.{predelaySize}
@@ -30,6 +34,24 @@ delay-less control rate i h =
     let x = mul-in plusZero (floatOf 19200) tt tt tt (mul-in plusZero (fraction 1 10) tt tt tt i (point (fraction 1 10) tt)) (rate-in h) in
     let c = cut-in 64 tt (at-most-in (floatOf (predelaySize - 1)) tt tt x) in
     omega (arith, c .1)
+
+-- any number of samples, held to the longest delay: from 1 on it is where the quick whole part serves, below 1 nothing is left
+module _ (x : Float) (f : T (Ieee.fits binary64 x)) where
+  abbrev held : Float
+  held = atMost x (floatOf (predelaySize - 1))
+
+  held-fits : T (Ieee.fits binary64 held)
+  unfolding Ieee.fits ofInt
+  held-fits = at-most-fits x (floatOf (predelaySize - 1)) f tt
+
+  pub held-small : le (floatOf 1) held ≡ true → Small held
+  unfolding Ieee.fits Ieee.isNan le lt ofInt
+  held-small h =
+      let l = at-most-le x (floatOf (predelaySize - 1)) f tt tt (le-num-r (floatOf 1) held (yes h)) in
+      (yes h, le-lt-lt binary64 held (floatOf (predelaySize - 1)) (floatOf (2 ^ 52)) held-fits tt tt l tt)
+
+  pub held-none : le (floatOf 1) held ≡ false → wholePart held ≡ 0
+  held-none h = whole-under-one held held-fits h
 
 -- ---- what comes out
 

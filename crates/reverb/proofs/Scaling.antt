@@ -5,12 +5,12 @@ use native.Mathlib.Omega.{arith}
 use mathlib.Core.Path.{_≡_, refl, sym, subst}
 use mathlib.Core.Bool.{true, _&&_}
 use mathlib.Core.List.{List, [], _∷_, map}
-use lib.Dec.{T, leb}
+use lib.Dec.{leb}
 use lib.ListN.{length, getD, replicate, length-map}
 use lib.Ieee.{Float, binary64, mul, div, le, lt, ofInt, round, toUnsigned}
 use lib.Ieee as Ieee
 use borrow.Author.Tests.{leb-true, lt-ltb}
-use Rattle.float64.specs.Number.{floatOf, fraction, inRange, rateFits, wholePart}
+use Rattle.float64.specs.Number.{floatOf, fraction, inRange, rateFits, wholePart, Small}
 use Rattle.float64.proofs.Tests.{both}
 use Rattle.float64.proofs.Interval.{In, point, mul-in, div-in, cut-in}
 use Rattle.float64.proofs.Ranges.{rate-in, range-in, in-range}
@@ -39,7 +39,7 @@ module _ (r : Float) (base : ℕ) (low : leastTuning ≤ base) (high : base ≤ 
   product-cut = cut-in 64 tt product-in .1
 
   -- it is small enough for the quick whole part
-  pub product-small : T (le (floatOf 1) (mul binary64 (floatOf base) r)) × T (lt (mul binary64 (floatOf base) r) (floatOf 9007199254740992))
+  pub product-small : Small (mul binary64 (floatOf base) r)
   product-small = small product-in
 
 -- so is its whole part at least 1, under any cap, and beside it too

@@ -105,11 +105,15 @@ pub fn allpass_at(mem: &mut [f64], o: usize, pos: u64, input: f64, n: u64) -> Pa
     process_allpass(&mut mem[o..e], pos, input, n)
 }
 
-// The predelay's delay in samples.
+// The predelay's delay in samples. Of a number below 1 nothing is left; from 1 to the cap the quick whole part serves.
 pub fn predelay_samples(control: f64, rate: f64) -> u64
     ensures { λ r. ⌜ r ≡ delaySamples control rate ⌝ }
 {
-    float64::whole_part(float64::at_most(control * 0.1 * rate, Reverb::MAX_PREDELAY_SAMPLES))
+    let samples = float64::at_most(control * 0.1 * rate, Reverb::MAX_PREDELAY_SAMPLES);
+    if samples >= 1.0 {
+        return float64::whole_part_small(samples);
+    }
+    0
 }
 
 // The predelay on its part of the tank: it writes first, so that a delay of 0 passes the audio itself.

@@ -39,7 +39,7 @@ in-line c =
     under r d n e h k = omega arith
 
 whole-part-small-requires : tie.Need-whole-part-small-requires
-whole-part-small-requires c κs = (distance-in (c .before) .lower, parts (c .before) .small)
+whole-part-small-requires c κs = parts (c .before) .small
 
 cast-from-u32 : tie.Need-cast-from-u32
 cast-from-u32 c = omega (arith, in-line c .1, c .before .before .pre .1 .0)

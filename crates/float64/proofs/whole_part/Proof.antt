@@ -1,38 +1,50 @@
--- `float64::whole_part`: below 1 nothing, below 2 ^ 53 by the digits, from there on by the library's cast where that is defined. Assumes nothing.
-use mathlib.Core.Path.{_≡_, sym, subst}
-use mathlib.Core.Bool.{true}
+-- `float64::whole_part`: what is not above 0 has none; else the case of its exponent field, branch by branch. Assumes nothing.
+use mathlib.Core.Path.{sym, ap, _∙_, subst}
+use Prim.Native.Nat.{ℕ, _-_, _*_, _/_, _%_, _^_}
 use lib.Dec.{T}
-use lib.Ieee.{Float, binary64, fits, le, lt, neg, ofBits, ofInt}
-use lib.Ieee.Bits.{is-true}
-use Rattle.std.proofs.num.Truncating.{below-one, under-one}
+use lib.Ieee.{binary64, fits, toBits, ofBits, lt}
 use borrow.Author.Needs.{needs}
-use Rattle.float64.specs.Number.{floatOf}
-use Rattle.float64.proofs.Order.{lt-le-lt}
-use Rattle.float64.proofs.Tests.{whole-high}
+use Rattle.float64.specs.Number.{plusZero}
+use Rattle.float64.proofs.Ranges.{yes}
+use Rattle.float64.proofs.Fields.{is-no-nan, whole-none, whole-below-one, small, whole-above, whole-held}
 use Rattle.float64.proofs.whole_part.Statement.{statement}
 use Rattle.float64.proofs.whole_part.Tie as tie
 
--- a number from 1 on lies above −1, from where the cast is defined
-above : (x : Float) → fits binary64 x ≡ true → le (floatOf 1) x ≡ true → T (lt (neg (floatOf 1)) x)
-unfolding fits lt neg ofInt
-above x f h = lt-le-lt binary64 (neg (floatOf 1)) (floatOf 1) x tt tt (subst T (sym f) tt) tt (subst T (sym h) tt)
+held : (c : tie.Start) → T (fits binary64 (c .args .x))
+held c = subst T (sym (c .good .0 .1)) tt
+
+-- the start, in the branch of a number above 0
+abbrev s : tie.Then1 → tie.Start
+s c = c .before
+
+positive : (c : tie.Then1) → T (lt plusZero (s c .args .x))
+unfolding ofBits
+positive c = yes (c .if1 .taken)
+
+float-to-bits-bits : tie.Need-float-to-bits-bits
+float-to-bits-bits c = is-no-nan (s c .args .x) (held (s c)) (positive c)
+
+returns : tie.Need-returns
+returns c = let t = c .before in sym (whole-below-one (s t .args .x) (held (s t)) (positive t) (c .if2 .taken))
 
 whole-part-small-requires : tie.Need-whole-part-small-requires
-unfolding ofBits ofInt
-whole-part-small-requires c κs = (subst T (sym (c .before .if1 .taken)) tt, subst T (sym (c .if2 .taken)) tt)
-
-truncating-f64-to-u64-requires : tie.Need-truncating-f64-to-u64-requires
-unfolding ofBits ofInt neg
-truncating-f64-to-u64-requires c κs = let s = c .before .before .before in (above (s .args .x) (s .good .0 .1) (c .before .before .if1 .taken), subst T (sym (c .if3 .taken)) tt)
+whole-part-small-requires c κs =
+    let t = c .before .before in small (s t .args .x) (held (s t)) (positive t) (c .before .if2 .left) (c .if3 .taken)
 
 returns-3 : tie.Need-returns-3
-unfolding ofBits ofInt neg
-returns-3 c = let s = c .before .before .before in sym (whole-high _ (is-true _ (above (s .args .x) (s .good .0 .1) (c .before .before .if1 .taken))) (c .if3 .left))
+returns-3 c =
+    let t = c .before .before .before .before in
+    ap (λ (n : ℕ). n * 2 ^ (toBits binary64 (s t .args .x) / 2 ^ 52 - 1075) % 2 ^ 64) (c .significand .ensures)
+    ∙ whole-above (s t .args .x) (held (s t)) (positive t) (c .before .before .if3 .left) (c .before .if4 .taken)
 
 returns-4 : tie.Need-returns-4
-returns-4 c = below-one 64 _ (under-one _ (c .if1 .left))
+returns-4 c = let t = c .before .before .before in sym (whole-held (s t .args .x) (held (s t)) (positive t) (c .if4 .left))
+
+returns-5 : tie.Need-returns-5
+unfolding ofBits
+returns-5 c = sym (whole-none (c .before .args .x) (held (c .before)) (c .if1 .left))
 
 pub whole-part-spec : {M : Type 1} → statement M
 whole-part-spec =
     tie.close
-    (tie.spec whole-part-small-requires (λ c. search needs) truncating-f64-to-u64-requires (λ c. search needs) returns-3 returns-4)
+    (tie.spec float-to-bits-bits returns whole-part-small-requires (λ c. search needs) (search needs) (λ c. search needs) returns-3 returns-4 returns-5)
