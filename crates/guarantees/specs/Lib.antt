@@ -2,3 +2,4 @@ pub mod CleanMemory
 pub mod RecentPasts
 pub mod Starred
 pub mod PlacesNeeded
+pub mod WholePart
