@@ -2,6 +2,7 @@
 //!
 //!     compare EFFECT --ticks N [--seed S]        compare N accepted ticks, and refused calls between them; the delay's rows are
 //!                                                delay, linear_delay and long_delay
+//!     compare whole_part --ticks N [--seed S]    compare the whole parts of at least N floats
 //!     compare EFFECT --record FILE --ticks N     write the Rust's answers to N ticks, for the program that replays them
 //!
 //! Exit status: 0 all agree; 1 a difference, which is printed; 2 bad usage.
@@ -19,19 +20,20 @@ mod table;
 mod tick;
 mod tremolo;
 mod vibrato;
+mod whole_part;
 
 use lines::Lines;
 use std::process::exit;
 use std::{env, fs};
 
-/// One effect of this program.
+/// One effect of this program, or a leaf, whose ticks are its calls.
 struct Effect {
     name: &'static str,
     run: fn(ticks: u64, seed: u64) -> Result<String, String>,
     record: fn(ticks: u64, seed: u64) -> Result<Vec<u64>, String>,
 }
 
-const EFFECTS: [Effect; 8] = [
+const EFFECTS: [Effect; 9] = [
     Effect {
         name: "tremolo",
         run: run::run::<tremolo::Tremolo>,
@@ -71,6 +73,11 @@ const EFFECTS: [Effect; 8] = [
         name: "reverb",
         run: reverb::run,
         record: reverb::record,
+    },
+    Effect {
+        name: "whole_part",
+        run: whole_part::run,
+        record: |_, _| Err("the whole part has no list of answers".into()),
     },
 ];
 
