@@ -12,8 +12,8 @@ use lib.ListN.{length, take, drop, length-drop}
 use lib.Seq.{length-take-le}
 use lib.Ieee.{Float, binary64, fits, isNan, mul, div, le, lt, ofInt}
 use borrow.Author.Tests.{not-false, le-ltb}
-use Rattle.float64.specs.Number.{plusZero, floatOf, Small, isNumber, rateFits, clampOf, atLeast, atMost}
-use Rattle.float64.proofs.Order.{le-lt-lt, le-transitive, le→not-lt}
+use Rattle.float64.specs.Number.{plusZero, floatOf, isNumber, rateFits, clampOf, atLeast, atMost}
+use Rattle.float64.proofs.Order.{le-transitive, le→not-lt}
 use Rattle.float64.proofs.Interval.{In, hi-fits, point, mul-in, div-in}
 use Rattle.float64.proofs.Ranges.{rate-in, range-in}
 use Rattle.float64.proofs.Clamped.{clamp-in, clamp-halves}
@@ -64,11 +64,6 @@ unfolding fits le lt mul div ofInt
 swept-in rate milliseconds h k = div-in (floatOf 8) (floatOf 19200) tt tt tt (mul-in (floatOf 8000) (floatOf 19200000) tt tt tt (rate-in h) (range-in tt k)) (point (floatOf 1000) tt)
 
 -- ---- distances
-
--- a number of samples from 1 on is small enough for the quick whole part
-pub small : {x : Float} → In binary64 (floatOf 1) (floatOf 16777216) x → Small x
-unfolding fits le lt ofInt
-small {x} i = (i .lower, le-lt-lt binary64 x (floatOf 16777216) (floatOf (2 ^ 52)) (i .fit) tt tt (i .upper) tt)
 
 -- the last place of a line is not below 1
 pub last-above : (M : ℕ) → M ≤ 2 ^ 24 → 1 ≤ M → lt (floatOf M) (floatOf 1) ≡ false

@@ -18,7 +18,7 @@ use Rattle.float64.proofs.Interval.{In, mul-in}
 use Rattle.float64.proofs.Ranges.{rate-in, range-in, in-range, in-number, finite-number}
 use Rattle.float64.proofs.Clamped.{clamp-in, clamp-number}
 use Rattle.float64.proofs.Scaled.{mul-number, div-number}
-use Rattle.float64.proofs.Parts.{clamp-whole-in, whole-ends}
+use Rattle.float64.proofs.Parts.{small-in, clamp-whole-in, whole-ends}
 use Rattle.float64.proofs.Glide.{glide-in}
 use Rattle.float64.proofs.Lengths.{line-length}
 use Rattle.port.specs.declared.Port.the-variants.{Set, Unset}
@@ -27,7 +27,7 @@ use Rattle.port.specs.Answer.{Reply, played}
 use Rattle.port.proofs.Laws.{nan-is}
 use Rattle.common.specs.Signal.{sanitized, blended, causeNumber}
 use Rattle.common.specs.Line.{lineAt, readAt}
-use Rattle.common.proofs.Sweep.{size-is, size-some, size-tests, small, no-cause, neither, value-number, part-read}
+use Rattle.common.proofs.Sweep.{size-is, size-some, size-tests, no-cause, neither, value-number, part-read}
 use Rattle.effect.specs.Effect.{laid}
 use Rattle.effect.specs.Run.{tick, first, memoryNumber, numberIn}
 use Rattle.delay_line.specs.declared.DelayLine.{DelayLine}
@@ -54,10 +54,10 @@ module _ (rate maximum : Float) (h : rateFits rate ≡ true) (k : maximumFits ma
   unfolding lineLength
   length-fits = let l = line-length rate h (maximum-in k) in (omega (arith, l .0), l .1)
 
-  -- rate × maximum is small enough for the quick whole part
+  -- rate × maximum is small enough for `whole_part_small`
   pub samples-small : Small (mul binary64 rate maximum)
   unfolding Ieee.fits le lt mul ofInt round
-  samples-small = small (mul-in (floatOf 1) (floatOf 16777216) tt tt tt (rate-in h) (maximum-in k))
+  samples-small = small-in (mul-in (floatOf 1) (floatOf 16777216) tt tt tt (rate-in h) (maximum-in k))
 
 -- where the maximum fits, what `settings_refusal` answers is the table's row: causes 1, 2 and 3
 pub settings-row : (rate coefficient maximum : Float) (n : ℕ) {k : ℕ} → maximumFits maximum ≡ true

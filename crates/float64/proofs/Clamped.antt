@@ -71,7 +71,7 @@ at-most-in {lo} {top} {x} hi t h i =
     go true k = box t u h (le-reflexive binary64 hi u q)
     go false k = box t (i .fit) (i .lower) (k tt)
 
--- ... whatever it was, if it is a number then
+-- so does any x that is lowered, if what comes of it is a number
 pub at-most-le : (x hi : Float) → T (fits binary64 x) → T (fits binary64 hi) → T (not (isNan hi)) → T (not (isNan (atMost x hi))) → T (le (atMost x hi) hi)
 unfolding atMost
 at-most-le x hi f u q n = go (lt hi x) n (λ (p : T (not (isNan x))). not-lt→le binary64 hi x u f q p)

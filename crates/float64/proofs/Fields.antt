@@ -1,4 +1,4 @@
--- A float by the fields of its bit pattern: its size in units of the smallest value, 2 ^ −1074, by the exponent field and the stored digits, and the powers of two between which it
+-- A float by the fields of its bit pattern: its size in units of the smallest value, 2 ^ −1074, by the exponent field and the stored bits, and the powers of two between which it
 -- lies. From these the cases of its whole part. Assumes nothing.
 use mathlib.Core.Path.{_≡_, refl, sym, ap, _∙_, subst}
 use mathlib.Core.Bool.{Bool, true, false, not, cond}
@@ -8,13 +8,14 @@ use native.Mathlib.Omega.{arith}
 use lib.Dec.{T, leb, eqb, nleb→lt, lit<}
 use lib.Pow.{pow-add, pow-pos, pow-mono, shl-lt, shr-lt, shl-exact, shl-shr, shr-shr}
 use lib.Bits.{bitAnd, bitOr, and-mask, or-shifted-r}
-use lib.Ieee.{Float, nan, inf, fin, binary64, up, down, odd, fits, isNan, ofFields, ofBits, toBits, lt, le, toUnsigned, ofInt}
+use lib.Ieee.{Float, nan, inf, fin, binary64, up, down, odd, fits, ofFields, ofBits, toBits, lt, le, toUnsigned, ofInt}
 use lib.Ieee.Bits.{is-true, ofBits-toBits}
 use lib.Ieee.Exact.{HasValue, odd-sign}
 use lib.Ieee.Scale.{finite}
+use Rattle.std.proofs.num.Truncating as truncating
 use Rattle.float64.specs.Number.{plusZero, floatOf, exponentField, significandOf, significand, wholePart, Small}
 use Rattle.float64.proofs.Units.{one, cap, sign, mag, signed, mag-of-value, mag-lt}
-use Rattle.float64.proofs.Keys.{At, rekeyed, of-le, of-nle, le-of-size, lt-of-size, size-of-le, size-of-lt, lt-num-r, ofInt-at, toUnsigned-at}
+use Rattle.float64.proofs.Keys.{At, rekeyed, of-le, le-of-size, lt-of-size, size-of-le, size-of-lt, ofInt-at, toUnsigned-at}
 use Rattle.float64.proofs.Ranges.{yes, no}
 use Rattle.float64.proofs.Order.{plusZero-at, plusZero-fits, sign-size, between-finite, lt→le, lt-le-lt}
 use Rattle.float64.proofs.Wholes.{one-at}
@@ -22,15 +23,18 @@ use Rattle.float64.proofs.Tests.{clash}
 
 -- ---- a pattern by its fields
 
--- the stored digits
-abbrev digits : Float → ℕ
-digits x = toBits binary64 x % 2 ^ 52
+-- the 52 stored bits of the significand
+abbrev stored : Float → ℕ
+stored x = toBits binary64 x % 2 ^ 52
+
+stored-lt : (x : Float) → stored x < 2 ^ 52
+stored-lt x = mod-lt (toBits binary64 x) (pow-pos 52)
 
 -- the sign bit
 abbrev signBit : Float → Bool
 signBit x = leb (2 ^ 63) (toBits binary64 x)
 
--- how many units a field e and the digits t stand for: a field of 0 has no leading one, and the weight of field 1
+-- how many units a field e and the stored bits t stand for: a field of 0 has no leading one, and the weight of field 1
 abbrev unitsOf : ℕ → ℕ → ℕ
 unitsOf zero t = t
 unitsOf (suc j) t = (2 ^ 52 + t) * 2 ^ j
@@ -63,7 +67,7 @@ field-from e t k h l = lt-of-not-le (λ (g : e ≤ k). not-le-of-lt (units-below
 field-to : (e t k : ℕ) → unitsOf e t < 2 ^ (52 + k) → e ≤ k
 field-to e t k l = let h : e < suc k = lt-of-not-le (λ (g : suc k ≤ e). not-le-of-lt l (units-above e t k g)) in omega arith
 
--- ---- the cases in units, of a field e with the digits t
+-- ---- the cases in units, of a field e with the stored bits t
 
 held-below : (n c : ℕ) → n < c → min n (c - 1) ≡ n
 held-below n c h = omega arith
@@ -133,19 +137,16 @@ in-ones x s (suc j) t l v =
 
 -- ---- of an f64 that is finite
 module _ (x : Float) (f : T (fits binary64 x)) (p : T (finite x)) where
-  value : HasValue x (signBit x) (unitsOf (exponentField x) (digits x)) (2 ^ 1074)
+  value : HasValue x (signBit x) (unitsOf (exponentField x) (stored x)) (2 ^ 1074)
   unfolding ofBits
   value =
       let is = ofBits-toBits binary64 x f in
-      subst (λ (y : Float). HasValue y (signBit x) (unitsOf (exponentField x) (digits x)) (2 ^ 1074)) is
-      (fields-value (signBit x) (exponentField x) (digits x) (subst (λ (y : Float). T (finite y)) (sym is) p))
+      subst (λ (y : Float). HasValue y (signBit x) (unitsOf (exponentField x) (stored x)) (2 ^ 1074)) is
+      (fields-value (signBit x) (exponentField x) (stored x) (subst (λ (y : Float). T (finite y)) (sym is) p))
 
-  size-is : mag binary64 x ≡ unitsOf (exponentField x) (digits x)
+  size-is : mag binary64 x ≡ unitsOf (exponentField x) (stored x)
   unfolding one
-  size-is = mag-of-value binary64 x (signBit x) (unitsOf (exponentField x) (digits x)) value
-
-  digits-lt : digits x < 2 ^ 52
-  digits-lt = mod-lt (toBits binary64 x) (pow-pos 52)
+  size-is = mag-of-value binary64 x (signBit x) (unitsOf (exponentField x) (stored x)) value
 
   -- ... and not below 0
   module _ (h : T (le plusZero x)) where
@@ -156,26 +157,26 @@ module _ (x : Float) (f : T (fits binary64 x)) (p : T (finite x)) where
         go false a = a
         go true a = let z : cap binary64 + 0 ≤ cap binary64 - mag binary64 x = of-le (plusZero-at binary64) a h in rekeyed a (omega (arith, mag-lt binary64 x f p))
 
-    whole-is : wholePart x ≡ min (unitsOf (exponentField x) (digits x) / 2 ^ 1074) (2 ^ 64 - 1)
+    whole-is : wholePart x ≡ min (unitsOf (exponentField x) (stored x) / 2 ^ 1074) (2 ^ 64 - 1)
     unfolding one
     whole-is = toUnsigned-at 64 (mag binary64 x) at-size (mag-lt binary64 x f p) ∙ ap (λ (n : ℕ). min (n / 2 ^ 1074) (2 ^ 64 - 1)) size-is
 
     -- ---- the three cases
     pub below-one : exponentField x < 1023 → wholePart x ≡ 0
-    below-one l = whole-is ∙ cut-below (exponentField x) (digits x) digits-lt l
+    below-one l = whole-is ∙ cut-below (exponentField x) (stored x) (stored-lt x) l
 
     pub between : 1023 ≤ exponentField x → exponentField x ≤ 1074 → wholePart x ≡ significand x / 2 ^ (1075 - exponentField x)
-    between a b = whole-is ∙ cut-between (exponentField x) (digits x) digits-lt a b
+    between a b = whole-is ∙ cut-between (exponentField x) (stored x) (stored-lt x) a b
 
     above : 1075 ≤ exponentField x → exponentField x ≤ 1086 → wholePart x ≡ significand x * 2 ^ (exponentField x - 1075)
-    above a b = whole-is ∙ cut-above (exponentField x) (digits x) digits-lt a b
+    above a b = whole-is ∙ cut-above (exponentField x) (stored x) (stored-lt x) a b
 
     high : 1086 < exponentField x → wholePart x ≡ 2 ^ 64 - 1
-    high l = whole-is ∙ cut-high (exponentField x) (digits x) digits-lt l
+    high l = whole-is ∙ cut-high (exponentField x) (stored x) (stored-lt x) l
 
     -- the sign bit of what is not 0 is clear
     sign-clear : 0 < mag binary64 x → signBit x ≡ false
-    sign-clear l = sym (value-sign x (signBit x) (unitsOf (exponentField x) (digits x)) value) ∙ go (sign x) (sign-size binary64 x f p)
+    sign-clear l = sym (value-sign x (signBit x) (unitsOf (exponentField x) (stored x)) value) ∙ go (sign x) (sign-size binary64 x f p)
       where
         go : (s : Bool) → At binary64 x (signed (cap binary64) s (mag binary64 x)) → s ≡ false
         go false a = refl
@@ -184,8 +185,8 @@ module _ (x : Float) (f : T (fits binary64 x)) (p : T (finite x)) where
     pub no-fraction : 1075 ≤ exponentField x → HasValue x false (significand x * 2 ^ (exponentField x - 1075)) 1
     no-fraction l =
         let e = exponentField x in
-        let big : 0 < mag binary64 x = lt-of-lt-of-le (pow-pos (52 + 1074)) (le-trans (units-above e (digits x) 1074 l) (le-of-eq (sym size-is))) in
-        subst (λ (s : Bool). HasValue x s (significand x * 2 ^ (e - 1075)) 1) (sign-clear big) (in-ones x (signBit x) e (digits x) l value)
+        let big : 0 < mag binary64 x = lt-of-lt-of-le (pow-pos (52 + 1074)) (le-trans (units-above e (stored x) 1074 l) (le-of-eq (sym size-is))) in
+        subst (λ (s : Bool). HasValue x s (significand x * 2 ^ (e - 1075)) 1) (sign-clear big) (in-ones x (signBit x) e (stored x) l value)
 
 -- ---- what the proofs of the code cite
 
@@ -224,9 +225,6 @@ module _ (x : Float) (f : T (fits binary64 x)) (h : T (lt plusZero x)) where
   abbrev b : ℕ
   b = toBits binary64 x
 
-  pub is-no-nan : T (not (isNan x))
-  is-no-nan = lt-num-r plusZero x h
-
   from-zero : T (le plusZero x)
   from-zero = lt→le binary64 plusZero x (plusZero-fits binary64) f h
 
@@ -244,8 +242,8 @@ module _ (x : Float) (f : T (fits binary64 x)) (h : T (lt plusZero x)) where
       let p = finite-below x h (omega (arith, field-is)) in
       let a = at-size x f p from-zero in
       let is = size-is x f p in (
-        le-of-size one-at a (le-trans (units-above e (digits x) 1022 (omega (arith, field-is))) (le-of-eq (sym is))),
-        lt-of-size a (ofInt-at binary64 (2 ^ 52) (lit< tt)) (lt-of-le-of-lt (le-of-eq is) (lt-of-lt-of-le (units-below e (digits x) 1074 (digits-lt x f p) (omega (arith, field-is))) (le-of-eq (pow-add 2 52 1074)))),
+        le-of-size one-at a (le-trans (units-above e (stored x) 1022 (omega (arith, field-is))) (le-of-eq (sym is))),
+        lt-of-size a (ofInt-at binary64 (2 ^ 52) (lit< tt)) (lt-of-le-of-lt (le-of-eq is) (lt-of-lt-of-le (units-below e (stored x) 1074 (stored-lt x) (omega (arith, field-is))) (le-of-eq (pow-add 2 52 1074)))),
       )
 
   pub whole-above : 1075 ≤ b / 2 ^ 52 → b / 2 ^ 52 < 1087 → significandOf b * 2 ^ (b / 2 ^ 52 - 1075) % 2 ^ 64 ≡ wholePart x
@@ -269,8 +267,8 @@ module _ (x : Float) (f : T (fits binary64 x)) (h : T (lt plusZero x)) where
       let p = between-finite binary64 plusZero x (floatOf (2 ^ 52)) tt f tt tt tt from-zero (lt→le binary64 x (floatOf (2 ^ 52)) f tt m) in
       let a = at-size x f p from-zero in
       let is = size-is x f p in
-      let lo = field-from e (digits x) 1022 (digits-lt x f p) (le-trans (size-of-le one-at a l) (le-of-eq is)) in
-      let hi = field-to e (digits x) 1074 (lt-of-le-of-lt (le-of-eq (sym is)) (lt-of-lt-of-le (size-of-lt a (ofInt-at binary64 (2 ^ 52) (lit< tt)) m) (le-of-eq (sym (pow-add 2 52 1074))))) in
+      let lo = field-from e (stored x) 1022 (stored-lt x) (le-trans (size-of-le one-at a l) (le-of-eq is)) in
+      let hi = field-to e (stored x) 1074 (lt-of-le-of-lt (le-of-eq (sym is)) (lt-of-lt-of-le (size-of-lt a (ofInt-at binary64 (2 ^ 52) (lit< tt)) m) (le-of-eq (sym (pow-add 2 52 1074))))) in
       (omega (arith, field-is), omega (arith, field-is))
 
   pub whole-between : 1023 ≤ b / 2 ^ 52 → b / 2 ^ 52 ≤ 1074 → significandOf b / 2 ^ (1075 - b / 2 ^ 52) ≡ wholePart x
@@ -278,24 +276,11 @@ module _ (x : Float) (f : T (fits binary64 x)) (h : T (lt plusZero x)) where
       ap (λ (k : ℕ). significand x / 2 ^ (1075 - k)) field-is
       ∙ sym (between x f (finite-below x h (omega (arith, field-is))) from-zero (omega (arith, field-is)) (omega (arith, field-is)))
 
--- what is below 1 has none
-pub whole-under-one : (x : Float) → T (fits binary64 x) → le (floatOf 1) x ≡ false → wholePart x ≡ 0
-unfolding le lt toUnsigned ofInt
-whole-under-one nan f h = refl
-whole-under-one (inf true) f h = refl
-whole-under-one (inf false) f h = absurd (no h)
-whole-under-one (fin true m e) f h = refl
-whole-under-one (fin false m e) f h =
-    let x = fin false m e in
-    let a : At binary64 x (cap binary64 + mag binary64 x) = unfold sign in sign-size binary64 x f tt in
-    let l : mag binary64 x < one binary64 = omega (arith, of-nle one-at a (no h)) in
-    toUnsigned-at 64 (mag binary64 x) a (mag-lt binary64 x f tt) ∙ ap (λ (n : ℕ). min n (2 ^ 64 - 1)) (div-eq-of-lt l) ∙ zero-min (2 ^ 64 - 1)
-
--- and so what is not above 0
+-- what is not above 0 has none
 pub whole-none : (x : Float) → T (fits binary64 x) → lt plusZero x ≡ false → wholePart x ≡ 0
 unfolding fits le lt ofInt
-whole-none x f h = whole-under-one x f (go (le (floatOf 1) x) (lt-le-lt binary64 plusZero (floatOf 1) x tt tt f tt))
+whole-none x f h = sym (truncating.below-one 64 x (go (le (floatOf 1) x) (lt-le-lt binary64 plusZero (floatOf 1) x tt tt f tt)))
   where
-    go : (b : Bool) → (T b → T (lt plusZero x)) → b ≡ false
-    go true k = absurd (clash (is-true (lt plusZero x) (k tt)) h)
-    go false k = refl
+    go : (b : Bool) → (T b → T (lt plusZero x)) → T (not b)
+    go true k = clash (is-true (lt plusZero x) (k tt)) h
+    go false k = tt

@@ -17,6 +17,11 @@ use Rattle.float64.proofs.Interval.{In, ends, box, in-finite}
 use Rattle.float64.proofs.Wholes.{count, whole-le, whole-is}
 use Rattle.float64.proofs.Clamped.{clamp-in}
 
+-- up to 2 ^ 24 it is in the range of `whole_part_small`
+pub small-in : {x : Float} → In binary64 (floatOf 1) (floatOf 16777216) x → Small x
+unfolding fits lt ofInt
+small-in {x} i = (i .lower, le-lt-lt binary64 x (floatOf 16777216) (floatOf (2 ^ 52)) (i .fit) tt tt (i .upper) tt)
+
 pub record Parts (M : ℕ) (x : Float) : Type 0 where
   pub at-least : 1 ≤ wholePart x
   pub at-most : wholePart x ≤ M
@@ -54,7 +59,7 @@ module _ (M : ℕ) (h : M ≤ 2 ^ 24) where
       record {
         at-least = le-trans (le-div-iff-mul-le (one-pos B) .1 (le-trans (le-of-eq (one-mul o)) (k .low))) (le-of-eq (sym e));
         at-most = le-trans (le-of-eq e) (whole-le M wide (k .high) x');
-        small = (i .lower, le-lt-lt B x (floatOf 16777216) (floatOf (2 ^ 52)) (i .fit) tt tt top tt);
+        small = small-in {x = x} (box tt (i .fit) (i .lower) top);
       }
 
 -- a whole number between two others lies between them as a float

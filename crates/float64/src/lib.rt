@@ -126,20 +126,20 @@ pub fn from_u32(n: u32) -> f64
 }
 
 // The 53-bit significand of a number whose exponent field is neither 0 nor 2047, by its bits: the 52 that are stored, under a leading one.
-fn significand(bits: u64) -> u64
+fn significand_of(bits: u64) -> u64
     ensures { λ r. ⌜ r ≡ significandOf bits ⌝ }
 {
     (bits & 0xf_ffff_ffff_ffff) | 0x10_0000_0000_0000
 }
 
-// The whole part of a number from 1 to below 2^52, whose field is from 1,023 to 1,074: the second case of `whole_part`, which calls it there. Reads and line
-// lengths, whose range is known, call it alone.
+// The whole part of a number from 1 to below 2^52, whose field is from 1,023 to 1,074: the second case of `whole_part`, which calls it there. Reads, line
+// lengths and the predelay call it alone, as their numbers are known, or tested, to lie there.
 pub fn whole_part_small(x: f64) -> u64
     requires { ⌜ Small x ⌝ }
     ensures { λ r. ⌜ r ≡ wholePart x ⌝ }
 {
     let bits: u64 = f64::to_bits(x);
-    significand(bits) >> (FIELD_WITHOUT_FRACTION - (bits >> 52))
+    significand_of(bits) >> (FIELD_WITHOUT_FRACTION - (bits >> 52))
 }
 
 // The Rust's `x as usize`: toward zero, held to 0..=2^64 - 1, and 0 for a NaN; by the cases of the exponent field.
@@ -158,10 +158,11 @@ pub fn whole_part(x: f64) -> u64
         if field < FIELD_WITHOUT_FRACTION {
             return whole_part_small(x);
         }
-        // Above: no fraction.
+        // Above there is no fraction; up to the last field that a u64 holds,
         if field < FIELD_BEYOND_U64 {
-            return significand(bits) << (field - FIELD_WITHOUT_FRACTION);
+            return significand_of(bits) << (field - FIELD_WITHOUT_FRACTION);
         }
+        // and from 2^64 on, an infinity too, the largest u64.
         return 18446744073709551615;
     }
     0
@@ -173,8 +174,7 @@ pub fn round_half_away(x: f64) -> u64
 {
     let down = whole_part(x);
     if x < 4503599627370496.0 {
-        // `down` may have more than 32 bits.
-        if x - std::num::nearest_u64_to_f64(down) >= 0.5 {
+        if x - down as f64 >= 0.5 {
             return down + 1;
         }
     }

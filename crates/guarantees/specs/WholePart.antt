@@ -16,5 +16,5 @@ pub record WholePart : Type 0 where
   pub below-one : (x : Float) → FiniteFromZero x → exponentField x < 1023 → wholePart x ≡ 0
   -- from one to the last exponent with fraction bits: the 53-bit significand shifted right by 1,075 less the field
   pub between : (x : Float) → FiniteFromZero x → 1023 ≤ exponentField x → exponentField x ≤ 1074 → wholePart x ≡ significand x / 2 ^ (1075 - exponentField x)
-  -- Above there is no fraction: x is a whole number, its significand shifted left by the field less 1,075. (Its whole part is that number up to 2 ^ 64, and from there on 2 ^ 64 − 1.)
+  -- Above there is no fraction: x is a whole number, its significand shifted left by the field less 1,075. (It may be too large for a u64: `wholePart` holds it to 2 ^ 64 − 1.)
   pub above : (x : Float) → FiniteFromZero x → 1075 ≤ exponentField x → HasValue x false (significand x * 2 ^ (exponentField x - 1075)) 1

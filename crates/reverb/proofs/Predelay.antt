@@ -1,6 +1,7 @@
--- The predelay by its cases: a delay of 0, and one that does not or does go past the line's start; it is less than the line at every control and rate.
+-- The predelay by its cases: a delay of 0, and one that does not or does go past the line's start; it is less than the line at every control and rate. How many
+-- samples a control asks for, from 1 on and below.
 -- Assumes nothing.
-use Prim.Native.Nat.{ℕ, _-_, _^_, _≤_, _<_}
+use Prim.Native.Nat.{ℕ, _-_, _≤_, _<_}
 use native.Mathlib.Omega.{arith}
 use native.Mathlib.Nat.{zero-add}
 use mathlib.Core.Path.{_≡_, sym, ap, _∙_}
@@ -14,12 +15,12 @@ use lib.Ieee.{Float, nan, binary64, mul, le, lt, ofInt, round, toUnsigned}
 use lib.Ieee as Ieee
 use borrow.Author.Tests.{eq-eqb, ne-eqb}
 use Rattle.float64.specs.Number.{plusZero, floatOf, fraction, rateFits, atMost, wholePart, Small}
-use Rattle.float64.proofs.Interval.{In, point, mul-in, cut-in}
+use Rattle.std.proofs.num.Truncating.{below-one}
+use Rattle.float64.proofs.Interval.{In, box, point, widen, mul-in, cut-in}
 use Rattle.float64.proofs.Keys.{le-num-r}
-use Rattle.float64.proofs.Order.{le-lt-lt}
-use Rattle.float64.proofs.Ranges.{yes, rate-in}
+use Rattle.float64.proofs.Ranges.{yes, no, rate-in}
 use Rattle.float64.proofs.Clamped.{at-most-in, at-most-le, at-most-fits}
-use Rattle.float64.proofs.Fields.{whole-under-one}
+use Rattle.float64.proofs.Parts.{small-in}
 use Rattle.common.specs.Line.{lineAt, place}
 use Rattle.common.proofs.Ring.{place-low, place-high, place-other, part-at}
 use Rattle.reverb.specs.Tunings.{predelaySize}
@@ -35,7 +36,7 @@ delay-less control rate i h =
     let c = cut-in 64 tt (at-most-in (floatOf (predelaySize - 1)) tt tt x) in
     omega (arith, c .1)
 
--- any number of samples, held to the longest delay: from 1 on it is where the quick whole part serves, below 1 nothing is left
+-- any number of samples, held to the longest delay: from 1 on it is in the range of `whole_part_small`, below 1 it has no whole part
 module _ (x : Float) (f : T (Ieee.fits binary64 x)) where
   abbrev held : Float
   held = atMost x (floatOf (predelaySize - 1))
@@ -48,10 +49,12 @@ module _ (x : Float) (f : T (Ieee.fits binary64 x)) where
   unfolding Ieee.fits Ieee.isNan le lt ofInt
   held-small h =
       let l = at-most-le x (floatOf (predelaySize - 1)) f tt tt (le-num-r (floatOf 1) held (yes h)) in
-      (yes h, le-lt-lt binary64 held (floatOf (predelaySize - 1)) (floatOf (2 ^ 52)) held-fits tt tt l tt)
+      let i : In binary64 (floatOf 1) (floatOf (predelaySize - 1)) held = box tt held-fits (yes h) l in
+      small-in (widen (floatOf 1) (floatOf 16777216) tt i)
 
   pub held-none : le (floatOf 1) held ≡ false → wholePart held ≡ 0
-  held-none h = whole-under-one held held-fits h
+  unfolding ofInt
+  held-none h = sym (below-one 64 held (no h))
 
 -- ---- what comes out
 

@@ -14,8 +14,7 @@ use Rattle.float64.specs.Number.{floatOf, fraction, inRange, rateFits, wholePar
 use Rattle.float64.proofs.Tests.{both}
 use Rattle.float64.proofs.Interval.{In, point, mul-in, div-in, cut-in}
 use Rattle.float64.proofs.Ranges.{rate-in, range-in, in-range}
-use Rattle.float64.proofs.Parts.{whole-between}
-use Rattle.common.proofs.Sweep.{small}
+use Rattle.float64.proofs.Parts.{small-in, whole-between}
 use Rattle.reverb.specs.declared.tunings.Lengths.{Lengths}
 use Rattle.reverb.specs.Tunings.{Side, left, right, combMost, allpassMost, leastTuning, mostTuning, combTunings, allpassTunings, ratio, scaled, spread, beside, lineLengths, lengthsAt, lengthsFor, Capped, Roomy, sided, tuned}
 use Rattle.reverb.specs.Tank.{allBelow}
@@ -38,9 +37,9 @@ module _ (r : Float) (base : ℕ) (low : leastTuning ≤ base) (high : base ≤ 
   unfolding Ieee.fits le ofInt toUnsigned
   product-cut = cut-in 64 tt product-in .1
 
-  -- it is small enough for the quick whole part
+  -- it is small enough for `whole_part_small`
   pub product-small : Small (mul binary64 (floatOf base) r)
-  product-small = small product-in
+  product-small = small-in product-in
 
 -- so is its whole part at least 1, under any cap, and beside it too
 scaled-some : (most : ℕ) (r : Float) (base : ℕ) → 1 ≤ most → leastTuning ≤ base → base ≤ mostTuning → inRange r (fraction 1 8) (floatOf 5) ≡ true → 1 ≤ scaled most r base

@@ -49,7 +49,7 @@ leastTuning = 225
 abbrev pub mostTuning : ℕ
 mostTuning = 1617
 
--- whether tunings lie between these, where the quick whole part serves
+-- whether tunings lie between these, where `whole_part_small` serves
 unfoldable pub tuned : List ℕ → Bool
 tuned [] = true
 tuned (base ∷ bases) = leb leastTuning base && (leb base mostTuning && tuned bases)

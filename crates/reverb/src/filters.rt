@@ -105,7 +105,7 @@ pub fn allpass_at(mem: &mut [f64], o: usize, pos: u64, input: f64, n: u64) -> Pa
     process_allpass(&mut mem[o..e], pos, input, n)
 }
 
-// The predelay's delay in samples. Of a number below 1 nothing is left; from 1 to the cap the quick whole part serves.
+// The predelay's delay in samples, from 0 to the cap: below 1 it is none, from 1 on `whole_part_small` serves, which takes fewer steps than `whole_part`.
 pub fn predelay_samples(control: f64, rate: f64) -> u64
     ensures { λ r. ⌜ r ≡ delaySamples control rate ⌝ }
 {

@@ -4,8 +4,9 @@ use crate::random::Random;
 
 const SIGN: u64 = 1 << 63;
 const FIELDS: u64 = 1 << 11;
-const DIGITS: u32 = 52;
-const ALL_DIGITS: u64 = (1 << DIGITS) - 1;
+/// The bits of a significand that are stored.
+const STORED: u32 = 52;
+const ALL_STORED: u64 = (1 << STORED) - 1;
 
 /// Where the cases of the exponent field begin (1, 2^52, 2^64), and other numbers at which a conversion may go wrong.
 const ENDS: [f64; 12] = [
@@ -23,15 +24,16 @@ const ENDS: [f64; 12] = [
     f64::INFINITY,
 ];
 
-/// Stored digits: none, all, and of each place one digit there alone, all but it, and all below it.
-fn marked_digits() -> Vec<u64> {
+/// Stored bits: none set, all, and of each place that one alone, all but it, and all below it; each once.
+fn marked() -> Vec<u64> {
     let at = |place: u32| {
         let one = 1u64 << place;
-        [one, ALL_DIGITS & !one, one - 1]
+        [one, ALL_STORED & !one, one - 1]
     };
-    let mut digits: Vec<u64> = (0..DIGITS).flat_map(at).collect();
-    digits.push(ALL_DIGITS);
-    digits
+    let mut bits: Vec<u64> = (0..STORED).flat_map(at).chain([ALL_STORED]).collect();
+    bits.sort_unstable();
+    bits.dedup();
+    bits
 }
 
 fn agree(bits: u64) -> Result<(), String> {
@@ -46,11 +48,11 @@ fn agree(bits: u64) -> Result<(), String> {
 }
 
 /// Compares at least so many patterns: the ends with the floats beside them, and of each field with each sign as many as of any
-/// other, the marked digits first and then any.
+/// other, the marked ones first and then any.
 pub fn run(patterns: u64, seed: u64) -> Result<String, String> {
     let mut random = Random::new(seed);
-    let marked = marked_digits();
-    let heads: Vec<u64> = (0..2 * FIELDS).map(|head| head << DIGITS).collect();
+    let marked = marked();
+    let heads: Vec<u64> = (0..2 * FIELDS).map(|head| head << STORED).collect();
     let each = patterns.div_ceil(heads.len() as u64);
     let drawn = each.saturating_sub(marked.len() as u64);
     let mut compared = 0;
@@ -65,11 +67,11 @@ pub fn run(patterns: u64, seed: u64) -> Result<String, String> {
         }
     }
     for head in heads {
-        for digits in &marked {
-            compare(head | digits)?;
+        for bits in &marked {
+            compare(head | bits)?;
         }
         for _ in 0..drawn {
-            compare(head | random.bits() & ALL_DIGITS)?;
+            compare(head | random.bits() & ALL_STORED)?;
         }
     }
     Ok(format!("whole_part: {compared} patterns compared"))

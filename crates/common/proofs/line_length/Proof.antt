@@ -1,15 +1,16 @@
--- `common::line_length` is `sweptLength` at an accepted rate, where the quick whole part serves, and 0 at another. Assumes nothing.
+-- `common::line_length` is `sweptLength` at an accepted rate, where `whole_part_small` serves, and 0 at another. Assumes nothing.
 use native.Mathlib.Omega.{arith}
 use mathlib.Core.Path.{_≡_, sym, _∙_}
-use mathlib.Core.Bool.{Bool, true, _&&_}
-use lib.Ieee.{Float, binary64, mul, div, ofBits, ofInt, toUnsigned, le, lt, fits}
+use mathlib.Core.Bool.{true, _&&_}
+use lib.Ieee.{binary64, mul, div, ofBits, ofInt, toUnsigned, le, fits}
 use borrow.Author.Needs.{needs}
 use borrow.Author.Tests.{not-true, not-false}
 use Rattle.float64.specs.Number.{floatOf, rateFits}
 use Rattle.float64.proofs.Tests.{both}
 use Rattle.float64.proofs.Interval.{In, widen, cut-in}
+use Rattle.float64.proofs.Parts.{small-in}
 use Rattle.common.specs.Line.{sweepFits}
-use Rattle.common.proofs.Sweep.{small, swept-in}
+use Rattle.common.proofs.Sweep.{swept-in}
 use Rattle.common.proofs.line_length.Statement.{statement}
 use Rattle.common.proofs.line_length.Tie as tie
 
@@ -34,7 +35,7 @@ module _ (c : tie.Else1) where
 
 whole-part-small-requires : tie.Need-whole-part-small-requires
 unfolding fits le ofBits ofInt
-whole-part-small-requires c κs = small (widen (floatOf 1) (floatOf 16777216) tt (samples c))
+whole-part-small-requires c κs = small-in (widen (floatOf 1) (floatOf 16777216) tt (samples c))
 
 add-result : tie.Need-add-result
 unfolding toUnsigned le ofBits ofInt

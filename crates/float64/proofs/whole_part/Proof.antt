@@ -1,17 +1,18 @@
 -- `float64::whole_part`: what is not above 0 has none; else the case of its exponent field, branch by branch. Assumes nothing.
-use mathlib.Core.Path.{sym, ap, _∙_, subst}
+use mathlib.Core.Path.{sym, ap, _∙_}
 use Prim.Native.Nat.{ℕ, _-_, _*_, _/_, _%_, _^_}
 use lib.Dec.{T}
 use lib.Ieee.{binary64, fits, toBits, ofBits, lt}
 use borrow.Author.Needs.{needs}
 use Rattle.float64.specs.Number.{plusZero}
+use Rattle.float64.proofs.Keys.{lt-num-r}
 use Rattle.float64.proofs.Ranges.{yes}
-use Rattle.float64.proofs.Fields.{is-no-nan, whole-none, whole-below-one, small, whole-above, whole-held}
+use Rattle.float64.proofs.Fields.{whole-none, whole-below-one, small, whole-above, whole-held}
 use Rattle.float64.proofs.whole_part.Statement.{statement}
 use Rattle.float64.proofs.whole_part.Tie as tie
 
 held : (c : tie.Start) → T (fits binary64 (c .args .x))
-held c = subst T (sym (c .good .0 .1)) tt
+held c = yes (c .good .0 .1)
 
 -- the start, in the branch of a number above 0
 abbrev s : tie.Then1 → tie.Start
@@ -22,7 +23,7 @@ unfolding ofBits
 positive c = yes (c .if1 .taken)
 
 float-to-bits-bits : tie.Need-float-to-bits-bits
-float-to-bits-bits c = is-no-nan (s c .args .x) (held (s c)) (positive c)
+float-to-bits-bits c = lt-num-r plusZero (s c .args .x) (positive c)
 
 returns : tie.Need-returns
 returns c = let t = c .before in sym (whole-below-one (s t .args .x) (held (s t)) (positive t) (c .if2 .taken))
@@ -34,7 +35,7 @@ whole-part-small-requires c κs =
 returns-3 : tie.Need-returns-3
 returns-3 c =
     let t = c .before .before .before .before in
-    ap (λ (n : ℕ). n * 2 ^ (toBits binary64 (s t .args .x) / 2 ^ 52 - 1075) % 2 ^ 64) (c .significand .ensures)
+    ap (λ (n : ℕ). n * 2 ^ (toBits binary64 (s t .args .x) / 2 ^ 52 - 1075) % 2 ^ 64) (c .significand-of .ensures)
     ∙ whole-above (s t .args .x) (held (s t)) (positive t) (c .before .before .if3 .left) (c .before .if4 .taken)
 
 returns-4 : tie.Need-returns-4

@@ -1,4 +1,4 @@
--- `DelayLine::line_length` is `lineLength` where rate and maximum fit, where the quick whole part serves, and 0 elsewhere. Assumes nothing.
+-- `DelayLine::line_length` is `lineLength` where rate and maximum fit, where `whole_part_small` serves, and 0 elsewhere. Assumes nothing.
 use native.Mathlib.Omega.{arith}
 use mathlib.Core.Path.{_≡_, sym, _∙_}
 use mathlib.Core.Bool.{true, _&&_}

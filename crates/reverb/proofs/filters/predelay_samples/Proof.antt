@@ -1,4 +1,4 @@
--- `filters::predelay_samples` is `delaySamples`, above 1 and below. Assumes nothing.
+-- `filters::predelay_samples` is `delaySamples`, from 1 on and below. Assumes nothing.
 use mathlib.Core.Path.{sym, ap, _∙_, subst}
 use lib.Dec.{T}
 use lib.Ieee.{Float, binary64, mul, fits, le, ofBits, ofInt, round}

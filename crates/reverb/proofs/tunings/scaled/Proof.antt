@@ -1,4 +1,4 @@
--- `tunings::scaled` is the definition of that name: the quick whole part serves at every accepted rate. Assumes nothing.
+-- `tunings::scaled` is the definition of that name: `whole_part_small` serves at every accepted rate. Assumes nothing.
 use native.Mathlib.Omega.{arith}
 use mathlib.Core.Path.{_≡_, ap, _∙_}
 use lib.Ieee.{Float, binary64, mul}
