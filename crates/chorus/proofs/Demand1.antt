@@ -4,7 +4,7 @@ use mathlib.Core.Path.{◌≡◌, refl}
 use mathlib.Core.Bool.{true, false}
 use lib.Ieee.{Float, binary64, le, lt, of_int, round}
 use lib.Ieee as Ieee
-use Rattle.float64.specs.Number.{plusZero, float_of, fraction, rateFits, phaseFits, in_range, inUnit}
+use Rattle.float64.specs.Number.{plus_zero, float_of, fraction, rate_fits, phase_fits, in_range, in_unit}
 use Rattle.float64.proofs.Interval.{In, point, widen}
 use Rattle.common.proofs.Phases.{detuned-stays}
 use Rattle.common.proofs.Ring.{next-lt}
@@ -13,44 +13,44 @@ use Rattle.effect.proofs.Laws.{Laws, Below}
 use Rattle.effect.specs.Demand1.{Demand1}
 use Rattle.effect.proofs.Demand1.{demand-1}
 use Rattle.chorus.specs.declared.Chorus.{Chorus}
-use Rattle.chorus.specs.Chorus.{Tick, Phases, chorus, stateFits, lineLength, phasesOf, startPhases, cleared, blank, tickNumber, factor, nextPhases, next, writes}
+use Rattle.chorus.specs.Chorus.{Tick, Phases, chorus, state_fits, line_length, phases_of, start_phases, cleared, blank, tick_number, factor, next_phases, next, writes}
 use Rattle.chorus.proofs.Laws.{factor-0, factor-1, factor-2, fits-parts, fit, length-fits, tick-fits}
 
 -- ---- the laws
 
-blank-refused : stateFits blank ≡ false
-unfolding stateFits in_range le of_int Ieee.fits
+blank-refused : state_fits blank ≡ false
+unfolding state_fits in_range le of_int Ieee.fits
 blank-refused = refl
 
 -- three phases that pass the test, and the state that a clearing leaves with them
 record PhasesFit (p : Phases) : Type 0 where
-  phase0 : phaseFits p.phase0 ≡ true
-  phase1 : phaseFits p.phase1 ≡ true
-  phase2 : phaseFits p.phase2 ≡ true
+  phase0 : phase_fits p.phase0 ≡ true
+  phase1 : phase_fits p.phase1 ≡ true
+  phase2 : phase_fits p.phase2 ≡ true
 
-start-phases : PhasesFit startPhases
-unfolding inUnit le lt of_int round Ieee.fits
+start-phases : PhasesFit start_phases
+unfolding in_unit le lt of_int round Ieee.fits
 start-phases = record { phase0 = refl; phase1 = refl; phase2 = refl }
 
-cleared-fits : (p : Phases) (rate : Float) → rateFits rate ≡ true → PhasesFit p → stateFits (cleared p rate) ≡ true
+cleared-fits : (p : Phases) (rate : Float) → rate_fits rate ≡ true → PhasesFit p → state_fits (cleared p rate) ≡ true
 cleared-fits p rate h f =
     fit (cleared p rate) (record { rate = h; inside = omega (arith, (length-fits rate h).0); phase0 = f.phase0; phase1 = f.phase1; phase2 = f.phase2 })
 
 -- the factors of the voices lie from 0 to 1.1
-low : In binary64 plusZero (fraction 11 10) (factor 0)
+low : In binary64 plus_zero (fraction 11 10) (factor 0)
 unfolding le round Ieee.fits
-low = rw factor-0 (widen plusZero (fraction 11 10) tt (point (fraction 9 10) tt))
+low = rw factor-0 (widen plus_zero (fraction 11 10) tt (point (fraction 9 10) tt))
 
-middle : In binary64 plusZero (fraction 11 10) (factor 1)
+middle : In binary64 plus_zero (fraction 11 10) (factor 1)
 unfolding le of_int round Ieee.fits
-middle = rw factor-1 (widen plusZero (fraction 11 10) tt (point (float_of 1) tt))
+middle = rw factor-1 (widen plus_zero (fraction 11 10) tt (point (float_of 1) tt))
 
-high : In binary64 plusZero (fraction 11 10) (factor 2)
+high : In binary64 plus_zero (fraction 11 10) (factor 2)
 unfolding le round Ieee.fits
-high = rw factor-2 (widen plusZero (fraction 11 10) tt (point (fraction 11 10) tt))
+high = rw factor-2 (widen plus_zero (fraction 11 10) tt (point (fraction 11 10) tt))
 
-next_fits : (t : Tick) (s : Chorus) → stateFits s ≡ true → tickNumber t ≡ 0 → stateFits (next t s) ≡ true
-unfolding next nextPhases
+next_fits : (t : Tick) (s : Chorus) → state_fits s ≡ true → tick_number t ≡ 0 → state_fits (next t s) ≡ true
+unfolding next next_phases
 next_fits t s e n =
     let f = fits-parts s e in
     let h = (tick-fits t n).frequency in
@@ -58,13 +58,13 @@ next_fits t s e n =
     fit (next t s)
     (record {
       rate = f.rate;
-      inside = next-lt (lineLength rate) s.write_pos f.inside;
+      inside = next-lt (line_length rate) s.write_pos f.inside;
       phase0 = detuned-stays s.lfo_phase0 t.frequency rate f.phase0 h f.rate low;
       phase1 = detuned-stays s.lfo_phase1 t.frequency rate f.phase1 h f.rate middle;
       phase2 = detuned-stays s.lfo_phase2 t.frequency rate f.phase2 h f.rate high;
     })
 
-inside : (t : Tick) (s : Chorus) → stateFits s ≡ true → Below (lineLength s.sample_rate) (writes t s)
+inside : (t : Tick) (s : Chorus) → state_fits s ≡ true → Below (line_length s.sample_rate) (writes t s)
 unfolding writes
 inside t s e = let f = (fits-parts s e).inside in (omega arith, tt)
 
@@ -76,10 +76,10 @@ laws =
       fresh-settings = λ k. refl;
       retuned-settings = λ k s. refl;
       next-settings = λ t s m. refl;
-      start_fits = λ k e. cleared-fits startPhases k (none_1 (rateFits k) e) start-phases;
-      reset-fits = λ s f. cleared-fits startPhases s.sample_rate (fits-parts s f).rate start-phases;
+      start_fits = λ k e. cleared-fits start_phases k (none_1 (rate_fits k) e) start-phases;
+      reset-fits = λ s f. cleared-fits start_phases s.sample_rate (fits-parts s f).rate start-phases;
       retuned-fits = λ k s e f. let g = fits-parts s f in
-          cleared-fits (phasesOf s) k (none_1 (rateFits k) e) (record { phase0 = g.phase0; phase1 = g.phase1; phase2 = g.phase2 });
+          cleared-fits (phases_of s) k (none_1 (rate_fits k) e) (record { phase0 = g.phase0; phase1 = g.phase1; phase2 = g.phase2 });
       next_fits = λ t s m e r n. next_fits t s e n;
       used = λ k p h. h;
       inside = λ t s m e. inside t s e;

@@ -7,18 +7,18 @@ use mathlib.Core.Bool.{true}
 use mathlib.Core.List.{List}
 use lib.Ieee.{Float, is_nan, round}
 use lib.Ieee as Ieee
-use Rattle.float64.specs.Number.{half, is_number, sineFits}
+use Rattle.float64.specs.Number.{half, is_number, sine_fits}
 use Rattle.float64.proofs.Parts.{parts-of}
-use Rattle.common.specs.Line.{newestFirst}
-use Rattle.common.proofs.Ring.{readLine, read-line}
+use Rattle.common.specs.Line.{newest_first}
+use Rattle.common.proofs.Ring.{read_line, read-line}
 use Rattle.common.proofs.Sweep.{control-in}
-use Rattle.effect.specs.Run.{deviceOf, Run}
+use Rattle.effect.specs.Run.{device_of, Run}
 use Rattle.effect.specs.Lines.{line_of}
 use Rattle.effect.specs.Demand3.{Demand3}
 use Rattle.effect.proofs.LineLaws.{LineLaws}
 use Rattle.effect.proofs.Demand3.{demand-3}
 use Rattle.chorus.specs.declared.Chorus.{Chorus}
-use Rattle.chorus.specs.Chorus.{Tick, chorus, lines, stateFits, lineLength, tickNumber, depth, input, mix, distance, voice, mixed, samplesFrom, nextPhases, next, writes}
+use Rattle.chorus.specs.Chorus.{Tick, chorus, lines, state_fits, line_length, tick_number, depth, input, mix, distance, voice, mixed, samples_from, next_phases, next, writes}
 use Rattle.chorus.proofs.Laws.{fits-parts, length-fits, tick-fits, distance-in}
 use Rattle.chorus.proofs.Demand1.{laws}
 
@@ -26,30 +26,30 @@ use Rattle.chorus.proofs.Demand1.{laws}
 
 -- what a voice with this sine reads where its line, read newest to oldest, is l
 abbrev pub heard : Tick → Float → Float → List Float → Float
-heard t rate sine l = readLine l (distance rate (depth t) sine)
+heard t rate sine l = read_line l (distance rate (depth t) sine)
 
 -- its line begins at place o
-voice-heard : (t : Tick) (s : Chorus) (m l : List Float) → stateFits s ≡ true → tickNumber t ≡ 0 → (o : ℕ) (sine : Float) → sineFits sine ≡ true
-    → newestFirst o (lineLength s.sample_rate) s.write_pos m ≡ l
+voice-heard : (t : Tick) (s : Chorus) (m l : List Float) → state_fits s ≡ true → tick_number t ≡ 0 → (o : ℕ) (sine : Float) → sine_fits sine ≡ true
+    → newest_first o (line_length s.sample_rate) s.write_pos m ≡ l
     → voice o sine t s m ≡ heard t s.sample_rate sine l
 unfolding voice is_number Ieee.fits is_nan round
 voice-heard t s m l e n o sine k g =
     let rate = s.sample_rate in
-    let L = lineLength rate in
+    let L = line_length rate in
     let h = (fits-parts s e).rate in
     let some = length-fits rate h in
     let d = parts-of (L - 1) (omega arith) (distance-in rate (depth t) sine h (control-in t.depth half (tick-fits t n).depth refl) k) in
-    read-line o L s.write_pos m (distance rate (depth t) sine) d.at_least (omega (arith, d.at-most)) ∙ ap (λ (q : List Float). readLine q (distance rate (depth t) sine)) g
+    read-line o L s.write_pos m (distance rate (depth t) sine) d.at_least (omega (arith, d.at-most)) ∙ ap (λ (q : List Float). read_line q (distance rate (depth t) sine)) g
 
 -- what a tick at the rate answers where each voice's line is l
-abbrev pub heardAll : Tick → Float → List Float → List Float
-heardAll t rate l = mixed (input t) (mix t) (heard t rate t.sine0 l) (heard t rate t.sine1 l) (heard t rate t.sine2 l)
+abbrev pub heard_all : Tick → Float → List Float → List Float
+heard_all t rate l = mixed (input t) (mix t) (heard t rate t.sine0 l) (heard t rate t.sine1 l) (heard t rate t.sine2 l)
 
 -- wherever the lines begin
-pub plays : (begin : ℕ → ℕ) (t : Tick) (s : Chorus) (m l : List Float) → stateFits s ≡ true → tickNumber t ≡ 0
-    → ((i : ℕ) → i < 3 → newestFirst (begin i) (lineLength s.sample_rate) s.write_pos m ≡ l)
-    → samplesFrom begin t s m ≡ heardAll t s.sample_rate l
-unfolding samplesFrom
+pub plays : (begin : ℕ → ℕ) (t : Tick) (s : Chorus) (m l : List Float) → state_fits s ≡ true → tick_number t ≡ 0
+    → ((i : ℕ) → i < 3 → newest_first (begin i) (line_length s.sample_rate) s.write_pos m ≡ l)
+    → samples_from begin t s m ≡ heard_all t s.sample_rate l
+unfolding samples_from
 plays begin t s m l e n g =
     let f = tick-fits t n in
     let heard-from = voice-heard t s m l e n in
@@ -61,21 +61,21 @@ plays begin t s m l e n g =
     (heard-from (begin 2) t.sine2 f.sine2 (g 2 (omega arith)) j)
 
 -- which they do at place 0
-pub from-0 : (s : Chorus) (m : List Float) → newestFirst 0 (lineLength s.sample_rate) s.write_pos m ≡ line_of chorus lines 0 (deviceOf s m)
-from-0 s m = let L = lineLength s.sample_rate in ap (λ (o : ℕ). newestFirst o L s.write_pos m) (sym (zero-mul L))
+pub from-0 : (s : Chorus) (m : List Float) → newest_first 0 (line_length s.sample_rate) s.write_pos m ≡ line_of chorus lines 0 (device_of s m)
+from-0 s m = let L = line_length s.sample_rate in ap (λ (o : ℕ). newest_first o L s.write_pos m) (sym (zero-mul L))
 
 pub line-laws : LineLaws chorus lines
 unfolding next writes
 line-laws =
     record {
       some = omega arith;
-      fills = λ k. sym (one-mul (lineLength k));
+      fills = λ k. sym (one-mul (line_length k));
       inside = λ s e. (fits-parts s e).inside;
       stores = λ t s m. refl;
       next-position = λ t s m. refl;
-      advanced = λ t rate p. nextPhases t.frequency rate p;
+      advanced = λ t rate p. next_phases t.frequency rate p;
       next-phase = λ t s m. refl;
-      played = λ t rate p l. heardAll t rate l;
+      played = λ t rate p l. heard_all t rate l;
       plays = λ t s m l e r n g. plays (λ i. 0) t s m l e n (λ i h. from-0 s m ∙ g 0 (omega arith));
     }
 

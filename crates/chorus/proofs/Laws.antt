@@ -11,36 +11,36 @@ use lib.ListN.{length, take, set}
 use lib.Ieee.{Float, fin, binary64, add, sub, mul, div, neg, le, lt, of_int, round}
 use lib.Ieee as Ieee
 use borrow.Author.Tests.{ltb-true, lt-ltb}
-use Rattle.float64.specs.Number.{plusZero, float_of, fraction, half, rateFits, phaseFits, frequencyFits, sineFits, clampOf}
+use Rattle.float64.specs.Number.{plus_zero, float_of, fraction, half, rate_fits, phase_fits, frequency_fits, sine_fits, clamp_of}
 use Rattle.float64.proofs.Tests.{both}
 use Rattle.float64.proofs.Interval.{In, point, add-in, mul_in, div-in, scale_in}
 use Rattle.float64.proofs.Ranges.{rate-in, sine-in, in-number}
 use Rattle.float64.proofs.Parts.{clamp-whole-in}
 use Rattle.float64.proofs.Lengths.{length-32}
 use Rattle.port.specs.declared.Port.TheVariants.{Set}
-use Rattle.port.specs.Port.{valueOr, isNanSet}
+use Rattle.port.specs.Port.{value_or, is_nan_set}
 use Rattle.port.specs.Answer.{Reply, played}
 use Rattle.common.specs.Signal.{sanitized}
-use Rattle.common.specs.Line.{nextPlace, line_at, readAt}
+use Rattle.common.specs.Line.{next_place, line_at, read_at}
 use Rattle.common.proofs.Slices.{part_length}
 use Rattle.common.proofs.Sweep.{neither, no-cause, part-read, size-tests}
 use Rattle.effect.specs.Effect.{laid}
-use Rattle.effect.specs.Lines.{inEach}
+use Rattle.effect.specs.Lines.{in_each}
 use Rattle.effect.specs.Run.{tick, number_in}
 use Rattle.effect.specs.Contract.{Does}
 use Rattle.effect.proofs.Contract.{accepts}
 use Rattle.chorus.specs.declared.Chorus.{Chorus}
-use Rattle.chorus.specs.Chorus.{Tick, tickOf, chorus, lineLength, Phases, phasesOf, factor, stepped, nextPhases, stateFits, tickNumber, input, depth, mix, distance, voice, mixed, next, writes}
+use Rattle.chorus.specs.Chorus.{Tick, tick_of, chorus, line_length, Phases, phases_of, factor, stepped, next_phases, state_fits, tick_number, input, depth, mix, distance, voice, mixed, next, writes}
 use Rattle.chorus.specs.Chorus as page
 
 -- ---- the line's length
 
-module _ (rate : Float) (h : rateFits rate ≡ true) where
-  pub length-fits : (266 ≤ lineLength rate) × (lineLength rate ≤ 6154)
-  unfolding lineLength
+module _ (rate : Float) (h : rate_fits rate ≡ true) where
+  pub length-fits : (266 ≤ line_length rate) × (line_length rate ≤ 6154)
+  unfolding line_length
   length-fits = let l = length-32 rate h in (omega arith, omega arith)
 
-  pub some-places : 1 ≤ lineLength rate
+  pub some-places : 1 ≤ line_length rate
   some-places = omega (arith, length-fits.0)
 
 -- ---- the factors of the voices, as the code has them. Each side is computed by itself: against each other they are compared step by step
@@ -83,8 +83,8 @@ pub phases-by : (frequency rate : Float) (p : Phases)
       phase1 = stepped p.phase1 frequency (float_of 1) rate;
       phase2 = stepped p.phase2 frequency (fraction 11 10) rate;
     }
-    ≡ nextPhases frequency rate p
-unfolding nextPhases
+    ≡ next_phases frequency rate p
+unfolding next_phases
 phases-by frequency rate p = λ i.
     record {
       phase0 = stepped p.phase0 frequency (sym factor-0 i) rate;
@@ -95,56 +95,56 @@ phases-by frequency rate p = λ i.
 -- ---- the state test
 
 -- the phases of the three voices
-abbrev pub phasesFit : Chorus → Bool
-phasesFit s = phaseFits s.lfo_phase0 && (phaseFits s.lfo_phase1 && phaseFits s.lfo_phase2)
+abbrev pub phases_fit : Chorus → Bool
+phases_fit s = phase_fits s.lfo_phase0 && (phase_fits s.lfo_phase1 && phase_fits s.lfo_phase2)
 
 -- by the length n of the line, as `line_length` answers it
-pub fits_by : (s : Chorus) {n : ℕ} → n ≡ cond (rateFits s.sample_rate) (lineLength s.sample_rate) 0 → stateFits s ≡ ltb s.write_pos n && phasesFit s
-unfolding stateFits
-fits_by s e = size-tests (rateFits s.sample_rate) (lineLength s.sample_rate) s.write_pos (λ n. phasesFit s) e
+pub fits_by : (s : Chorus) {n : ℕ} → n ≡ cond (rate_fits s.sample_rate) (line_length s.sample_rate) 0 → state_fits s ≡ ltb s.write_pos n && phases_fit s
+unfolding state_fits
+fits_by s e = size-tests (rate_fits s.sample_rate) (line_length s.sample_rate) s.write_pos (λ n. phases_fit s) e
 
 pub record Fits (s : Chorus) : Type 0 where
-  pub rate : rateFits s.sample_rate ≡ true
-  pub inside : s.write_pos < lineLength s.sample_rate
-  pub phase0 : phaseFits s.lfo_phase0 ≡ true
-  pub phase1 : phaseFits s.lfo_phase1 ≡ true
-  pub phase2 : phaseFits s.lfo_phase2 ≡ true
+  pub rate : rate_fits s.sample_rate ≡ true
+  pub inside : s.write_pos < line_length s.sample_rate
+  pub phase0 : phase_fits s.lfo_phase0 ≡ true
+  pub phase1 : phase_fits s.lfo_phase1 ≡ true
+  pub phase2 : phase_fits s.lfo_phase2 ≡ true
 
 module _ (s : Chorus) where
-  pub fits-parts : stateFits s ≡ true → Fits s
-  unfolding stateFits
+  pub fits-parts : state_fits s ≡ true → Fits s
+  unfolding state_fits
   fits-parts e =
-      let w = ltb s.write_pos (lineLength s.sample_rate) in
-      let others = phaseFits s.lfo_phase1 && phaseFits s.lfo_phase2 in
-      let a = both (rateFits s.sample_rate) (w && phasesFit s) e in
-      let b = both w (phasesFit s) a.1 in
-      let c = both (phaseFits s.lfo_phase0) others b.1 in
-      let d = both (phaseFits s.lfo_phase1) (phaseFits s.lfo_phase2) c.1 in
-      record { rate = a.0; inside = ltb-true s.write_pos (lineLength s.sample_rate) b.0; phase0 = c.0; phase1 = d.0; phase2 = d.1 }
+      let w = ltb s.write_pos (line_length s.sample_rate) in
+      let others = phase_fits s.lfo_phase1 && phase_fits s.lfo_phase2 in
+      let a = both (rate_fits s.sample_rate) (w && phases_fit s) e in
+      let b = both w (phases_fit s) a.1 in
+      let c = both (phase_fits s.lfo_phase0) others b.1 in
+      let d = both (phase_fits s.lfo_phase1) (phase_fits s.lfo_phase2) c.1 in
+      record { rate = a.0; inside = ltb-true s.write_pos (line_length s.sample_rate) b.0; phase0 = c.0; phase1 = d.0; phase2 = d.1 }
 
-  pub fit : Fits s → stateFits s ≡ true
-  unfolding stateFits
-  fit f = rw (f.rate, lt-ltb s.write_pos (lineLength s.sample_rate) f.inside, f.phase0, f.phase1, f.phase2)
+  pub fit : Fits s → state_fits s ≡ true
+  unfolding state_fits
+  fit f = rw (f.rate, lt-ltb s.write_pos (line_length s.sample_rate) f.inside, f.phase0, f.phase1, f.phase2)
 
 -- ---- causes 5 and 6
 
 pub record TickFits (t : Tick) : Type 0 where
-  pub depth : isNanSet t.depth ≡ false
-  pub frequency : frequencyFits t.frequency ≡ true
-  pub sine0 : sineFits t.sine0 ≡ true
-  pub sine1 : sineFits t.sine1 ≡ true
-  pub sine2 : sineFits t.sine2 ≡ true
+  pub depth : is_nan_set t.depth ≡ false
+  pub frequency : frequency_fits t.frequency ≡ true
+  pub sine0 : sine_fits t.sine0 ≡ true
+  pub sine1 : sine_fits t.sine1 ≡ true
+  pub sine2 : sine_fits t.sine2 ≡ true
 
-pub tick-fits : (t : Tick) → tickNumber t ≡ 0 → TickFits t
-unfolding tickNumber
+pub tick-fits : (t : Tick) → tick_number t ≡ 0 → TickFits t
+unfolding tick_number
 tick-fits t e =
-    let others = sineFits t.sine1 && sineFits t.sine2 in
-    let sines = sineFits t.sine0 && others in
-    let v = no-cause (isNanSet t.depth || isNanSet t.mix) (frequencyFits t.frequency && sines) e in
-    let a = both (frequencyFits t.frequency) sines v.1 in
-    let b = both (sineFits t.sine0) others a.1 in
-    let c = both (sineFits t.sine1) (sineFits t.sine2) b.1 in
-    record { depth = (neither (isNanSet t.depth) (isNanSet t.mix) v.0).0; frequency = a.0; sine0 = b.0; sine1 = c.0; sine2 = c.1 }
+    let others = sine_fits t.sine1 && sine_fits t.sine2 in
+    let sines = sine_fits t.sine0 && others in
+    let v = no-cause (is_nan_set t.depth || is_nan_set t.mix) (frequency_fits t.frequency && sines) e in
+    let a = both (frequency_fits t.frequency) sines v.1 in
+    let b = both (sine_fits t.sine0) others a.1 in
+    let c = both (sine_fits t.sine1) (sine_fits t.sine2) b.1 in
+    record { depth = (neither (is_nan_set t.depth) (is_nan_set t.mix) v.0).0; frequency = a.0; sine0 = b.0; sine1 = c.0; sine2 = c.1 }
 
 -- ---- distances
 
@@ -155,44 +155,44 @@ swept rate depth sine =
     (div binary64 (mul binary64 (float_of 7) rate) (float_of 1000))
     (mul binary64 (add binary64 (mul binary64 sine half) half) (div binary64 (mul binary64 (mul binary64 depth (float_of 25)) rate) (float_of 1000)))
 
-module _ (rate depth sine : Float) (h : rateFits rate ≡ true) (d : In binary64 plusZero (float_of 1) depth) (k : sineFits sine ≡ true) where
-  pub swept-in : In binary64 plusZero (float_of 6144) (swept rate depth sine)
+module _ (rate depth sine : Float) (h : rate_fits rate ≡ true) (d : In binary64 plus_zero (float_of 1) depth) (k : sine_fits sine ≡ true) where
+  pub swept-in : In binary64 plus_zero (float_of 6144) (swept rate depth sine)
   unfolding Ieee.fits le lt add mul div neg of_int round
   swept-in =
-      let base = div-in plusZero (float_of 1344) tt tt tt (mul_in (float_of 56000) (float_of 1344000) tt tt tt (point (float_of 7) tt) (rate-in h)) (point (float_of 1000) tt) in
-      let delay = mul_in plusZero (float_of 4800000) tt tt tt (mul_in plusZero (float_of 25) tt tt tt d (point (float_of 25) tt)) (rate-in h) in
-      let swing = div-in plusZero (float_of 4800) tt tt tt delay (point (float_of 1000) tt) in
-      let turn = add-in plusZero (float_of 1) tt (scale_in (neg half) half tt tt tt (sine-in k) (point half tt)) (point half tt) in
-      add-in plusZero (float_of 6144) tt base (mul_in plusZero (float_of 4800) tt tt tt turn swing)
+      let base = div-in plus_zero (float_of 1344) tt tt tt (mul_in (float_of 56000) (float_of 1344000) tt tt tt (point (float_of 7) tt) (rate-in h)) (point (float_of 1000) tt) in
+      let delay = mul_in plus_zero (float_of 4800000) tt tt tt (mul_in plus_zero (float_of 25) tt tt tt d (point (float_of 25) tt)) (rate-in h) in
+      let swing = div-in plus_zero (float_of 4800) tt tt tt delay (point (float_of 1000) tt) in
+      let turn = add-in plus_zero (float_of 1) tt (scale_in (neg half) half tt tt tt (sine-in k) (point half tt)) (point half tt) in
+      add-in plus_zero (float_of 6144) tt base (mul_in plus_zero (float_of 4800) tt tt tt turn swing)
 
   -- after the clamp both places that are read lie in the line
-  pub distance-in : In binary64 (float_of 1) (float_of (lineLength rate - 1)) (distance rate depth sine)
+  pub distance-in : In binary64 (float_of 1) (float_of (line_length rate - 1)) (distance rate depth sine)
   unfolding distance
   distance-in =
       let l = length-fits rate h in
-      clamp-whole-in (lineLength rate - 1) (omega arith) (swept rate depth sine) (omega arith) (in-number swept-in)
+      clamp-whole-in (line_length rate - 1) (omega arith) (swept rate depth sine) (omega arith) (in-number swept-in)
 
 -- ---- an accepted tick from its steps
 
-module _ (t : Tick) (s : Chorus) (m : List Float) {n : ℕ} (e : n ≡ lineLength s.sample_rate) where
+module _ (t : Tick) (s : Chorus) (m : List Float) {n : ℕ} (e : n ≡ line_length s.sample_rate) where
   -- a read in the part of the memory that is the line is what a voice reads
   pub voice-is : {d y : Float} (sine : Float) → n ≤ length m → s.write_pos < n → d ≡ depth t
-      → y ≡ readAt (line_at 0 (length (take n m)) s.write_pos (take n m)) (clampOf (swept s.sample_rate d sine) (float_of 1) (float_of (length (take n m) - 1)))
+      → y ≡ read_at (line_at 0 (length (take n m)) s.write_pos (take n m)) (clamp_of (swept s.sample_rate d sine) (float_of 1) (float_of (length (take n m) - 1)))
       → y ≡ voice 0 sine t s m
   unfolding voice distance
   voice-is sine l h g r =
       let w = s.write_pos in
       r
       ∙ part-read n 0 n w m _ refl (omega arith) h
-      ∙ (λ j. readAt (line_at 0 (e j) w m) (clampOf (swept s.sample_rate (g j) sine) (float_of 1) (float_of ((part_length 0 n m n refl (omega arith) ∙ e) j - 1))))
+      ∙ (λ j. read_at (line_at 0 (e j) w m) (clamp_of (swept s.sample_rate (g j) sine) (float_of 1) (float_of ((part_length 0 n m n refl (omega arith) ∙ e) j - 1))))
 
-  pub next-is : {r : Chorus} → r.write_pos ≡ nextPlace n s.write_pos → phasesOf r ≡ nextPhases t.frequency s.sample_rate (phasesOf s)
+  pub next-is : {r : Chorus} → r.write_pos ≡ next_place n s.write_pos → phases_of r ≡ next_phases t.frequency s.sample_rate (phases_of s)
       → r.sample_rate ≡ s.sample_rate
       → r ≡ next t s
   unfolding next
   next-is p q k = λ i.
       record {
-        write_pos = (p ∙ ap (λ (z : ℕ). nextPlace z s.write_pos) e) i;
+        write_pos = (p ∙ ap (λ (z : ℕ). next_place z s.write_pos) e) i;
         lfo_phase0 = (q i).phase0;
         lfo_phase1 = (q i).phase1;
         lfo_phase2 = (q i).phase2;
@@ -201,37 +201,37 @@ module _ (t : Tick) (s : Chorus) (m : List Float) {n : ℕ} (e : n ≡ lineLengt
 
   pub stored_is : {x : Float} → x ≡ input t → set m s.write_pos x ≡ laid (writes t s) m
   unfolding writes
-  stored_is x = let p : s.write_pos ≡ 0 * lineLength s.sample_rate + s.write_pos = omega arith in λ i. set m (p i) (x i)
+  stored_is x = let p : s.write_pos ≡ 0 * line_length s.sample_rate + s.write_pos = omega arith in λ i. set m (p i) (x i)
 
   pub played-is : {x b d0 d1 d2 : Float} {y : Reply} → x ≡ input t → b ≡ mix t → d0 ≡ voice 0 t.sine0 t s m → d1 ≡ voice 0 t.sine1 t s m → d2 ≡ voice 0 t.sine2 t s m
       → y ≡ played (mixed x b d0 d1 d2)
       → y ≡ played (page.samples t s m)
-  unfolding page.samplesFrom
+  unfolding page.samples_from
   played-is x b d0 d1 d2 y = y ∙ (λ i. played (mixed (x i) (b i) (d0 i) (d1 i) (d2 i)))
 
 -- ---- ports: a tick is the one with all ports set to the values that it takes from them
 
-module _ (t : Tick) {x d b : Float} (audio : x ≡ valueOr t.audio plusZero) (amount : d ≡ valueOr t.depth half) (wet : b ≡ valueOr t.mix half) where
-  abbrev pub allSet : Tick
-  allSet = tickOf (Set x) (Set d) (Set b) t.frequency t.sine0 t.sine1 t.sine2
+module _ (t : Tick) {x d b : Float} (audio : x ≡ value_or t.audio plus_zero) (amount : d ≡ value_or t.depth half) (wet : b ≡ value_or t.mix half) where
+  abbrev pub all_set : Tick
+  all_set = tick_of (Set x) (Set d) (Set b) t.frequency t.sine0 t.sine1 t.sine2
 
   pub set_does : {s : Chorus} {m : List Float} {s' : Chorus} {m' : List Float} {a : Reply} → number_in chorus (tick t) (length m) s ≡ 0
-      → number_in chorus (tick allSet) (length m) s ≡ 0
-      → Does chorus (tick allSet) s m s' m' a
+      → number_in chorus (tick all_set) (length m) s ≡ 0
+      → Does chorus (tick all_set) s m s' m' a
       → Does chorus (tick t) s m s' m' a
-  unfolding next writes page.samplesFrom voice
+  unfolding next writes page.samples_from voice
   set_does {s} {m} n k does =
       let rate = s.sample_rate in
-      let L = lineLength rate in
+      let L = line_length rate in
       let w = s.write_pos in
       accepts chorus (tick t) s m n
       (rw k at does.state)
-      ((rw k at does.memory) ∙ (λ i. laid (inEach 1 0 L w (sanitized (audio i))) m))
+      ((rw k at does.memory) ∙ (λ i. laid (in_each 1 0 L w (sanitized (audio i))) m))
       ((rw k at does.answer)
       ∙ (λ i. played
       (mixed
       (sanitized (audio i))
-      (clampOf (wet i) plusZero (float_of 1))
-      (readAt (line_at 0 L w m) (distance rate (clampOf (amount i) plusZero (float_of 1)) t.sine0))
-      (readAt (line_at 0 L w m) (distance rate (clampOf (amount i) plusZero (float_of 1)) t.sine1))
-      (readAt (line_at 0 L w m) (distance rate (clampOf (amount i) plusZero (float_of 1)) t.sine2)))))
+      (clamp_of (wet i) plus_zero (float_of 1))
+      (read_at (line_at 0 L w m) (distance rate (clamp_of (amount i) plus_zero (float_of 1)) t.sine0))
+      (read_at (line_at 0 L w m) (distance rate (clamp_of (amount i) plus_zero (float_of 1)) t.sine1))
+      (read_at (line_at 0 L w m) (distance rate (clamp_of (amount i) plus_zero (float_of 1)) t.sine2)))))

@@ -10,12 +10,12 @@ use lib.Dec.{ltb}
 use lib.ListN.{length, take, drop, length-replicate}
 use lib.Ieee.{Float}
 use borrow.Author.Tests.{lt-ltb, le-ltb}
-use Rattle.float64.specs.Number.{plusZero, rateFits}
+use Rattle.float64.specs.Number.{plus_zero, rate_fits}
 use Rattle.port.specs.Answer.{played, done, silent, refused}
-use Rattle.common.specs.Line.{zeros, line_at, readAt, allZero}
+use Rattle.common.specs.Line.{zeros, line_at, read_at, all_zero}
 use Rattle.common.proofs.Ring.{newest-clear, part-line, same-places}
 use Rattle.common.proofs.Zeros.{drop_more, zeros-split}
-use Rattle.effect.specs.Run.{tick, retune, reset, ask, CallOf, Device, deviceOf, ifNone, first, memoryNumber, number_in, number_at, startNumber, started, start, startReply, changed, says, step, reply, after, replies, Run}
+use Rattle.effect.specs.Run.{tick, retune, reset, ask, CallOf, Device, device_of, if_none, first, memory_number, number_in, number_at, start_number, started, start, start_reply, changed, says, step, reply, after, replies, Run}
 use Rattle.effect.specs.Demand1.{initial}
 use Rattle.effect.specs.Demand3.{Demand3}
 use Rattle.effect.proofs.Laws.{Laws, Below}
@@ -25,88 +25,88 @@ use Rattle.effect.proofs.Table.{none_1, accepted, settings-accepted, tick-accept
 use Rattle.effect.proofs.Lines.{line-end, push-each}
 use Rattle.effect.proofs.Memory.{length-laid}
 use Rattle.chorus.specs.declared.Chorus.{Chorus}
-use Rattle.chorus.specs.Chorus.{Tick, Phases, chorus, lineLength, phasesOf, startPhases, cleared, blank, stateFits, input, depth, mix, distance, voice, mixed, samplesFrom, next, tickNumber}
+use Rattle.chorus.specs.Chorus.{Tick, Phases, chorus, line_length, phases_of, start_phases, cleared, blank, state_fits, input, depth, mix, distance, voice, mixed, samples_from, next, tick_number}
 use Rattle.chorus.specs.Chorus as one
-use Rattle.chorus.specs.Three.{threeLined, lineAlone, Corresponds}
+use Rattle.chorus.specs.Three.{three_lined, line_alone, Corresponds}
 use Rattle.chorus.specs.Three as three
 use Rattle.chorus.proofs.Laws.{fits-parts, length-fits}
 use Rattle.chorus.proofs.Demand1.{laws}
-use Rattle.chorus.proofs.Demand3.{heardAll, plays, from-0, line-laws}
+use Rattle.chorus.proofs.Demand3.{heard_all, plays, from-0, line-laws}
 
 -- ---- the table's numbers: the places needed and those lent are both three times as many
 
-memory-alike : (L n : ℕ) → memoryNumber (3 * L) (3 * n) ≡ memoryNumber L n
+memory-alike : (L n : ℕ) → memory_number (3 * L) (3 * n) ≡ memory_number L n
 memory-alike L n = ap (λ (b : Bool). cond b 3 0) (go (dec_lt n L))
   where
     go : Dec (n < L) → ltb (3 * n) (3 * L) ≡ ltb n L
     go (yes h) = lt-ltb (3 * n) (3 * L) (omega arith) ∙ sym (lt-ltb n L h)
     go (no h) = le-ltb (3 * n) (3 * L) (omega arith) ∙ sym (le-ltb n L (omega arith))
 
-start-number-alike : (rate : Float) (m n : List Float) → length n ≡ 3 * length m → startNumber threeLined rate (length n) ≡ startNumber chorus rate (length m)
-start-number-alike rate m n l = ap (λ (k : ℕ). startNumber threeLined rate k) l ∙ ap (λ (k : ℕ). first (cond (rateFits rate) 0 1) k) (memory-alike (lineLength rate) (length m))
+start-number-alike : (rate : Float) (m n : List Float) → length n ≡ 3 * length m → start_number three_lined rate (length n) ≡ start_number chorus rate (length m)
+start-number-alike rate m n l = ap (λ (k : ℕ). start_number three_lined rate k) l ∙ ap (λ (k : ℕ). first (cond (rate_fits rate) 0 1) k) (memory-alike (line_length rate) (length m))
 
-number-alike : (s : Chorus) (n : ℕ) (c : CallOf chorus) → number_in threeLined c (3 * n) s ≡ number_in chorus c n s
-number-alike s n (tick t) = λ i. cond (stateFits s) (first (memory-alike (lineLength s.sample_rate) n i) (tickNumber t)) 4
-number-alike s n (retune rate) = λ i. cond (stateFits s) (first (cond (rateFits rate) 0 1) (memory-alike (lineLength rate) n i)) 4
-number-alike s n reset = λ i. cond (stateFits s) (memory-alike (lineLength s.sample_rate) n i) 4
-number-alike s n ask = λ i. cond (stateFits s) (memory-alike (lineLength s.sample_rate) n i) 4
+number-alike : (s : Chorus) (n : ℕ) (c : CallOf chorus) → number_in three_lined c (3 * n) s ≡ number_in chorus c n s
+number-alike s n (tick t) = λ i. cond (state_fits s) (first (memory-alike (line_length s.sample_rate) n i) (tick_number t)) 4
+number-alike s n (retune rate) = λ i. cond (state_fits s) (first (cond (rate_fits rate) 0 1) (memory-alike (line_length rate) n i)) 4
+number-alike s n reset = λ i. cond (state_fits s) (memory-alike (line_length s.sample_rate) n i) 4
+number-alike s n ask = λ i. cond (state_fits s) (memory-alike (line_length s.sample_rate) n i) 4
 
 -- ---- clearings
 
-cleared-alike : (p : Phases) (rate : Float) (j k : ℕ) → rateFits rate ≡ true → lineLength rate ≤ j → k ≡ 3 * j
-    → Corresponds (deviceOf (cleared p rate) (zeros j)) (deviceOf (cleared p rate) (zeros k))
+cleared-alike : (p : Phases) (rate : Float) (j k : ℕ) → rate_fits rate ≡ true → line_length rate ≤ j → k ≡ 3 * j
+    → Corresponds (device_of (cleared p rate) (zeros j)) (device_of (cleared p rate) (zeros k))
 cleared-alike p rate j k h room e =
-    let L = lineLength rate in
+    let L = line_length rate in
     let some = (length-fits rate h).0 in
     record {
       position = refl;
       phases = refl;
       rate = refl;
-      lent = length-replicate k plusZero ∙ e ∙ ap (λ (n : ℕ). 3 * n) (sym (length-replicate j plusZero));
+      lent = length-replicate k plus_zero ∙ e ∙ ap (λ (n : ℕ). 3 * n) (sym (length-replicate j plus_zero));
       lines = λ i l. newest-clear (i * L) L 0 k (omega arith) (omega (arith, line-end i 3 L (omega arith))) ∙ sym (newest-clear (0 * L) L 0 j (omega arith) (omega arith));
     }
 
 pub start-alike : (rate : Float) (m n : List Float) → length n ≡ 3 * length m
-    → (startReply threeLined rate n ≡ startReply chorus rate m) × ((start threeLined rate n).state ≡ (start chorus rate m).state)
-start-alike rate m n l = (ap (λ (k : ℕ). ifNone k done (refused k)) numbers, rw numbers (go (startNumber chorus rate (length m))))
+    → (start_reply three_lined rate n ≡ start_reply chorus rate m) × ((start three_lined rate n).state ≡ (start chorus rate m).state)
+start-alike rate m n l = (ap (λ (k : ℕ). if_none k done (refused k)) numbers, rw numbers (go (start_number chorus rate (length m))))
   where
-    numbers : startNumber threeLined rate (length n) ≡ startNumber chorus rate (length m)
+    numbers : start_number three_lined rate (length n) ≡ start_number chorus rate (length m)
     numbers = start-number-alike rate m n l
 
-    go : (k : ℕ) → (ifNone k (started threeLined rate n) (deviceOf blank n)).state ≡ (ifNone k (started chorus rate m) (deviceOf blank m)).state
+    go : (k : ℕ) → (if_none k (started three_lined rate n) (device_of blank n)).state ≡ (if_none k (started chorus rate m) (device_of blank m)).state
     go zero = refl
     go (suc k) = refl
 
-pub started-alike : (rate : Float) (m n : List Float) → length n ≡ 3 * length m → startNumber chorus rate (length m) ≡ 0
-    → Corresponds (start chorus rate m) (start threeLined rate n)
+pub started-alike : (rate : Float) (m n : List Float) → length n ≡ 3 * length m → start_number chorus rate (length m) ≡ 0
+    → Corresponds (start chorus rate m) (start three_lined rate n)
 started-alike rate m n l e =
     let v = settings-accepted chorus (length m) rate e in
     let e' = start-number-alike rate m n l ∙ e in
     let a : started chorus rate m ≡ start chorus rate m = rw e in
-    let b : started threeLined rate n ≡ start threeLined rate n = rw e' in
-    subst (λ (h : Device Chorus). Corresponds h (start threeLined rate n)) a
+    let b : started three_lined rate n ≡ start three_lined rate n = rw e' in
+    subst (λ (h : Device Chorus). Corresponds h (start three_lined rate n)) a
     (subst (λ (g : Device Chorus). Corresponds (started chorus rate m) g) b
-    (cleared-alike startPhases rate (length m) (length n) (none_1 (rateFits rate) v.number) v.enough l))
+    (cleared-alike start_phases rate (length m) (length n) (none_1 (rate_fits rate) v.number) v.enough l))
 
 -- ---- one call of a unit with one line in m, and of one with three in n, of the same state s
 
 -- the call c of both: equal replies, and units that correspond after it
 abbrev CallAlike : CallOf chorus → Device Chorus → Device Chorus → Type 0
-CallAlike c h g = (reply threeLined c g ≡ reply chorus c h) × Corresponds (step chorus c h) (step threeLined c g)
+CallAlike c h g = (reply three_lined c g ≡ reply chorus c h) × Corresponds (step chorus c h) (step three_lined c g)
 
 and_alike : (b : Bool) → b && (b && b) ≡ b
 and_alike true = refl
 and_alike false = refl
 
-module _ (s : Chorus) (m n : List Float) (r : Corresponds (deviceOf s m) (deviceOf s n)) where
+module _ (s : Chorus) (m n : List Float) (r : Corresponds (device_of s m) (device_of s n)) where
   abbrev h : Device Chorus
-  h = deviceOf s m
+  h = device_of s m
 
   abbrev g : Device Chorus
-  g = deviceOf s n
+  g = device_of s n
 
   abbrev L : ℕ
-  L = lineLength s.sample_rate
+  L = line_length s.sample_rate
 
   abbrev w : ℕ
   w = s.write_pos
@@ -115,7 +115,7 @@ module _ (s : Chorus) (m n : List Float) (r : Corresponds (deviceOf s m) (device
   line-in : L ≤ length m → (i : ℕ) → i < 3 → i * L + L ≤ length n
   line-in room i l = omega (arith, line-end i 3 L l, r.lent)
 
-  ticked-alike : (t : Tick) → w < L → L ≤ length m → Corresponds (changed chorus (tick t) h) (changed threeLined (tick t) g)
+  ticked-alike : (t : Tick) → w < L → L ≤ length m → Corresponds (changed chorus (tick t) h) (changed three_lined (tick t) g)
   unfolding next one.writes three.writes
   ticked-alike t inside room =
       let x = input t in
@@ -137,52 +137,52 @@ module _ (s : Chorus) (m n : List Float) (r : Corresponds (deviceOf s m) (device
       ∙ same-places (i * L) (0 * L) L w n m inside (line-in room i l) (omega arith) (r.lines i (omega arith))
       ∙ ap (λ (q : ℕ). take L (drop q m)) (zero-mul L)
 
-  silence-alike : w < L → L ≤ length m → allZero (take (3 * L) n) ≡ allZero (take L m)
+  silence-alike : w < L → L ≤ length m → all_zero (take (3 * L) n) ≡ all_zero (take L m)
   silence-alike inside room =
       let each = line-alike inside room in
       let parts : 3 * L ≡ L + (L + L) = omega arith in
-      ap (λ (k : ℕ). allZero (take k n)) parts
+      ap (λ (k : ℕ). all_zero (take k n)) parts
       ∙ zeros-split L (L + L) n
-      ∙ ap (λ (b : Bool). allZero (take L n) && b) (zeros-split L L (drop L n))
-      ∙ ap (λ (q : List Float). allZero (take L n) && (allZero (take L (drop L n)) && allZero (take L q))) (drop_more L L n)
-      ∙ (λ j. allZero (each 0 0 (omega arith) (omega arith) j) && (allZero (each 1 L (omega arith) (omega arith) j) && allZero (each 2 (L + L) (omega arith) (omega arith) j)))
-      ∙ and_alike (allZero (take L m))
+      ∙ ap (λ (b : Bool). all_zero (take L n) && b) (zeros-split L L (drop L n))
+      ∙ ap (λ (q : List Float). all_zero (take L n) && (all_zero (take L (drop L n)) && all_zero (take L q))) (drop_more L L n)
+      ∙ (λ j. all_zero (each 0 0 (omega arith) (omega arith) j) && (all_zero (each 1 L (omega arith) (omega arith) j) && all_zero (each 2 (L + L) (omega arith) (omega arith) j)))
+      ∙ and_alike (all_zero (take L m))
 
   -- what an accepted call leaves, and what it answers
-  changed-alike : (c : CallOf chorus) → number_at chorus c h ≡ 0 → Corresponds (changed chorus c h) (changed threeLined c g)
+  changed-alike : (c : CallOf chorus) → number_at chorus c h ≡ 0 → Corresponds (changed chorus c h) (changed three_lined c g)
   changed-alike (tick t) e =
       let a = accepted chorus (length m) (tick t) s e in
-      ticked-alike t (fits-parts s a.stateFits).inside (tick-accepted chorus (length m) t s.sample_rate a.number).enough
+      ticked-alike t (fits-parts s a.state_fits).inside (tick-accepted chorus (length m) t s.sample_rate a.number).enough
   changed-alike (retune rate) e =
       let v = settings-accepted chorus (length m) rate (accepted chorus (length m) (retune rate) s e).number in
-      cleared-alike (phasesOf s) rate (length m) (length n) (none_1 (rateFits rate) v.number) v.enough r.lent
+      cleared-alike (phases_of s) rate (length m) (length n) (none_1 (rate_fits rate) v.number) v.enough r.lent
   changed-alike reset e =
       let a = accepted chorus (length m) reset s e in
-      cleared-alike startPhases s.sample_rate (length m) (length n) (fits-parts s a.stateFits).rate (enough L (length m) a.number) r.lent
+      cleared-alike start_phases s.sample_rate (length m) (length n) (fits-parts s a.state_fits).rate (enough L (length m) a.number) r.lent
   changed-alike ask e = r
 
-  says-alike : (c : CallOf chorus) → number_at chorus c h ≡ 0 → says threeLined c g ≡ says chorus c h
+  says-alike : (c : CallOf chorus) → number_at chorus c h ≡ 0 → says three_lined c g ≡ says chorus c h
   says-alike (tick t) e =
       let a = accepted chorus (length m) (tick t) s e in
       let k = (tick-accepted chorus (length m) t s.sample_rate a.number).number in
-      ap played (plays (λ i. i * L) t s n _ a.stateFits k (λ i l. r.lines i (omega arith)) ∙ sym (plays (λ i. 0) t s m _ a.stateFits k (λ i l. from-0 s m)))
+      ap played (plays (λ i. i * L) t s n _ a.state_fits k (λ i l. r.lines i (omega arith)) ∙ sym (plays (λ i. 0) t s m _ a.state_fits k (λ i l. from-0 s m)))
   says-alike (retune rate) e = refl
   says-alike reset e = refl
   says-alike ask e =
       let a = accepted chorus (length m) ask s e in
-      ap silent (silence-alike (fits-parts s a.stateFits).inside (enough L (length m) a.number))
+      ap silent (silence-alike (fits-parts s a.state_fits).inside (enough L (length m) a.number))
 
   -- any call: it is accepted, or refused with the same number, of both
   same-call-alike : (c : CallOf chorus) → CallAlike c h g
   same-call-alike c =
-      subst (λ (k : ℕ). (ifNone k (says threeLined c g) (refused k) ≡ reply chorus c h) × Corresponds (step chorus c h) (ifNone k (changed threeLined c g) g)) (sym numbers)
+      subst (λ (k : ℕ). (if_none k (says three_lined c g) (refused k) ≡ reply chorus c h) × Corresponds (step chorus c h) (if_none k (changed three_lined c g) g)) (sym numbers)
       (go (number_at chorus c h) refl)
     where
-      numbers : number_at threeLined c g ≡ number_at chorus c h
-      numbers = ap (λ (k : ℕ). number_in threeLined c k s) r.lent ∙ number-alike s (length m) c
+      numbers : number_at three_lined c g ≡ number_at chorus c h
+      numbers = ap (λ (k : ℕ). number_in three_lined c k s) r.lent ∙ number-alike s (length m) c
 
       go : (k : ℕ) → number_at chorus c h ≡ k
-          → (ifNone k (says threeLined c g) (refused k) ≡ ifNone k (says chorus c h) (refused k)) × Corresponds (ifNone k (changed chorus c h) h) (ifNone k (changed threeLined c g) g)
+          → (if_none k (says three_lined c g) (refused k) ≡ if_none k (says chorus c h) (refused k)) × Corresponds (if_none k (changed chorus c h) h) (if_none k (changed three_lined c g) g)
       go zero e = (says-alike c e, changed-alike c e)
       go (suc k) e = (refl, r)
 
@@ -190,7 +190,7 @@ module _ (s : Chorus) (m n : List Float) (r : Corresponds (deviceOf s m) (device
 
 pub call-alike : (c : CallOf chorus) (h g : Device Chorus) → Corresponds h g → CallAlike c h g
 call-alike c h g r =
-    subst (λ (s : Chorus). Corresponds h (deviceOf s g.memory) → CallAlike c h (deviceOf s g.memory)) same-state
+    subst (λ (s : Chorus). Corresponds h (device_of s g.memory) → CallAlike c h (device_of s g.memory)) same-state
     (λ q. same-call-alike h.state h.memory g.memory q c)
     r
   where
@@ -207,22 +207,22 @@ call-alike c h g r =
 -- ---- lists of calls, and whole runs
 
 abbrev CallsAlike : List (CallOf chorus) → Device Chorus → Device Chorus → Type 0
-CallsAlike cs h g = (replies threeLined cs g ≡ replies chorus cs h) × Corresponds (after chorus cs h) (after threeLined cs g)
+CallsAlike cs h g = (replies three_lined cs g ≡ replies chorus cs h) × Corresponds (after chorus cs h) (after three_lined cs g)
 
 calls-alike : (cs : List (CallOf chorus)) (h g : Device Chorus) → Corresponds h g → CallsAlike cs h g
 unfolding after replies
 calls-alike [] h g r = (refl, r)
 calls-alike (c ∷ cs) h g r =
     let now = call-alike c h g r in
-    let rest = calls-alike cs (step chorus c h) (step threeLined c g) now.1 in
+    let rest = calls-alike cs (step chorus c h) (step three_lined c g) now.1 in
     ((λ i. now.0 i ∷ rest.0 i), rest.1)
 
-pub runs-alike : (x : Run chorus) (n : List Float) → length n ≡ 3 * length x.memory → CallsAlike x.calls (initial chorus x) (start threeLined x.handed n)
-runs-alike x n l = calls-alike x.calls (initial chorus x) (start threeLined x.handed n) (started-alike x.handed x.memory n l x.accepted)
+pub runs-alike : (x : Run chorus) (n : List Float) → length n ≡ 3 * length x.memory → CallsAlike x.calls (initial chorus x) (start three_lined x.handed n)
+runs-alike x n l = calls-alike x.calls (initial chorus x) (start three_lined x.handed n) (started-alike x.handed x.memory n l x.accepted)
 
 -- ---- the unit with three lines by itself
 
-three-laws : Laws threeLined
+three-laws : Laws three_lined
 unfolding three.writes
 three-laws =
     record {
@@ -238,10 +238,10 @@ three-laws =
       inside = λ t s m e. inside t s e;
     }
   where
-    inside : (t : Tick) (s : Chorus) → stateFits s ≡ true → Below (three.places s.sample_rate) (three.writes t s)
+    inside : (t : Tick) (s : Chorus) → state_fits s ≡ true → Below (three.places s.sample_rate) (three.writes t s)
     inside t s e = let f = (fits-parts s e).inside in (omega arith, (omega arith, (omega arith, tt)))
 
-three-line-laws : LineLaws threeLined three.lines
+three-line-laws : LineLaws three_lined three.lines
 unfolding next three.writes
 three-line-laws =
     record {
@@ -252,28 +252,28 @@ three-line-laws =
       next-position = λ t s m. refl;
       advanced = line-laws.advanced;
       next-phase = line-laws.next-phase;
-      played = λ t rate p l. heardAll t rate l;
-      plays = λ t s m l e r n g. plays (λ i. i * lineLength s.sample_rate) t s m l e n g;
+      played = λ t rate p l. heard_all t rate l;
+      plays = λ t s m l e r n g. plays (λ i. i * line_length s.sample_rate) t s m l e n g;
     }
 
-pub shown3 : (x y : Run threeLined) → Demand3 threeLined three.lines x y
-shown3 = demand-3 threeLined three.lines three-laws three-line-laws
+pub shown3 : (x y : Run three_lined) → Demand3 three_lined three.lines x y
+shown3 = demand-3 three_lined three.lines three-laws three-line-laws
 
 -- a voice hears in a line by itself what it hears in the line where it lies
-pub apart : (t : Tick) (s : Chorus) (m : List Float) → stateFits s ≡ true
+pub apart : (t : Tick) (s : Chorus) (m : List Float) → state_fits s ≡ true
     → three.samples t s m
-    ≡ mixed (input t) (mix t) (voice 0 t.sine0 t s (lineAlone 0 s m)) (voice 0 t.sine1 t s (lineAlone 1 s m)) (voice 0 t.sine2 t s (lineAlone 2 s m))
-unfolding samplesFrom voice
+    ≡ mixed (input t) (mix t) (voice 0 t.sine0 t s (line_alone 0 s m)) (voice 0 t.sine1 t s (line_alone 1 s m)) (voice 0 t.sine2 t s (line_alone 2 s m))
+unfolding samples_from voice
 apart t s m e = λ j.
     mixed
     (input t)
     (mix t)
-    (readAt (alone 0 j) (distance s.sample_rate (depth t) t.sine0))
-    (readAt (alone 1 j) (distance s.sample_rate (depth t) t.sine1))
-    (readAt (alone 2 j) (distance s.sample_rate (depth t) t.sine2))
+    (read_at (alone 0 j) (distance s.sample_rate (depth t) t.sine0))
+    (read_at (alone 1 j) (distance s.sample_rate (depth t) t.sine1))
+    (read_at (alone 2 j) (distance s.sample_rate (depth t) t.sine2))
   where
     L : ℕ
-    L = lineLength s.sample_rate
+    L = line_length s.sample_rate
 
-    alone : (i : ℕ) → line_at (i * L) L s.write_pos m ≡ line_at 0 L s.write_pos (lineAlone i s m)
+    alone : (i : ℕ) → line_at (i * L) L s.write_pos m ≡ line_at 0 L s.write_pos (line_alone i s m)
     alone i = sym (part-line (i * L) L s.write_pos m (fits-parts s e).inside)

@@ -2,13 +2,13 @@
 use Rattle.std.specs.Prelude.{ℕ, ◌-◌, ◌<◌, Bool, ◌&&◌, ◌||◌, cond, List, [], ◌∷◌, ltb, take, Float}
 use Rattle.std.specs.Float.{binary64}
 use Rattle.std.specs.Float.Ieee.{add, sub, mul, div}
-use Rattle.float64.specs.Number.{plusZero, float_of, fraction, half, rateFits, phaseFits, frequencyFits, sineFits, clampOf}
+use Rattle.float64.specs.Number.{plus_zero, float_of, fraction, half, rate_fits, phase_fits, frequency_fits, sine_fits, clamp_of}
 use Rattle.port.specs.declared.Port.{Port}
-use Rattle.port.specs.Port.{valueOr, isNanSet}
-use Rattle.common.specs.Signal.{sanitized, blended, advanced, causeNumber}
-use Rattle.common.specs.Line.{sweptLength, line_at, readAt, nextPlace, allZero}
+use Rattle.port.specs.Port.{value_or, is_nan_set}
+use Rattle.common.specs.Signal.{sanitized, blended, advanced, cause_number}
+use Rattle.common.specs.Line.{swept_length, line_at, read_at, next_place, all_zero}
 use Rattle.effect.specs.Effect.{Effect, Write}
-use Rattle.effect.specs.Lines.{Lines, inEach}
+use Rattle.effect.specs.Lines.{Lines, in_each}
 use Rattle.chorus.specs.declared.Chorus.{Chorus}
 
 -- what a tick is handed: its ports, and the curve numbers frequency and one sine per phase
@@ -21,13 +21,13 @@ pub record Tick : Type 0 where
   pub sine1 : Float
   pub sine2 : Float
 
-abbrev pub tickOf : Port → Port → Port → Float → Float → Float → Float → Tick
-tickOf audio depth mix frequency sine0 sine1 sine2 =
+abbrev pub tick_of : Port → Port → Port → Float → Float → Float → Float → Tick
+tick_of audio depth mix frequency sine0 sine1 sine2 =
     record { audio = audio; depth = depth; mix = mix; frequency = frequency; sine0 = sine0; sine1 = sine1; sine2 = sine2 }
 
 -- L: the whole part of rate × 32 / 1000, plus 10; 32 is 25 (MAX_MOD_DELAY_MS) and 7 (BASE_DELAY_MS)
-unfoldable pub lineLength : Float → ℕ
-lineLength rate = sweptLength (float_of 32) rate
+unfoldable pub line_length : Float → ℕ
+line_length rate = swept_length (float_of 32) rate
 
 -- ---- the phases of the three voices
 
@@ -36,14 +36,14 @@ pub record Phases : Type 0 where
   pub phase1 : Float
   pub phase2 : Float
 
-abbrev pub phasesOf : Chorus → Phases
-phasesOf s = record { phase0 = s.lfo_phase0; phase1 = s.lfo_phase1; phase2 = s.lfo_phase2 }
+abbrev pub phases_of : Chorus → Phases
+phases_of s = record { phase0 = s.lfo_phase0; phase1 = s.lfo_phase1; phase2 = s.lfo_phase2 }
 
-abbrev pub startPhases : Phases
-startPhases = record { phase0 = plusZero; phase1 = fraction 33 100; phase2 = fraction 67 100 }
+abbrev pub start_phases : Phases
+start_phases = record { phase0 = plus_zero; phase1 = fraction 33 100; phase2 = fraction 67 100 }
 
-abbrev pub zeroPhases : Phases
-zeroPhases = record { phase0 = plusZero; phase1 = plusZero; phase2 = plusZero }
+abbrev pub zero_phases : Phases
+zero_phases = record { phase0 = plus_zero; phase1 = plus_zero; phase2 = plus_zero }
 
 -- the factor of voice i, from 0 on: 1 + (i − 1) × 0.1
 unfoldable pub factor : ℕ → Float
@@ -53,8 +53,8 @@ factor i = add binary64 (float_of 1) (mul binary64 (sub binary64 (float_of i) (f
 abbrev pub stepped : Float → Float → Float → Float → Float
 stepped phase frequency factor rate = advanced phase (div binary64 (mul binary64 frequency factor) rate)
 
-unfoldable pub nextPhases : Float → Float → Phases → Phases
-nextPhases frequency rate p =
+unfoldable pub next_phases : Float → Float → Phases → Phases
+next_phases frequency rate p =
     record {
       phase0 = stepped p.phase0 frequency (factor 0) rate;
       phase1 = stepped p.phase1 frequency (factor 1) rate;
@@ -72,79 +72,79 @@ cleared p rate = state_of 0 p rate
 
 -- after a start and a reset
 abbrev pub fresh : Float → Chorus
-fresh rate = cleared startPhases rate
+fresh rate = cleared start_phases rate
 
 -- after a retune, which keeps the phases
 abbrev pub retuned : Float → Chorus → Chorus
-retuned rate s = cleared (phasesOf s) rate
+retuned rate s = cleared (phases_of s) rate
 
 -- what a refused start gives
 abbrev pub blank : Chorus
-blank = cleared zeroPhases plusZero
+blank = cleared zero_phases plus_zero
 
 -- the state test, cause 4
-unfoldable pub stateFits : Chorus → Bool
-stateFits s =
-    rateFits s.sample_rate
-    && (ltb s.write_pos (lineLength s.sample_rate) && (phaseFits s.lfo_phase0 && (phaseFits s.lfo_phase1 && phaseFits s.lfo_phase2)))
+unfoldable pub state_fits : Chorus → Bool
+state_fits s =
+    rate_fits s.sample_rate
+    && (ltb s.write_pos (line_length s.sample_rate) && (phase_fits s.lfo_phase0 && (phase_fits s.lfo_phase1 && phase_fits s.lfo_phase2)))
 
 -- causes 5 and 6
-unfoldable pub tickNumber : Tick → ℕ
-tickNumber t =
-    causeNumber (isNanSet t.depth || isNanSet t.mix)
-    (frequencyFits t.frequency && (sineFits t.sine0 && (sineFits t.sine1 && sineFits t.sine2)))
+unfoldable pub tick_number : Tick → ℕ
+tick_number t =
+    cause_number (is_nan_set t.depth || is_nan_set t.mix)
+    (frequency_fits t.frequency && (sine_fits t.sine0 && (sine_fits t.sine1 && sine_fits t.sine2)))
 
 -- ---- an accepted tick
 
 -- the audio under the input rule
 abbrev pub input : Tick → Float
-input t = sanitized (valueOr t.audio plusZero)
+input t = sanitized (value_or t.audio plus_zero)
 
 abbrev pub depth : Tick → Float
-depth t = clampOf (valueOr t.depth half) plusZero (float_of 1)
+depth t = clamp_of (value_or t.depth half) plus_zero (float_of 1)
 
 abbrev pub mix : Tick → Float
-mix t = clampOf (valueOr t.mix half) plusZero (float_of 1)
+mix t = clamp_of (value_or t.mix half) plus_zero (float_of 1)
 
 -- 7 × rate / 1000 + (sine × 0.5 + 0.5) × (depth × 25 × rate / 1000), clamped to 1 to L − 1
 unfoldable pub distance : Float → Float → Float → Float
 distance rate depth sine =
-    clampOf
+    clamp_of
     (add binary64
     (div binary64 (mul binary64 (float_of 7) rate) (float_of 1000))
     (mul binary64 (add binary64 (mul binary64 sine half) half) (div binary64 (mul binary64 (mul binary64 depth (float_of 25)) rate) (float_of 1000))))
     (float_of 1)
-    (float_of (lineLength rate - 1))
+    (float_of (line_length rate - 1))
 
 -- what a voice with this sine reads in a line that begins at place o, before the store
 unfoldable pub voice : ℕ → Float → Tick → Chorus → List Float → Float
 voice o sine t s m =
-    readAt (line_at o (lineLength s.sample_rate) s.write_pos m) (distance s.sample_rate (depth t) sine)
+    read_at (line_at o (line_length s.sample_rate) s.write_pos m) (distance s.sample_rate (depth t) sine)
 
 -- The sums start at +0. Voice 0 goes half to each side, voice 1 left, voice 2 right; they are divided by 3, 2, 2; each is mixed with the audio.
 unfoldable pub mixed : Float → Float → Float → Float → Float → List Float
 mixed input mix d0 d1 d2 =
-    let mono = add binary64 (add binary64 (add binary64 plusZero d0) d1) d2 in
-    let left = add binary64 (add binary64 plusZero (mul binary64 d0 half)) d1 in
-    let right = add binary64 (add binary64 plusZero (mul binary64 d0 half)) d2 in
+    let mono = add binary64 (add binary64 (add binary64 plus_zero d0) d1) d2 in
+    let left = add binary64 (add binary64 plus_zero (mul binary64 d0 half)) d1 in
+    let right = add binary64 (add binary64 plus_zero (mul binary64 d0 half)) d2 in
     blended input (div binary64 mono (float_of 3)) mix ∷ blended input (div binary64 left (float_of 2)) mix ∷ blended input (div binary64 right (float_of 2)) mix ∷ []
 
 -- mono, left, right, where voice i reads the line that begins at place `begin i`
-unfoldable pub samplesFrom : (ℕ → ℕ) → Tick → Chorus → List Float → List Float
-samplesFrom begin t s m = mixed (input t) (mix t) (voice (begin 0) t.sine0 t s m) (voice (begin 1) t.sine1 t s m) (voice (begin 2) t.sine2 t s m)
+unfoldable pub samples_from : (ℕ → ℕ) → Tick → Chorus → List Float → List Float
+samples_from begin t s m = mixed (input t) (mix t) (voice (begin 0) t.sine0 t s m) (voice (begin 1) t.sine1 t s m) (voice (begin 2) t.sine2 t s m)
 
 -- all three voices read the one line
 abbrev pub samples : Tick → Chorus → List Float → List Float
-samples t s m = samplesFrom (λ i. 0) t s m
+samples t s m = samples_from (λ i. 0) t s m
 
 unfoldable pub next : Tick → Chorus → Chorus
 next t s =
     let rate = s.sample_rate in
-    state_of (nextPlace (lineLength rate) s.write_pos) (nextPhases t.frequency rate (phasesOf s)) rate
+    state_of (next_place (line_length rate) s.write_pos) (next_phases t.frequency rate (phases_of s)) rate
 
 -- the audio goes into the line at the position
 unfoldable pub writes : Tick → Chorus → List Write
-writes t s = inEach 1 0 (lineLength s.sample_rate) s.write_pos (input t)
+writes t s = in_each 1 0 (line_length s.sample_rate) s.write_pos (input t)
 
 -- ---- the effect
 
@@ -156,21 +156,21 @@ chorus =
       Start = Float;
       Retune = Float;
       Tick = Tick;
-      stateFits = stateFits;
+      state_fits = state_fits;
       settings = λ s. s.sample_rate;
-      startSettings = λ rate. rate;
-      retuneSettings = λ rate old. rate;
-      settingsNumber = λ rate. cond (rateFits rate) 0 1;
-      places = lineLength;
-      InUse = λ k p. p < lineLength k;
-      tickNumber = λ t rate. tickNumber t;
+      start_settings = λ rate. rate;
+      retune_settings = λ rate old. rate;
+      settings_number = λ rate. cond (rate_fits rate) 0 1;
+      places = line_length;
+      InUse = λ k p. p < line_length k;
+      tick_number = λ t rate. tick_number t;
       blank = blank;
       fresh = fresh;
       retuned = retuned;
       next = λ t s m. next t s;
       writes = λ t s m. writes t s;
       samples = samples;
-      silence = λ s m. allZero (take (lineLength s.sample_rate) m);
+      silence = λ s m. all_zero (take (line_length s.sample_rate) m);
     }
 
 -- ---- its line, for the recent pasts
@@ -179,9 +179,9 @@ abbrev pub lines : Lines chorus
 lines =
     record {
       count = 1;
-      lineLength = lineLength;
+      line_length = line_length;
       position = λ s. s.write_pos;
       sample = input;
       Phase = Phases;
-      phase = phasesOf;
+      phase = phases_of;
     }

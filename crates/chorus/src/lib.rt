@@ -2,14 +2,14 @@
 ghost use Rattle.std.specs.Prelude.{◌≡◌, true, cond, ◌-◌, ◌≤◌, ◌<◌, length};
 ghost use Rattle.std.specs.Float.{binary64};
 ghost use Rattle.std.specs.Float.Ieee.{add, mul};
-ghost use Rattle.float64.specs.Number.{float_of, half, is_number, rateFits, clampOf};
+ghost use Rattle.float64.specs.Number.{float_of, half, is_number, rate_fits, clamp_of};
 ghost use Rattle.port.specs.declared.Port.TheVariants.{Set};
-ghost use Rattle.port.specs.Answer.{number_of, outcomeReply, answerReply, silenceReply, played};
-ghost use Rattle.common.specs.Line.{line_at, readAt, nextPlace};
-ghost use Rattle.effect.specs.Run.{tick, retune, reset, ask, ifNone, startNumber, number_in};
+ghost use Rattle.port.specs.Answer.{number_of, outcome_reply, answer_reply, silence_reply, played};
+ghost use Rattle.common.specs.Line.{line_at, read_at, next_place};
+ghost use Rattle.effect.specs.Run.{tick, retune, reset, ask, if_none, start_number, number_in};
 ghost use Rattle.effect.specs.Contract.{Does, Starts};
-ghost use Rattle.effect.specs.Needed.{placesNeeded};
-ghost use Rattle.chorus.specs.Chorus.{chorus, tickOf, lineLength, phasesOf, nextPhases, cleared, fresh, stateFits, mixed};
+ghost use Rattle.effect.specs.Needed.{places_needed};
+ghost use Rattle.chorus.specs.Chorus.{chorus, tick_of, line_length, phases_of, next_phases, cleared, fresh, state_fits, mixed};
 
 use port::{Answer, Outcome, Port, Silence};
 
@@ -43,14 +43,14 @@ impl Chorus {
 
     // The places of the line; 0 at a refused rate.
     fn line_length(rate: f64) -> u64
-        ensures { result ≡ cond (rateFits rate) (lineLength rate) 0 }
+        ensures { result ≡ cond (rate_fits rate) (line_length rate) 0 }
     {
         common::line_length(rate, Chorus::MAX_MOD_DELAY_MS + Chorus::BASE_DELAY_MS)
     }
 
     // The places that a start needs at the rate; 2^64 - 1 for a rate that is refused.
     pub fn places_needed(rate: f64) -> u64
-        ensures { result ≡ placesNeeded chorus rate }
+        ensures { result ≡ places_needed chorus rate }
     {
         effect::places_or_none(Chorus::line_length(rate))
     }
@@ -77,14 +77,14 @@ impl Chorus {
 
     // Causes 1 and 3: a rate that is refused, and memory that is too short for it.
     fn rate_refusal(rate: f64, places: usize) -> Outcome
-        ensures { number_of result ≡ startNumber chorus rate places }
+        ensures { number_of result ≡ start_number chorus rate places }
     {
         effect::check_rate(Chorus::line_length(rate), places)
     }
 
     // What a start, a retune or a reset returns, by the outcome of its tests: the state `next`, or `kept`.
     fn settled(outcome: Outcome, next: Chorus, kept: Chorus) -> Cleared
-        ensures { (result.state ≡ ifNone (number_of outcome) next kept) × (result.outcome ≡ outcome) }
+        ensures { (result.state ≡ if_none (number_of outcome) next kept) × (result.outcome ≡ outcome) }
     {
         if let Outcome::Accepted = outcome {
             return Cleared {
@@ -100,7 +100,7 @@ impl Chorus {
 
     // Start: the start phases, at the rate.
     pub fn new(sample_rate: f64, mem: &mut [f64]) -> Cleared
-        ensures { Starts chorus sample_rate mem.old result.state mem.new (outcomeReply result.outcome) }
+        ensures { Starts chorus sample_rate mem.old result.state mem.new (outcome_reply result.outcome) }
     {
         let outcome = Chorus::rate_refusal(sample_rate, mem.len());
         effect::clear(outcome, mem);
@@ -113,8 +113,8 @@ impl Chorus {
 
     // The state test, where n is the length of the line.
     fn state_fits(self, n: u64) -> bool
-        requires { n ≡ cond (rateFits self.sample_rate) (lineLength self.sample_rate) 0 }
-        ensures { result ≡ stateFits self }
+        requires { n ≡ cond (rate_fits self.sample_rate) (line_length self.sample_rate) 0 }
+        ensures { result ≡ state_fits self }
     {
         self.write_pos < n
             && (float64::phase_fits(self.lfo_phase0)
@@ -123,7 +123,7 @@ impl Chorus {
 
     // Causes 4 and 3: a state that fails its test, and memory that is too short for it.
     fn refusal(self, n: u64, places: usize) -> Outcome
-        requires { n ≡ cond (rateFits self.sample_rate) (lineLength self.sample_rate) 0 }
+        requires { n ≡ cond (rate_fits self.sample_rate) (line_length self.sample_rate) 0 }
         ensures { number_of result ≡ number_in chorus reset places self }
     {
         effect::check_state(self.state_fits(n), effect::check_memory(n, places))
@@ -131,7 +131,7 @@ impl Chorus {
 
     // Retune: a clearing at another rate, which keeps the phases.
     pub fn set_sample_rate(self, sample_rate: f64, mem: &mut [f64]) -> Cleared
-        ensures { Does chorus (retune sample_rate) self mem.old result.state mem.new (outcomeReply result.outcome) }
+        ensures { Does chorus (retune sample_rate) self mem.old result.state mem.new (outcome_reply result.outcome) }
     {
         let n = Chorus::line_length(self.sample_rate);
         let others = Chorus::rate_refusal(sample_rate, mem.len());
@@ -148,7 +148,7 @@ impl Chorus {
 
     // Reset: a clearing at the rate in force, with the start phases again.
     pub fn reset(self, mem: &mut [f64]) -> Cleared
-        ensures { Does chorus reset self mem.old result.state mem.new (outcomeReply result.outcome) }
+        ensures { Does chorus reset self mem.old result.state mem.new (outcome_reply result.outcome) }
     {
         let n = Chorus::line_length(self.sample_rate);
         let outcome = self.refusal(n, mem.len());
@@ -158,7 +158,7 @@ impl Chorus {
 
     // Silent? Whether every place of the line is +0 or -0.
     pub fn silent(self, mem: &[f64]) -> Silence
-        ensures { Does chorus ask self mem.now self mem.now (silenceReply result) }
+        ensures { Does chorus ask self mem.now self mem.now (silence_reply result) }
     {
         let n = Chorus::line_length(self.sample_rate);
         let outcome = self.refusal(n, mem.len());
@@ -169,7 +169,7 @@ impl Chorus {
     fn distance(n: usize, base: f64, swing: f64, sine: f64) -> f64
         requires le_n { 2 ≤ n }
         requires n_bound { n ≤ 16777217 }
-        ensures { result ≡ clampOf (add binary64 base (mul binary64 (add binary64 (mul binary64 sine half) half) swing)) (float_of 1)
+        ensures { result ≡ clamp_of (add binary64 base (mul binary64 (add binary64 (mul binary64 sine half) half) swing)) (float_of 1)
             (float_of (n - 1)) }
     {
         common::held_to_line(base + (sine * 0.5 + 0.5) * swing, (n - 1) as u32)
@@ -181,8 +181,8 @@ impl Chorus {
         requires in_bounds { 2 ≤ length line.now }
         requires line_len_bound { length line.now ≤ 16777217 }
         requires swing_value { is_number (add binary64 base (mul binary64 (add binary64 (mul binary64 sine half) half) swing)) ≡ true }
-        ensures { result ≡ readAt (line_at 0 (length line.now) w line.now)
-            (clampOf (add binary64 base (mul binary64 (add binary64 (mul binary64 sine half) half) swing)) (float_of 1)
+        ensures { result ≡ read_at (line_at 0 (length line.now) w line.now)
+            (clamp_of (add binary64 base (mul binary64 (add binary64 (mul binary64 sine half) half) swing)) (float_of 1)
             (float_of (length line.now - 1))) }
     {
         common::read_interpolated(line, w, Chorus::distance(line.len(), base, swing, sine))
@@ -191,8 +191,8 @@ impl Chorus {
     // The state after a tick: each voice's phase moves on by its own factor of the frequency.
     fn next(self, n: u64, frequency: f64) -> Chorus
         requires { self.write_pos < n }
-        ensures write_pos_value { result.write_pos ≡ nextPlace n self.write_pos }
-        ensures result_value { phasesOf result ≡ nextPhases frequency self.sample_rate (phasesOf self) }
+        ensures write_pos_value { result.write_pos ≡ next_place n self.write_pos }
+        ensures result_value { phases_of result ≡ next_phases frequency self.sample_rate (phases_of self) }
         ensures sample_rate_value { result.sample_rate ≡ self.sample_rate }
     {
         let rate = self.sample_rate;
@@ -207,7 +207,7 @@ impl Chorus {
 
     // Mono, left and right of the three voices, each mixed with the audio.
     fn mixed(input: f64, mix: f64, d0: f64, d1: f64, d2: f64) -> Answer
-        ensures { answerReply result ≡ played (mixed input mix d0 d1 d2) }
+        ensures { answer_reply result ≡ played (mixed input mix d0 d1 d2) }
     {
         let mono = 0.0 + d0 + d1 + d2;
         let left = 0.0 + d0 * 0.5 + d1;
@@ -232,11 +232,11 @@ impl Chorus {
         sine1: f64,
         sine2: f64,
     ) -> Ticked
-        requires n_value { n ≡ lineLength self.sample_rate }
-        requires self_value { number_in chorus (tick (tickOf (Set audio) (Set depth) (Set mix) frequency sine0 sine1 sine2)) (length mem.old) self
+        requires n_value { n ≡ line_length self.sample_rate }
+        requires self_value { number_in chorus (tick (tick_of (Set audio) (Set depth) (Set mix) frequency sine0 sine1 sine2)) (length mem.old) self
             ≡ 0 }
-        ensures { Does chorus (tick (tickOf (Set audio) (Set depth) (Set mix) frequency sine0 sine1 sine2)) self mem.old
-            result.state mem.new (answerReply result.answer) }
+        ensures { Does chorus (tick (tick_of (Set audio) (Set depth) (Set mix) frequency sine0 sine1 sine2)) self mem.old
+            result.state mem.new (answer_reply result.answer) }
     {
         let state = self.next(n, frequency);
         let rate = self.sample_rate;
@@ -266,8 +266,8 @@ impl Chorus {
         sine1: f64,
         sine2: f64,
     ) -> Ticked
-        ensures { Does chorus (tick (tickOf audio depth mix frequency sine0 sine1 sine2)) self mem.old result.state
-            mem.new (answerReply result.answer) }
+        ensures { Does chorus (tick (tick_of audio depth mix frequency sine0 sine1 sine2)) self mem.old result.state
+            mem.new (answer_reply result.answer) }
     {
         let n = Chorus::line_length(self.sample_rate);
         let refusal = self.refusal(n, mem.len());

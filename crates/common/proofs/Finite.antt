@@ -2,20 +2,20 @@
 use mathlib.Core.Path.{◌≡◌, refl, ap}
 use mathlib.Core.Bool.{true, false}
 use lib.Ieee.{Float, nan, inf, fin, binary64, sub, eq}
-use Rattle.float64.specs.Number.{plusZero}
+use Rattle.float64.specs.Number.{plus_zero}
 use Rattle.float64.proofs.Tests.{clash}
 use Rattle.float64.proofs.Same.{less-itself}
 use Rattle.common.specs.Signal.{sanitized}
 
-pub itself : (x : Float) → eq (sub binary64 x x) plusZero ≡ true → x ≡ sanitized x
+pub itself : (x : Float) → eq (sub binary64 x x) plus_zero ≡ true → x ≡ sanitized x
 unfolding sub eq
 itself nan h = clash h refl
 itself (inf true) h = clash h refl
 itself (inf false) h = clash h refl
 itself (fin s m e) h = refl
 
-pub not_itself : (x : Float) → eq (sub binary64 x x) plusZero ≡ false → plusZero ≡ sanitized x
+pub not_itself : (x : Float) → eq (sub binary64 x x) plus_zero ≡ false → plus_zero ≡ sanitized x
 unfolding eq
 not_itself nan h = refl
 not_itself (inf s) h = refl
-not_itself (fin s m e) h = clash (ap (λ (y : Float). eq y plusZero) (less-itself binary64 (fin s m e) tt)) h
+not_itself (fin s m e) h = clash (ap (λ (y : Float). eq y plus_zero) (less-itself binary64 (fin s m e) tt)) h

@@ -11,7 +11,7 @@ use lib.Dec.{ltb}
 use lib.ListN.{length, take, drop}
 use lib.Ieee.{Float, binary64, fits, is_nan, mul, div, le, lt, of_int}
 use borrow.Author.Tests.{not-false, le-ltb}
-use Rattle.float64.specs.Number.{plusZero, float_of, is_number, rateFits, clampOf, at_least, at_most}
+use Rattle.float64.specs.Number.{plus_zero, float_of, is_number, rate_fits, clamp_of, at_least, at_most}
 use Rattle.float64.proofs.Order.{le-transitive, le→not-lt}
 use Rattle.float64.proofs.Interval.{In, hi-fits, point, mul_in, div-in}
 use Rattle.float64.proofs.Ranges.{rate-in, range-in}
@@ -19,9 +19,9 @@ use Rattle.float64.proofs.Clamped.{clamp-in, clamp-halves}
 use Rattle.float64.proofs.Parts.{clamp-whole-in}
 use Rattle.port.specs.declared.Port.{Port}
 use Rattle.port.specs.declared.Port.TheVariants.{Set, Unset}
-use Rattle.port.specs.Port.{valueOr, isNanSet}
-use Rattle.common.specs.Signal.{causeNumber}
-use Rattle.common.specs.Line.{sweepFits, line_at, readAt}
+use Rattle.port.specs.Port.{value_or, is_nan_set}
+use Rattle.common.specs.Signal.{cause_number}
+use Rattle.common.specs.Line.{sweep_fits, line_at, read_at}
 use Rattle.common.proofs.Slices.{part_length}
 use Rattle.common.proofs.Ring.{part-line}
 
@@ -58,7 +58,7 @@ size-times k true L e = ap (λ (x : ℕ). k * x) e
 size-times k false L e = rw e (mul-zero k)
 
 -- rate × milliseconds / 1000
-pub swept-in : (rate milliseconds : Float) → rateFits rate ≡ true → sweepFits milliseconds ≡ true
+pub swept-in : (rate milliseconds : Float) → rate_fits rate ≡ true → sweep_fits milliseconds ≡ true
     → In binary64 (float_of 8) (float_of 19200) (div binary64 (mul binary64 rate milliseconds) (float_of 1000))
 unfolding fits le lt mul div of_int
 swept-in rate milliseconds h k = div-in (float_of 8) (float_of 19200) tt tt tt (mul_in (float_of 8000) (float_of 19200000) tt tt tt (rate-in h) (range-in tt k)) (point (float_of 1000) tt)
@@ -74,13 +74,13 @@ last-above M h k =
     le→not-lt binary64 (float_of 1) (float_of M) tt u (le-transitive binary64 (float_of 1) _ (float_of M) tt i.fit u i.lower i.upper)
 
 -- the clamp to 1 to M in two halves
-pub clamped-halves : (x : Float) (M : ℕ) → M ≤ 2 ^ 24 → 1 ≤ M → at_most (at_least x (float_of 1)) (float_of M) ≡ clampOf x (float_of 1) (float_of M)
+pub clamped-halves : (x : Float) (M : ℕ) → M ≤ 2 ^ 24 → 1 ≤ M → at_most (at_least x (float_of 1)) (float_of M) ≡ clamp_of x (float_of 1) (float_of M)
 clamped-halves x M h k = clamp-halves x (float_of 1) (float_of M) (last-above M h k)
 
 -- ---- controls
 
 -- causes 5 and 6 do not apply
-pub no-cause : (controlNan curvesFit : Bool) → causeNumber controlNan curvesFit ≡ 0 → (controlNan ≡ false) × (curvesFit ≡ true)
+pub no-cause : (control_nan curves_fit : Bool) → cause_number control_nan curves_fit ≡ 0 → (control_nan ≡ false) × (curves_fit ≡ true)
 no-cause true b e = absurd (omega arith)
 no-cause false true e = (refl, refl)
 no-cause false false e = absurd (omega arith)
@@ -90,19 +90,19 @@ neither true b e = absurd (let z : ◌≡◌ {A = ℕ} 0 1 = ap (λ (c : Bool). 
 neither false b e = (refl, e)
 
 -- a control that is not NaN, and so a number, or a default that is one
-pub value-number : (p : Port) (d : Float) → isNanSet p ≡ false → is_number d ≡ true → is_number (valueOr p d) ≡ true
+pub value-number : (p : Port) (d : Float) → is_nan_set p ≡ false → is_number d ≡ true → is_number (value_or p d) ≡ true
 value-number (Set x) d h k = not-false (is_number x) h
 value-number Unset d h k = k
 
 -- clamped, it lies from 0 to 1
-pub control-in : (p : Port) (d : Float) → isNanSet p ≡ false → is_number d ≡ true → In binary64 plusZero (float_of 1) (clampOf (valueOr p d) plusZero (float_of 1))
+pub control-in : (p : Port) (d : Float) → is_nan_set p ≡ false → is_number d ≡ true → In binary64 plus_zero (float_of 1) (clamp_of (value_or p d) plus_zero (float_of 1))
 unfolding fits le of_int
-control-in p d h k = clamp-in (valueOr p d) tt tt (value-number p d h k)
+control-in p d h k = clamp-in (value_or p d) tt tt (value-number p d h k)
 
 -- ---- a read in the part of k places from place o on, which is a line of n places, is a read of the line
 
 pub part-read : (k o n w : ℕ) (m : List Float) (x : Float) → k ≡ n → o + n ≤ length m → w < n
-    → readAt (line_at 0 (length (take k (drop o m))) w (take k (drop o m))) x ≡ readAt (line_at o n w m) x
+    → read_at (line_at 0 (length (take k (drop o m))) w (take k (drop o m))) x ≡ read_at (line_at o n w m) x
 part-read k o n w m x e h l =
-    (λ j. readAt (line_at 0 (part_length o k m n e h j) w (take (e j) (drop o m))) x)
-    ∙ ap (λ (f : ℕ → Float). readAt f x) (part-line o n w m l)
+    (λ j. read_at (line_at 0 (part_length o k m n e h j) w (take (e j) (drop o m))) x)
+    ∙ ap (λ (f : ℕ → Float). read_at f x) (part-line o n w m l)

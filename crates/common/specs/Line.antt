@@ -3,27 +3,27 @@
 use Rattle.std.specs.Prelude.{ℕ, zero, suc, ◌+◌, ◌-◌, ◌%◌, Bool, true, ◌&&◌, List, [], ◌∷◌, get_or, replicate, Float}
 use Rattle.std.specs.Float.{nan, binary64}
 use Rattle.std.specs.Float.Ieee.{mul, div, eq}
-use Rattle.float64.specs.Number.{plusZero, float_of, wholePart, fractionPart, in_range}
+use Rattle.float64.specs.Number.{plus_zero, float_of, whole_part, fraction_part, in_range}
 use Rattle.common.specs.Signal.{blended}
 
 -- L of a swept line: the whole part of rate × milliseconds / 1000, plus 10. No effect's milliseconds lie outside 1 to 100
-abbrev pub sweptLength : Float → Float → ℕ
-sweptLength milliseconds rate = wholePart (div binary64 (mul binary64 rate milliseconds) (float_of 1000)) + 10
+abbrev pub swept_length : Float → Float → ℕ
+swept_length milliseconds rate = whole_part (div binary64 (mul binary64 rate milliseconds) (float_of 1000)) + 10
 
-abbrev pub sweepFits : Float → Bool
-sweepFits milliseconds = in_range milliseconds (float_of 1) (float_of 100)
+abbrev pub sweep_fits : Float → Bool
+sweep_fits milliseconds = in_range milliseconds (float_of 1) (float_of 100)
 
 -- n places of +0
 abbrev pub zeros : ℕ → List Float
-zeros n = replicate n plusZero
+zeros n = replicate n plus_zero
 
 -- the place of the line that lies d samples back
 abbrev pub place : ℕ → ℕ → ℕ → ℕ
 place L w d = (w + L - d) % L
 
 -- the position after w
-abbrev pub nextPlace : ℕ → ℕ → ℕ
-nextPlace L w = (w + 1) % L
+abbrev pub next_place : ℕ → ℕ → ℕ
+next_place L w = (w + 1) % L
 
 -- what stands d samples back
 abbrev pub line_at : ℕ → ℕ → ℕ → List Float → ℕ → Float
@@ -31,8 +31,8 @@ line_at o L w m d = get_or m (o + place L w d) nan
 
 -- A read at a distance, of a line given by what stands d samples back: whole part and fraction of the distance; the place so far back times
 -- (1 − fraction), plus the one before it times the fraction.
-unfoldable pub readAt : (ℕ → Float) → Float → Float
-readAt at distance = blended (at (wholePart distance)) (at (wholePart distance + 1)) (fractionPart distance)
+unfoldable pub read_at : (ℕ → Float) → Float → Float
+read_at at distance = blended (at (whole_part distance)) (at (whole_part distance + 1)) (fraction_part distance)
 
 -- f 0, f 1 and so on, n of them
 unfoldable pub table : {A : Type 0} → (ℕ → A) → ℕ → List A
@@ -40,14 +40,14 @@ table f zero = []
 table f (suc n) = f zero ∷ table (λ i. f (suc i)) n
 
 -- the line read newest to oldest: d from 1 to L
-abbrev pub newestFirst : ℕ → ℕ → ℕ → List Float → List Float
-newestFirst o L w m = table (λ i. line_at o L w m (i + 1)) L
+abbrev pub newest_first : ℕ → ℕ → ℕ → List Float → List Float
+newest_first o L w m = table (λ i. line_at o L w m (i + 1)) L
 
 -- +0 or −0
 abbrev pub is_zero : Float → Bool
-is_zero x = eq x plusZero
+is_zero x = eq x plus_zero
 
 -- every place is +0 or −0
-unfoldable pub allZero : List Float → Bool
-allZero [] = true
-allZero (x ∷ xs) = is_zero x && allZero xs
+unfoldable pub all_zero : List Float → Bool
+all_zero [] = true
+all_zero (x ∷ xs) = is_zero x && all_zero xs

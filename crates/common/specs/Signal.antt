@@ -2,12 +2,12 @@
 use Rattle.std.specs.Prelude.{ℕ, Bool, cond, Float}
 use Rattle.std.specs.Float.{nan, inf, fin, binary64}
 use Rattle.std.specs.Float.Ieee.{add, sub, mul, le}
-use Rattle.float64.specs.Number.{plusZero, float_of}
+use Rattle.float64.specs.Number.{plus_zero, float_of}
 
 -- the input rule: non-finite audio becomes +0
 abbrev pub sanitized : Float → Float
-sanitized nan = plusZero
-sanitized (inf s) = plusZero
+sanitized nan = plus_zero
+sanitized (inf s) = plus_zero
 sanitized (fin s m e) = fin s m e
 
 -- a × (1 − f) + b × f: every dry/wet, and the two places of a read
@@ -21,5 +21,5 @@ advanced phase step =
     cond (le (float_of 1) next) (sub binary64 next (float_of 1)) next
 
 -- causes 5 and 6 of a tick: a control that it reads is set and NaN; a curve number is NaN or out of range. 0 is none
-abbrev pub causeNumber : Bool → Bool → ℕ
-causeNumber controlNan curvesFit = cond controlNan 5 (cond curvesFit 0 6)
+abbrev pub cause_number : Bool → Bool → ℕ
+cause_number control_nan curves_fit = cond control_nan 5 (cond curves_fit 0 6)

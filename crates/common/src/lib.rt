@@ -1,9 +1,9 @@
 // What the effects share: the input rule, dry/wet, phases, and lines in lent memory.
 ghost use Rattle.std.specs.Prelude.{◌≡◌, true, cond, ◌&&◌, ◌-◌, ◌≤◌, ◌<◌, length};
-ghost use Rattle.float64.specs.Number.{float_of, in_range, rateFits, at_least, at_most};
+ghost use Rattle.float64.specs.Number.{float_of, in_range, rate_fits, at_least, at_most};
 ghost use Rattle.port.specs.Answer.{number_of};
-ghost use Rattle.common.specs.Signal.{sanitized, blended, advanced, causeNumber};
-ghost use Rattle.common.specs.Line.{sweptLength, sweepFits, zeros, place, nextPlace, line_at, readAt, allZero};
+ghost use Rattle.common.specs.Signal.{sanitized, blended, advanced, cause_number};
+ghost use Rattle.common.specs.Line.{swept_length, sweep_fits, zeros, place, next_place, line_at, read_at, all_zero};
 
 use port::{Outcome, Refusal};
 
@@ -38,7 +38,7 @@ pub fn advance_phase(phase: f64, step: f64) -> f64
 
 // Causes 5 and 6 of a tick: whether a control that it reads is NaN, and whether its curve numbers are in range.
 pub fn tick_causes(control_nan: bool, curves_fit: bool) -> Outcome
-    ensures { number_of result ≡ causeNumber control_nan curves_fit }
+    ensures { number_of result ≡ cause_number control_nan curves_fit }
 {
     if control_nan {
         return Outcome::Refused(Refusal::Control);
@@ -52,7 +52,7 @@ pub fn tick_causes(control_nan: bool, curves_fit: bool) -> Outcome
 // The places of a swept line. A refused rate gives 0, so that no position fits. The milliseconds are a constant of the effect's: their test is gone in
 // the compiled code.
 pub fn line_length(rate: f64, milliseconds: f64) -> u64
-    ensures { result ≡ cond (rateFits rate && sweepFits milliseconds) (sweptLength milliseconds rate) 0 }
+    ensures { result ≡ cond (rate_fits rate && sweep_fits milliseconds) (swept_length milliseconds rate) 0 }
 {
     if !(float64::rate_fits(rate) & float64::in_range(milliseconds, 1.0, 100.0)) {
         return 0;
@@ -97,7 +97,7 @@ fn place_before(n: usize, p: usize) -> usize
 // The position after w in a line of n places.
 pub fn next_place(n: u64, w: u64) -> u64
     requires { w < n }
-    ensures { result ≡ nextPlace n w }
+    ensures { result ≡ next_place n w }
 {
     let next = w + 1;
     if next >= n {
@@ -111,7 +111,7 @@ pub fn read_interpolated(line: &[f64], w: usize, distance: f64) -> f64
     requires w_in_bounds { w < length line.now }
     requires line_len_bound { length line.now ≤ 16777217 }
     requires line_value { in_range distance (float_of 1) (float_of (length line.now - 1)) ≡ true }
-    ensures { result ≡ readAt (line_at 0 (length line.now) w line.now) distance }
+    ensures { result ≡ read_at (line_at 0 (length line.now) w line.now) distance }
 {
     let n = line.len();
     let whole = float64::whole_part_small(distance);
@@ -135,7 +135,7 @@ pub fn clear(mem: &mut [f64])
 
 // Whether every place of a part is +0 or -0. It reads them all, with no exit on the way, which compiles to vector instructions.
 fn part_zero(part: &[f64]) -> bool
-    ensures { result ≡ allZero part.now }
+    ensures { result ≡ all_zero part.now }
 {
     let mut zero = true;
     let mut i: usize = 0;
@@ -160,7 +160,7 @@ fn part_end(i: usize, n: usize) -> usize
 
 // Whether every place is +0 or -0: part by part, so that it stops soon after a place that is not.
 pub fn all_zero(places: &[f64]) -> bool
-    ensures { result ≡ allZero places.now }
+    ensures { result ≡ all_zero places.now }
 {
     let n = places.len();
     let mut i: usize = 0;

@@ -5,7 +5,7 @@ use mathlib.Core.Bool.{true, false}
 use mathlib.Core.List.{List}
 use lib.Ieee.{Float, le, of_int, to_bits}
 use lib.Ieee as Ieee
-use Rattle.float64.specs.Number.{in_range, isPlusZero, rateFits, coefficientFits}
+use Rattle.float64.specs.Number.{in_range, is_plus_zero, rate_fits, coefficient_fits}
 use Rattle.float64.proofs.Ranges.{in-range}
 use Rattle.common.proofs.Ring.{next-lt}
 use Rattle.effect.proofs.Table.{none-1-2}
@@ -13,28 +13,28 @@ use Rattle.effect.proofs.Laws.{Laws, Below}
 use Rattle.effect.specs.Demand1.{Demand1}
 use Rattle.effect.proofs.Demand1.{demand-1}
 use Rattle.delay_line.specs.declared.DelayLine.{DelayLine}
-use Rattle.delay_line.specs.DelayLine.{Settings, Tick, delayLine, stateFits, settings, settingsNumber, maximumFits, cleared, blank, glideFits, tickNumber, next, writes, places}
+use Rattle.delay_line.specs.DelayLine.{Settings, Tick, delay_line, state_fits, settings, settings_number, maximum_fits, cleared, blank, glide_fits, tick_number, next, writes, places}
 use Rattle.delay_line.proofs.Laws.{fits-parts, fit, held_fits, length-fits, size, tick-fits, distance-in}
 
 -- ---- the laws
 
-blank-refused : stateFits blank ≡ false
-unfolding stateFits in_range le of_int Ieee.fits
+blank-refused : state_fits blank ≡ false
+unfolding state_fits in_range le of_int Ieee.fits
 blank-refused = refl
 
 -- a clearing leaves a state that passes, where its settings fit
-cleared-fits : (k : Settings) → rateFits k.rate ≡ true → coefficientFits k.coefficient ≡ true → maximumFits k.maximum ≡ true → stateFits (cleared k) ≡ true
-unfolding glideFits isPlusZero Ieee.fits to_bits
+cleared-fits : (k : Settings) → rate_fits k.rate ≡ true → coefficient_fits k.coefficient ≡ true → maximum_fits k.maximum ≡ true → state_fits (cleared k) ≡ true
+unfolding glide_fits is_plus_zero Ieee.fits to_bits
 cleared-fits k r c m =
     fit (cleared k) (record { rate = r; maximum = m; inside = omega (arith, (length-fits k.rate k.maximum r m).0); coefficient = c; glide = refl })
 
 -- the row of settings that are accepted
-row : (rate coefficient : Float) → settingsNumber rate coefficient ≡ 0 → (rateFits rate ≡ true) × (coefficientFits coefficient ≡ true)
-unfolding settingsNumber
-row rate coefficient e = none-1-2 (rateFits rate) (coefficientFits coefficient) e
+row : (rate coefficient : Float) → settings_number rate coefficient ≡ 0 → (rate_fits rate ≡ true) × (coefficient_fits coefficient ≡ true)
+unfolding settings_number
+row rate coefficient e = none-1-2 (rate_fits rate) (coefficient_fits coefficient) e
 
-next_fits : (t : Tick) (s : DelayLine) → stateFits s ≡ true → tickNumber t s.linear_time ≡ 0 → stateFits (next t s) ≡ true
-unfolding next glideFits
+next_fits : (t : Tick) (s : DelayLine) → state_fits s ≡ true → tick_number t s.linear_time ≡ 0 → state_fits (next t s) ≡ true
+unfolding next glide_fits
 next_fits t s e n =
     let f = fits-parts s e in
     fit (next t s)
@@ -46,11 +46,11 @@ next_fits t s e n =
       glide = in-range (distance-in t s f (tick-fits t s.linear_time n));
     })
 
-inside : (t : Tick) (s : DelayLine) (m : List Float) → stateFits s ≡ true → Below (places (settings s)) (writes t s m)
+inside : (t : Tick) (s : DelayLine) (m : List Float) → state_fits s ≡ true → Below (places (settings s)) (writes t s m)
 unfolding writes
 inside t s m e = ((fits-parts s e).inside, tt)
 
-pub laws : Laws delayLine
+pub laws : Laws delay_line
 unfolding next
 laws =
     record {
@@ -58,15 +58,15 @@ laws =
       fresh-settings = λ k. refl;
       retuned-settings = λ k s. refl;
       next-settings = λ t s m. refl;
-      start_fits = λ x e. let r = row x.rate x.coefficient e in cleared-fits (delayLine.startSettings x) r.0 r.1 (held_fits x.maximum);
+      start_fits = λ x e. let r = row x.rate x.coefficient e in cleared-fits (delay_line.start_settings x) r.0 r.1 (held_fits x.maximum);
       reset-fits = λ s e. let f = fits-parts s e in cleared-fits (settings s) f.rate f.coefficient f.maximum;
       retuned-fits = λ a s e f.
           let r = row a.rate a.coefficient e in
-          cleared-fits (delayLine.retuneSettings a (settings s)) r.0 r.1 (fits-parts s f).maximum;
+          cleared-fits (delay_line.retune_settings a (settings s)) r.0 r.1 (fits-parts s f).maximum;
       next_fits = λ t s m e r n. next_fits t s e n;
       used = λ k p h. h;
       inside = λ t s m e. inside t s m e;
     }
 
-pub shown : Demand1 delayLine
-shown = demand-1 delayLine laws
+pub shown : Demand1 delay_line
+shown = demand-1 delay_line laws

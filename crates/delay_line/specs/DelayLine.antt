@@ -2,11 +2,11 @@
 use Rattle.std.specs.Prelude.{ℕ, ◌+◌, ◌-◌, ◌<◌, Bool, true, false, ◌&&◌, ◌||◌, cond, List, [], ◌∷◌, ltb, take, Float}
 use Rattle.std.specs.Float.{binary64}
 use Rattle.std.specs.Float.Ieee.{add, sub, mul, div}
-use Rattle.float64.specs.Number.{plusZero, float_of, fraction, half, is_number, is_finite, in_range, isPlusZero, rateFits, coefficientFits, clampOf, wholePart}
+use Rattle.float64.specs.Number.{plus_zero, float_of, fraction, half, is_number, is_finite, in_range, is_plus_zero, rate_fits, coefficient_fits, clamp_of, whole_part}
 use Rattle.port.specs.declared.Port.{Port}
-use Rattle.port.specs.Port.{valueOr, isNanSet}
-use Rattle.common.specs.Signal.{sanitized, blended, causeNumber}
-use Rattle.common.specs.Line.{line_at, readAt, nextPlace, allZero}
+use Rattle.port.specs.Port.{value_or, is_nan_set}
+use Rattle.common.specs.Signal.{sanitized, blended, cause_number}
+use Rattle.common.specs.Line.{line_at, read_at, next_place, all_zero}
 use Rattle.effect.specs.Effect.{Effect, Write}
 use Rattle.delay_line.specs.declared.DelayLine.{DelayLine}
 
@@ -33,35 +33,35 @@ pub record Tick : Type 0 where
   pub mix : Port
   pub milliseconds : Float
 
-abbrev pub tickOf : Port → Port → Port → Port → Float → Tick
-tickOf audio time feedback mix milliseconds = record { audio = audio; time = time; feedback = feedback; mix = mix; milliseconds = milliseconds }
+abbrev pub tick_of : Port → Port → Port → Port → Float → Tick
+tick_of audio time feedback mix milliseconds = record { audio = audio; time = time; feedback = feedback; mix = mix; milliseconds = milliseconds }
 
 -- ---- settings
 
 -- the maximum in seconds: not finite means 2.0, else clamped to 0.001 to 60
-unfoldable pub heldMaximum : Float → Float
-heldMaximum x = cond (is_finite x) (clampOf x (fraction 1 1000) (float_of 60)) (float_of 2)
+unfoldable pub held_maximum : Float → Float
+held_maximum x = cond (is_finite x) (clamp_of x (fraction 1 1000) (float_of 60)) (float_of 2)
 
 abbrev pub handing : Float → Float → Float → Bool → Settings
 handing rate coefficient maximum linear = record { rate = rate; coefficient = coefficient; maximum = maximum; linear = linear }
 
 -- a start is handed the same four, with a maximum still to be held
-abbrev pub startSettings : Settings → Settings
-startSettings x = handing x.rate x.coefficient (heldMaximum x.maximum) x.linear
+abbrev pub start_settings : Settings → Settings
+start_settings x = handing x.rate x.coefficient (held_maximum x.maximum) x.linear
 
-abbrev pub retuneSettings : Retune → Settings → Settings
-retuneSettings r old = handing r.rate r.coefficient old.maximum old.linear
+abbrev pub retune_settings : Retune → Settings → Settings
+retune_settings r old = handing r.rate r.coefficient old.maximum old.linear
 
 -- causes 1 and 2
-unfoldable pub settingsNumber : Float → Float → ℕ
-settingsNumber rate coefficient = cond (rateFits rate) (cond (coefficientFits coefficient) 0 2) 1
+unfoldable pub settings_number : Float → Float → ℕ
+settings_number rate coefficient = cond (rate_fits rate) (cond (coefficient_fits coefficient) 0 2) 1
 
-abbrev pub maximumFits : Float → Bool
-maximumFits x = in_range x (fraction 1 1000) (float_of 60)
+abbrev pub maximum_fits : Float → Bool
+maximum_fits x = in_range x (fraction 1 1000) (float_of 60)
 
 -- L: the whole part of rate × maximum, plus 1
-unfoldable pub lineLength : Float → Float → ℕ
-lineLength rate maximum = wholePart (mul binary64 rate maximum) + 1
+unfoldable pub line_length : Float → Float → ℕ
+line_length rate maximum = whole_part (mul binary64 rate maximum) + 1
 
 -- ---- states
 
@@ -83,75 +83,75 @@ state_of pos distance primed k =
 
 -- after every clearing: position 0, the glide unprimed with distance +0
 abbrev pub cleared : Settings → DelayLine
-cleared k = state_of 0 plusZero false k
+cleared k = state_of 0 plus_zero false k
 
 -- what a refused start gives
 abbrev pub blank : DelayLine
-blank = cleared (handing plusZero plusZero plusZero false)
+blank = cleared (handing plus_zero plus_zero plus_zero false)
 
 -- the glide distance in a line of L places: +0, sign included, while unprimed, else 1 to L − 1
-unfoldable pub glideFits : Bool → Float → ℕ → Bool
-glideFits primed distance L = cond primed (in_range distance (float_of 1) (float_of (L - 1))) (isPlusZero distance)
+unfoldable pub glide_fits : Bool → Float → ℕ → Bool
+glide_fits primed distance L = cond primed (in_range distance (float_of 1) (float_of (L - 1))) (is_plus_zero distance)
 
 -- the state test, cause 4
-unfoldable pub stateFits : DelayLine → Bool
-stateFits s =
-    let L = lineLength s.sample_rate s.max_delay_secs in
-    (rateFits s.sample_rate && maximumFits s.max_delay_secs)
-    && (ltb s.write_pos L && (coefficientFits s.delay_smooth_coef && glideFits s.delay_primed s.smoothed_delay L))
+unfoldable pub state_fits : DelayLine → Bool
+state_fits s =
+    let L = line_length s.sample_rate s.max_delay_secs in
+    (rate_fits s.sample_rate && maximum_fits s.max_delay_secs)
+    && (ltb s.write_pos L && (coefficient_fits s.delay_smooth_coef && glide_fits s.delay_primed s.smoothed_delay L))
 
 -- causes 5 and 6: linear mode reads the time port and not the milliseconds, exponential mode the milliseconds and not the time port
-unfoldable pub tickNumber : Tick → Bool → ℕ
-tickNumber t linear =
-    causeNumber ((linear && isNanSet t.time) || (isNanSet t.feedback || isNanSet t.mix)) (linear || is_number t.milliseconds)
+unfoldable pub tick_number : Tick → Bool → ℕ
+tick_number t linear =
+    cause_number ((linear && is_nan_set t.time) || (is_nan_set t.feedback || is_nan_set t.mix)) (linear || is_number t.milliseconds)
 
 -- ---- an accepted tick
 
 -- the audio under the input rule
 abbrev pub input : Tick → Float
-input t = sanitized (valueOr t.audio plusZero)
+input t = sanitized (value_or t.audio plus_zero)
 
 -- 0 to 0.99
 abbrev pub feedback : Tick → Float
-feedback t = clampOf (valueOr t.feedback plusZero) plusZero (fraction 99 100)
+feedback t = clamp_of (value_or t.feedback plus_zero) plus_zero (fraction 99 100)
 
 abbrev pub mix : Tick → Float
-mix t = clampOf (valueOr t.mix half) plusZero (float_of 1)
+mix t = clamp_of (value_or t.mix half) plus_zero (float_of 1)
 
 -- the delay in milliseconds: in linear mode the time port's seconds, 0 to the maximum, times 1000; else the curve number
-unfoldable pub delayMs : Tick → DelayLine → Float
-delayMs t s = cond s.linear_time (mul binary64 (clampOf (valueOr t.time half) plusZero s.max_delay_secs) (float_of 1000)) t.milliseconds
+unfoldable pub delay_ms : Tick → DelayLine → Float
+delay_ms t s = cond s.linear_time (mul binary64 (clamp_of (value_or t.time half) plus_zero s.max_delay_secs) (float_of 1000)) t.milliseconds
 
 -- milliseconds × rate / 1000
-unfoldable pub samplesOf : Float → Float → Float
-samplesOf rate ms = div binary64 (mul binary64 ms rate) (float_of 1000)
+unfoldable pub samples_of : Float → Float → Float
+samples_of rate ms = div binary64 (mul binary64 ms rate) (float_of 1000)
 
 -- the distance that is read: the first tick after a clearing reads at the target, later ones at target + (last distance − target) × coefficient
 unfoldable pub glided : Bool → Float → Float → Float → Float
 glided primed last coefficient target = cond primed (add binary64 target (mul binary64 (sub binary64 last target) coefficient)) target
 
 -- the distance that a tick reads at, when its target is so many samples: the target is clamped to 1 to L − 1, the glide is not
-unfoldable pub readsAt : DelayLine → Float → Float
-readsAt s target =
-    let L = lineLength s.sample_rate s.max_delay_secs in
-    glided s.delay_primed s.smoothed_delay s.delay_smooth_coef (clampOf target (float_of 1) (float_of (L - 1)))
+unfoldable pub reads_at : DelayLine → Float → Float
+reads_at s target =
+    let L = line_length s.sample_rate s.max_delay_secs in
+    glided s.delay_primed s.smoothed_delay s.delay_smooth_coef (clamp_of target (float_of 1) (float_of (L - 1)))
 
 unfoldable pub distance : Tick → DelayLine → Float
-distance t s = readsAt s (samplesOf s.sample_rate (delayMs t s))
+distance t s = reads_at s (samples_of s.sample_rate (delay_ms t s))
 
 -- what the line holds at that distance, before the store
-unfoldable pub delayedBy : DelayLine → Float → List Float → Float
-delayedBy s target m = readAt (line_at 0 (lineLength s.sample_rate s.max_delay_secs) s.write_pos m) (readsAt s target)
+unfoldable pub delayed_by : DelayLine → Float → List Float → Float
+delayed_by s target m = read_at (line_at 0 (line_length s.sample_rate s.max_delay_secs) s.write_pos m) (reads_at s target)
 
 unfoldable pub delayed : Tick → DelayLine → List Float → Float
-delayed t s m = delayedBy s (samplesOf s.sample_rate (delayMs t s)) m
+delayed t s m = delayed_by s (samples_of s.sample_rate (delay_ms t s)) m
 
 -- the state after a tick that read at a distance, in a line of L places
-abbrev pub nextState : ℕ → Float → DelayLine → DelayLine
-nextState L distance s = state_of (nextPlace L s.write_pos) distance true (settings s)
+abbrev pub next_state : ℕ → Float → DelayLine → DelayLine
+next_state L distance s = state_of (next_place L s.write_pos) distance true (settings s)
 
 unfoldable pub next : Tick → DelayLine → DelayLine
-next t s = nextState (lineLength s.sample_rate s.max_delay_secs) (distance t s) s
+next t s = next_state (line_length s.sample_rate s.max_delay_secs) (distance t s) s
 
 -- stores audio + read × feedback
 unfoldable pub writes : Tick → DelayLine → List Float → List Write
@@ -163,29 +163,29 @@ samples t s m = blended (input t) (delayed t s m) (mix t) ∷ []
 -- ---- the effect
 
 abbrev pub places : Settings → ℕ
-places k = lineLength k.rate k.maximum
+places k = line_length k.rate k.maximum
 
-abbrev pub delayLine : Effect
-delayLine =
+abbrev pub delay_line : Effect
+delay_line =
     record {
       State = DelayLine;
       Settings = Settings;
       Start = Settings;
       Retune = Retune;
       Tick = Tick;
-      stateFits = stateFits;
+      state_fits = state_fits;
       settings = settings;
-      startSettings = startSettings;
-      retuneSettings = retuneSettings;
-      settingsNumber = λ k. settingsNumber k.rate k.coefficient;
+      start_settings = start_settings;
+      retune_settings = retune_settings;
+      settings_number = λ k. settings_number k.rate k.coefficient;
       places = places;
       InUse = λ k p. p < places k;
-      tickNumber = λ t k. tickNumber t k.linear;
+      tick_number = λ t k. tick_number t k.linear;
       blank = blank;
       fresh = cleared;
       retuned = λ k s. cleared k;
       next = λ t s m. next t s;
       writes = writes;
       samples = samples;
-      silence = λ s m. allZero (take (lineLength s.sample_rate s.max_delay_secs) m);
+      silence = λ s m. all_zero (take (line_length s.sample_rate s.max_delay_secs) m);
     }

@@ -2,14 +2,14 @@
 ghost use Rattle.std.specs.Prelude.{◌≡◌, true, false, cond, ◌&&◌, ◌-◌, ◌≤◌, ◌<◌, [], ◌∷◌, length, set};
 ghost use Rattle.std.specs.Float.{binary64};
 ghost use Rattle.std.specs.Float.Ieee.{add, mul};
-ghost use Rattle.float64.specs.Number.{plusZero, float_of, fraction, is_number, rateFits, coefficientFits, clampOf};
+ghost use Rattle.float64.specs.Number.{plus_zero, float_of, fraction, is_number, rate_fits, coefficient_fits, clamp_of};
 ghost use Rattle.port.specs.declared.Port.TheVariants.{Set, Unset};
-ghost use Rattle.port.specs.Answer.{played, number_of, outcomeReply, answerReply, silenceReply};
+ghost use Rattle.port.specs.Answer.{played, number_of, outcome_reply, answer_reply, silence_reply};
 ghost use Rattle.common.specs.Signal.{sanitized, blended};
-ghost use Rattle.effect.specs.Run.{tick, retune, reset, ask, memoryNumber, number_in, ifNone};
+ghost use Rattle.effect.specs.Run.{tick, retune, reset, ask, memory_number, number_in, if_none};
 ghost use Rattle.effect.specs.Contract.{Does, Starts};
-ghost use Rattle.effect.specs.Needed.{placesNeeded};
-ghost use Rattle.delay_line.specs.DelayLine.{delayLine, handing, startSettings, retuning, tickOf, heldMaximum, maximumFits, lineLength, cleared, glideFits, stateFits, samplesOf, glided, readsAt, delayedBy, nextState};
+ghost use Rattle.effect.specs.Needed.{places_needed};
+ghost use Rattle.delay_line.specs.DelayLine.{delay_line, handing, start_settings, retuning, tick_of, held_maximum, maximum_fits, line_length, cleared, glide_fits, state_fits, samples_of, glided, reads_at, delayed_by, next_state};
 
 use port::{Answer, Outcome, Port, Refusal, Silence};
 
@@ -47,7 +47,7 @@ impl DelayLine {
 
     // The maximum in seconds: not finite means 2, else clamped.
     pub fn held_maximum(seconds: f64) -> f64
-        ensures { result ≡ heldMaximum seconds }
+        ensures { result ≡ held_maximum seconds }
     {
         if !float64::is_finite(seconds) {
             return DelayLine::MAX_DELAY_SECS;
@@ -57,7 +57,7 @@ impl DelayLine {
     }
 
     fn maximum_fits(seconds: f64) -> bool
-        ensures { result ≡ maximumFits seconds }
+        ensures { result ≡ maximum_fits seconds }
     {
         float64::in_range(
             seconds,
@@ -68,7 +68,7 @@ impl DelayLine {
 
     // The places of the line. A refused rate or maximum gives 0, so that no position fits.
     fn line_length(rate: f64, maximum: f64) -> u64
-        ensures { result ≡ cond (rateFits rate && maximumFits maximum) (lineLength rate maximum) 0 }
+        ensures { result ≡ cond (rate_fits rate && maximum_fits maximum) (line_length rate maximum) 0 }
     {
         if !(float64::rate_fits(rate) & DelayLine::maximum_fits(maximum)) {
             return 0;
@@ -78,7 +78,7 @@ impl DelayLine {
 
     // The places that a start needs at the rate, with a maximum still to be held; 2^64 - 1 for a rate that is refused. The coefficient has no part in it.
     pub fn places_needed(rate: f64, seconds: f64) -> u64
-        ensures { result ≡ placesNeeded delayLine (startSettings (handing rate plusZero seconds false)) }
+        ensures { result ≡ places_needed delay_line (start_settings (handing rate plus_zero seconds false)) }
     {
         let maximum = DelayLine::held_maximum(seconds);
         effect::places_or_none(DelayLine::line_length(rate, maximum))
@@ -102,8 +102,8 @@ impl DelayLine {
     // Causes 1, 2 and 3. A maximum out of range, which only a state that fails its test has, counts as a refused rate: the state
     // test stands before these, and gives 4.
     fn settings_refusal(rate: f64, coefficient: f64, maximum: f64, places: usize) -> Outcome
-        ensures { number_of result ≡ cond (rateFits rate && maximumFits maximum)
-            (cond (coefficientFits coefficient) (memoryNumber (lineLength rate maximum) places) 2) 1 }
+        ensures { number_of result ≡ cond (rate_fits rate && maximum_fits maximum)
+            (cond (coefficient_fits coefficient) (memory_number (line_length rate maximum) places) 2) 1 }
     {
         let n = DelayLine::line_length(rate, maximum);
         if n == 0 {
@@ -117,7 +117,7 @@ impl DelayLine {
 
     // What a start, a retune or a reset returns, by the outcome of its tests: the state `next`, or `kept`.
     fn settled(outcome: Outcome, next: DelayLine, kept: DelayLine) -> Cleared
-        ensures { (result.state ≡ ifNone (number_of outcome) next kept) × (result.outcome ≡ outcome) }
+        ensures { (result.state ≡ if_none (number_of outcome) next kept) × (result.outcome ≡ outcome) }
     {
         if let Outcome::Accepted = outcome {
             return Cleared {
@@ -139,8 +139,8 @@ impl DelayLine {
         linear: bool,
         mem: &mut [f64],
     ) -> Cleared
-        ensures { Starts delayLine (handing sample_rate coefficient max_delay_secs linear) mem.old result.state
-            mem.new (outcomeReply result.outcome) }
+        ensures { Starts delay_line (handing sample_rate coefficient max_delay_secs linear) mem.old result.state
+            mem.new (outcome_reply result.outcome) }
     {
         let maximum = DelayLine::held_maximum(max_delay_secs);
         let outcome = DelayLine::settings_refusal(sample_rate, coefficient, maximum, mem.len());
@@ -153,7 +153,7 @@ impl DelayLine {
     fn glide_fits(self, n: u64) -> bool
         requires le_n { 1 ≤ n }
         requires n_bound { n ≤ 11520001 }
-        ensures { result ≡ glideFits self.delay_primed self.smoothed_delay n }
+        ensures { result ≡ glide_fits self.delay_primed self.smoothed_delay n }
     {
         if self.delay_primed {
             return float64::in_range(self.smoothed_delay, 1.0, float64::from_u32((n - 1) as u32));
@@ -163,9 +163,9 @@ impl DelayLine {
 
     // The state test, where n is the length of the line.
     fn state_fits(self, n: u64) -> bool
-        requires { n ≡ cond (rateFits self.sample_rate && maximumFits self.max_delay_secs)
-            (lineLength self.sample_rate self.max_delay_secs) 0 }
-        ensures { result ≡ stateFits self }
+        requires { n ≡ cond (rate_fits self.sample_rate && maximum_fits self.max_delay_secs)
+            (line_length self.sample_rate self.max_delay_secs) 0 }
+        ensures { result ≡ state_fits self }
     {
         if self.write_pos >= n {
             return false;
@@ -178,17 +178,17 @@ impl DelayLine {
 
     // Causes 4 and 3: a state that fails its test, and memory that is too short for it.
     fn refusal(self, n: u64, places: usize) -> Outcome
-        requires { n ≡ cond (rateFits self.sample_rate && maximumFits self.max_delay_secs)
-            (lineLength self.sample_rate self.max_delay_secs) 0 }
-        ensures { number_of result ≡ number_in delayLine reset places self }
+        requires { n ≡ cond (rate_fits self.sample_rate && maximum_fits self.max_delay_secs)
+            (line_length self.sample_rate self.max_delay_secs) 0 }
+        ensures { number_of result ≡ number_in delay_line reset places self }
     {
         effect::check_state(self.state_fits(n), effect::check_memory(n, places))
     }
 
     // Retune: a clearing at another rate and coefficient, which keeps the maximum and the mode.
     pub fn set_sample_rate(self, sample_rate: f64, coefficient: f64, mem: &mut [f64]) -> Cleared
-        ensures { Does delayLine (retune (retuning sample_rate coefficient)) self mem.old result.state mem.new
-            (outcomeReply result.outcome) }
+        ensures { Does delay_line (retune (retuning sample_rate coefficient)) self mem.old result.state mem.new
+            (outcome_reply result.outcome) }
     {
         let maximum = self.max_delay_secs;
         let n = DelayLine::line_length(self.sample_rate, maximum);
@@ -201,7 +201,7 @@ impl DelayLine {
 
     // Reset: a clearing with the settings in force.
     pub fn reset(self, mem: &mut [f64]) -> Cleared
-        ensures { Does delayLine reset self mem.old result.state mem.new (outcomeReply result.outcome) }
+        ensures { Does delay_line reset self mem.old result.state mem.new (outcome_reply result.outcome) }
     {
         let rate = self.sample_rate;
         let maximum = self.max_delay_secs;
@@ -214,7 +214,7 @@ impl DelayLine {
 
     // Silent? Whether every place of the line is +0 or -0.
     pub fn silent(self, mem: &[f64]) -> Silence
-        ensures { Does delayLine ask self mem.now self mem.now (silenceReply result) }
+        ensures { Does delay_line ask self mem.now self mem.now (silence_reply result) }
     {
         let n = DelayLine::line_length(self.sample_rate, self.max_delay_secs);
         let outcome = self.refusal(n, mem.len());
@@ -225,7 +225,7 @@ impl DelayLine {
     fn target_delay(n: u64, samples: f64) -> f64
         requires le_n { 2 ≤ n }
         requires n_bound { n ≤ 11520001 }
-        ensures { result ≡ clampOf samples (float_of 1) (float_of (n - 1)) }
+        ensures { result ≡ clamp_of samples (float_of 1) (float_of (n - 1)) }
     {
         common::held_to_line(samples, (n - 1) as u32)
     }
@@ -244,8 +244,8 @@ impl DelayLine {
     // The delay in samples, not yet held to the line: milliseconds x rate / 1000, in linear mode of the time port's seconds, else of those handed. It is
     // NaN where what it is read from is.
     fn delay_samples(self, time: f64, milliseconds: f64) -> f64
-        ensures value { result ≡ samplesOf self.sample_rate
-            (cond self.linear_time (mul binary64 (clampOf time plusZero self.max_delay_secs) (float_of 1000)) milliseconds) }
+        ensures value { result ≡ samples_of self.sample_rate
+            (cond self.linear_time (mul binary64 (clamp_of time plus_zero self.max_delay_secs) (float_of 1000)) milliseconds) }
         ensures milliseconds_value { is_number result ≡ true → cond self.linear_time (is_number time) (is_number milliseconds) ≡ true }
     {
         if self.linear_time {
@@ -265,9 +265,9 @@ impl DelayLine {
         mix: f64,
         milliseconds: f64,
     ) -> Outcome
-        requires { n ≡ cond (rateFits self.sample_rate && maximumFits self.max_delay_secs)
-            (lineLength self.sample_rate self.max_delay_secs) 0 }
-        ensures { number_of result ≡ number_in delayLine (tick (tickOf Unset (Set time) (Set feedback) (Set mix) milliseconds)) places self }
+        requires { n ≡ cond (rate_fits self.sample_rate && maximum_fits self.max_delay_secs)
+            (line_length self.sample_rate self.max_delay_secs) 0 }
+        ensures { number_of result ≡ number_in delay_line (tick (tick_of Unset (Set time) (Set feedback) (Set mix) milliseconds)) places self }
     {
         let refusal = self.refusal(n, places);
         if let Outcome::Refused(cause) = refusal {
@@ -283,7 +283,7 @@ impl DelayLine {
     // The state after a tick that read at the distance.
     fn next(self, n: u64, distance: f64) -> DelayLine
         requires { self.write_pos < n }
-        ensures { result ≡ nextState n distance self }
+        ensures { result ≡ next_state n distance self }
     {
         DelayLine {
             write_pos: common::next_place(n, self.write_pos),
@@ -306,16 +306,16 @@ impl DelayLine {
         feedback: f64,
         mix: f64,
     ) -> Ticked
-        requires n_value { n ≡ lineLength self.sample_rate self.max_delay_secs }
-        requires self_value { stateFits self ≡ true }
+        requires n_value { n ≡ line_length self.sample_rate self.max_delay_secs }
+        requires self_value { state_fits self ≡ true }
         requires n_in_bounds { n ≤ length mem.old }
         requires samples_value { is_number samples ≡ true }
-        ensures state_value { result.state ≡ nextState n (readsAt self samples) self }
-        ensures answer_value { answerReply result.answer ≡ played
-            (blended (sanitized audio) (delayedBy self samples mem.old) (clampOf mix plusZero (float_of 1)) ∷ []) }
+        ensures state_value { result.state ≡ next_state n (reads_at self samples) self }
+        ensures answer_value { answer_reply result.answer ≡ played
+            (blended (sanitized audio) (delayed_by self samples mem.old) (clamp_of mix plus_zero (float_of 1)) ∷ []) }
         ensures mem_after { mem.new ≡ set mem.old self.write_pos
             (add binary64 (sanitized audio)
-            (mul binary64 (delayedBy self samples mem.old) (clampOf feedback plusZero (fraction 99 100)))) }
+            (mul binary64 (delayed_by self samples mem.old) (clamp_of feedback plus_zero (fraction 99 100)))) }
     {
         let target = DelayLine::target_delay(n, samples);
         let distance = self.glided(target);
@@ -344,8 +344,8 @@ impl DelayLine {
         mix: Port,
         milliseconds: f64,
     ) -> Ticked
-        ensures { Does delayLine (tick (tickOf audio time feedback mix milliseconds)) self mem.old result.state
-            mem.new (answerReply result.answer) }
+        ensures { Does delay_line (tick (tick_of audio time feedback mix milliseconds)) self mem.old result.state
+            mem.new (answer_reply result.answer) }
     {
         let audio = if let Port::Set(x) = audio { x } else { 0.0 };
         let time = if let Port::Set(x) = time { x } else { 0.5 };

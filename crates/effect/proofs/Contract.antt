@@ -9,12 +9,12 @@ use mathlib.Core.List.{List}
 use lib.ListN.{length}
 use lib.Ieee.{Float}
 use Rattle.port.specs.declared.Outcome.{Outcome}
-use Rattle.port.specs.Answer.{Reply, done, silent, refused, number_of, outcomeReply}
+use Rattle.port.specs.Answer.{Reply, done, silent, refused, number_of, outcome_reply}
 use Rattle.common.specs.Line.{zeros}
 use Rattle.effect.specs.Effect.{Effect}
-use Rattle.effect.specs.Run.{tick, reset, ask, CallOf, Device, ifNone, memoryNumber, startNumber, numberFor, number_in, changed, says}
+use Rattle.effect.specs.Run.{tick, reset, ask, CallOf, Device, if_none, memory_number, start_number, number_for, number_in, changed, says}
 use Rattle.effect.specs.Contract.{Does, Starts}
-use Rattle.effect.proofs.Table.{ifNone-some, first_some}
+use Rattle.effect.proofs.Table.{if_none-some, first_some}
 use Rattle.effect.proofs.Outcomes.{outcome-reply}
 
 -- ---- a call after the start
@@ -23,11 +23,11 @@ module _ (E : Effect) (c : CallOf E) (s : E.State) (m : List Float) where
   pub refuses : (k : ℕ) → k ≡ number_in E c (length m) s → k ≢ 0 → Does E c s m s m (refused k)
   refuses k e some =
       let h : Device E.State = record { state = s; memory = m } in
-      let stays = ifNone-some k (changed E c h) h some in
+      let stays = if_none-some k (changed E c h) h some in
       record {
         state = rw (← e) (sym (ap (λ (u : Device E.State). u.state) stays));
         memory = rw (← e) (sym (ap (λ (u : Device E.State). u.memory) stays));
-        answer = rw (← e) (sym (ifNone-some k (says E c h) (refused k) some));
+        answer = rw (← e) (sym (if_none-some k (says E c h) (refused k) some));
       }
 
   pub accepts : {s' : E.State} {m' : List Float} {a : Reply} → number_in E c (length m) s ≡ 0
@@ -39,9 +39,9 @@ module _ (E : Effect) (c : CallOf E) (s : E.State) (m : List Float) where
 
   -- from the number k that its tests come to
   by_number : (k : ℕ) {s' : E.State} {m' : List Float} {a : Reply} → k ≡ number_in E c (length m) s
-      → s' ≡ ifNone k (changed E c (record { state = s; memory = m })).state s
-      → m' ≡ ifNone k (changed E c (record { state = s; memory = m })).memory m
-      → a ≡ ifNone k (says E c (record { state = s; memory = m })) (refused k)
+      → s' ≡ if_none k (changed E c (record { state = s; memory = m })).state s
+      → m' ≡ if_none k (changed E c (record { state = s; memory = m })).memory m
+      → a ≡ if_none k (says E c (record { state = s; memory = m })) (refused k)
       → Does E c s m s' m' a
   by_number zero e p q r = accepts (sym e) p q r
   by_number (suc k) e p q r = rw (p, q, r) (refuses (suc k) e (omega arith))
@@ -49,16 +49,16 @@ module _ (E : Effect) (c : CallOf E) (s : E.State) (m : List Float) where
   -- a retune or a reset, by the outcome of its tests: the memory is cleared by it, and the state goes by it
   pub clears : (o : Outcome) {s' : E.State} {m' : List Float} {o' : Outcome} → number_of o ≡ number_in E c (length m) s
       → says E c (record { state = s; memory = m }) ≡ done
-      → s' ≡ ifNone (number_of o) (changed E c (record { state = s; memory = m })).state s
-      → m' ≡ ifNone (number_of o) (changed E c (record { state = s; memory = m })).memory m
+      → s' ≡ if_none (number_of o) (changed E c (record { state = s; memory = m })).state s
+      → m' ≡ if_none (number_of o) (changed E c (record { state = s; memory = m })).memory m
       → o' ≡ o
-      → Does E c s m s' m' (outcomeReply o')
-  clears o e d p q r = by_number (number_of o) e p q (ap outcomeReply r ∙ rw d (outcome-reply o))
+      → Does E c s m s' m' (outcome_reply o')
+  clears o e d p q r = by_number (number_of o) e p q (ap outcome_reply r ∙ rw d (outcome-reply o))
 
 -- the question, by the outcome of its tests: b is what was found where they passed
 pub asks : (E : Effect) (s : E.State) (m : List Float) (k : ℕ) {b : Bool} {a : Reply} → k ≡ number_in E ask (length m) s
     → (number_in E ask (length m) s ≡ 0 → b ≡ E.silence s m)
-    → a ≡ ifNone k (silent b) (refused k)
+    → a ≡ if_none k (silent b) (refused k)
     → Does E ask s m s m a
 asks E s m zero e found r = accepts E ask s m (sym e) refl refl (rw r (ap silent (found (sym e))))
 asks E s m (suc k) e found r = rw r (refuses E ask s m (suc k) e (omega arith))
@@ -66,32 +66,32 @@ asks E s m (suc k) e found r = rw r (refuses E ask s m (suc k) e (omega arith))
 -- ---- a start
 
 module _ (E : Effect) (x : E.Start) (m : List Float) where
-  pub starts-refused : (k : ℕ) → k ≡ startNumber E x (length m) → k ≢ 0 → Starts E x m E.blank m (refused k)
+  pub starts-refused : (k : ℕ) → k ≡ start_number E x (length m) → k ≢ 0 → Starts E x m E.blank m (refused k)
   starts-refused k e some =
       record {
-        state = rw (← e) (sym (ap (λ (u : Device E.State). u.state) (ifNone-some k _ _ some)));
-        memory = rw (← e) (sym (ap (λ (u : Device E.State). u.memory) (ifNone-some k _ _ some)));
-        answer = rw (← e) (sym (ifNone-some k done (refused k) some));
+        state = rw (← e) (sym (ap (λ (u : Device E.State). u.state) (if_none-some k _ _ some)));
+        memory = rw (← e) (sym (ap (λ (u : Device E.State). u.memory) (if_none-some k _ _ some)));
+        answer = rw (← e) (sym (if_none-some k done (refused k) some));
       }
 
-  pub starts-accepted : {s' : E.State} {m' : List Float} {a : Reply} → startNumber E x (length m) ≡ 0
-      → s' ≡ E.fresh (E.startSettings x)
+  pub starts-accepted : {s' : E.State} {m' : List Float} {a : Reply} → start_number E x (length m) ≡ 0
+      → s' ≡ E.fresh (E.start_settings x)
       → m' ≡ zeros (length m)
       → a ≡ done
       → Starts E x m s' m' a
   starts-accepted e p q r = record { state = rw e p; memory = rw e q; answer = rw e r }
 
   -- by the outcome of its tests
-  pub starts-clears : (o : Outcome) {s' : E.State} {m' : List Float} {o' : Outcome} → number_of o ≡ startNumber E x (length m)
-      → s' ≡ ifNone (number_of o) (E.fresh (E.startSettings x)) E.blank
-      → m' ≡ ifNone (number_of o) (zeros (length m)) m
+  pub starts-clears : (o : Outcome) {s' : E.State} {m' : List Float} {o' : Outcome} → number_of o ≡ start_number E x (length m)
+      → s' ≡ if_none (number_of o) (E.fresh (E.start_settings x)) E.blank
+      → m' ≡ if_none (number_of o) (zeros (length m)) m
       → o' ≡ o
-      → Starts E x m s' m' (outcomeReply o')
-  starts-clears o e p q r = go (number_of o) e p q (ap outcomeReply r ∙ outcome-reply o)
+      → Starts E x m s' m' (outcome_reply o')
+  starts-clears o e p q r = go (number_of o) e p q (ap outcome_reply r ∙ outcome-reply o)
     where
-      go : (k : ℕ) {s' : E.State} {m' : List Float} {a : Reply} → k ≡ startNumber E x (length m) → s' ≡ ifNone k (E.fresh (E.startSettings x)) E.blank
-          → m' ≡ ifNone k (zeros (length m)) m
-          → a ≡ ifNone k done (refused k)
+      go : (k : ℕ) {s' : E.State} {m' : List Float} {a : Reply} → k ≡ start_number E x (length m) → s' ≡ if_none k (E.fresh (E.start_settings x)) E.blank
+          → m' ≡ if_none k (zeros (length m)) m
+          → a ≡ if_none k done (refused k)
           → Starts E x m s' m' a
       go zero e p q r = starts-accepted (sym e) p q r
       go (suc k) e p q r = rw (p, q, r) (starts-refused (suc k) e (omega arith))
@@ -100,29 +100,29 @@ module _ (E : Effect) (x : E.Start) (m : List Float) where
 
 module _ (E : Effect) (n : ℕ) (s : E.State) where
   -- 4, of any call after the start
-  pub state-refused : (c : CallOf E) → E.stateFits s ≡ false → ◌≡◌ {A = ℕ} 4 (number_in E c n s)
+  pub state-refused : (c : CallOf E) → E.state_fits s ≡ false → ◌≡◌ {A = ℕ} 4 (number_in E c n s)
   state-refused c e = rw e
 
   -- 4, and without it the rest of the row: f is the state test's answer, and j the number of the rest
-  pub state-row : (c : CallOf E) {f : Bool} {j k : ℕ} → f ≡ E.stateFits s → (E.stateFits s ≡ true → j ≡ numberFor E c n (E.settings s)) → k ≡ cond f j 4
+  pub state-row : (c : CallOf E) {f : Bool} {j k : ℕ} → f ≡ E.state_fits s → (E.state_fits s ≡ true → j ≡ number_for E c n (E.settings s)) → k ≡ cond f j 4
       → k ≡ number_in E c n s
-  state-row c {f} {j} e rest r = r ∙ ap (λ (b : Bool). cond b j 4) e ∙ go (E.stateFits s) rest
+  state-row c {f} {j} e rest r = r ∙ ap (λ (b : Bool). cond b j 4) e ∙ go (E.state_fits s) rest
     where
-      go : (b : Bool) → (b ≡ true → j ≡ numberFor E c n (E.settings s)) → cond b j 4 ≡ cond b (numberFor E c n (E.settings s)) 4
+      go : (b : Bool) → (b ≡ true → j ≡ number_for E c n (E.settings s)) → cond b j 4 ≡ cond b (number_for E c n (E.settings s)) 4
       go true h = h refl
       go false h = refl
 
   -- reset and silent 3
-  pub reset-memory : {k : ℕ} → E.stateFits s ≡ true → k ≡ memoryNumber (E.places (E.settings s)) n → k ≡ number_in E reset n s
+  pub reset-memory : {k : ℕ} → E.state_fits s ≡ true → k ≡ memory_number (E.places (E.settings s)) n → k ≡ number_in E reset n s
   reset-memory f e = rw f e
 
-  pub ask-memory : {k : ℕ} → E.stateFits s ≡ true → k ≡ memoryNumber (E.places (E.settings s)) n → k ≡ number_in E ask n s
+  pub ask-memory : {k : ℕ} → E.state_fits s ≡ true → k ≡ memory_number (E.places (E.settings s)) n → k ≡ number_in E ask n s
   ask-memory f e = rw f e
 
   -- tick 3; 5 and 6
-  pub tick-memory : (t : E.Tick) {k : ℕ} → E.stateFits s ≡ true → k ≡ memoryNumber (E.places (E.settings s)) n → k ≢ 0 → k ≡ number_in E (tick t) n s
-  tick-memory t {k} f e some = rw (f, ← e) (sym (first_some k (E.tickNumber t (E.settings s)) some))
+  pub tick-memory : (t : E.Tick) {k : ℕ} → E.state_fits s ≡ true → k ≡ memory_number (E.places (E.settings s)) n → k ≢ 0 → k ≡ number_in E (tick t) n s
+  tick-memory t {k} f e some = rw (f, ← e) (sym (first_some k (E.tick_number t (E.settings s)) some))
 
-  pub tick-number : (t : E.Tick) {k : ℕ} → E.stateFits s ≡ true → 0 ≡ memoryNumber (E.places (E.settings s)) n → k ≡ E.tickNumber t (E.settings s)
+  pub tick-number : (t : E.Tick) {k : ℕ} → E.state_fits s ≡ true → 0 ≡ memory_number (E.places (E.settings s)) n → k ≡ E.tick_number t (E.settings s)
       → k ≡ number_in E (tick t) n s
   tick-number t f z e = rw (f, ← z) e

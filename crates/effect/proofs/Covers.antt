@@ -5,11 +5,11 @@ use mathlib.Core.Bool.{Bool, true, false, not, cond}
 use mathlib.Core.List.{List, [], ◌∷◌}
 use borrow.Author.Tests.{not-false}
 use Rattle.effect.specs.Effect.{Effect}
-use Rattle.effect.specs.Run.{tick, retune, reset, ask, CallOf, Device, ifNone, numberFor, step, after, final}
-use Rattle.effect.specs.Later.{isRefusal, idles, Among, end, later, idle}
-use Rattle.effect.specs.Covers.{isClearing, beforeClearing, taken, laterTicks, Covers}
+use Rattle.effect.specs.Run.{tick, retune, reset, ask, CallOf, Device, if_none, number_for, step, after, final}
+use Rattle.effect.specs.Later.{is_refusal, idles, Among, end, later, idle}
+use Rattle.effect.specs.Covers.{is_clearing, before_clearing, taken, later_ticks, Covers}
 use Rattle.effect.proofs.Laws.{Laws}
-use Rattle.effect.proofs.Table.{ifNone-both}
+use Rattle.effect.proofs.Table.{if_none-both}
 use Rattle.effect.proofs.Runs.{InRun, number_is, step-cases, step_in, after-in, run_in}
 use Rattle.effect.proofs.Later.{refusal-skips, idle-still}
 
@@ -21,50 +21,50 @@ then b f (suc i) = f i
 module _ (E : Effect) (n : ℕ) (k : E.Settings) where
   -- ---- nothing is left out
 
-  kept : (choice : Bool) (c : CallOf E) (ts : List E.Tick) (cs : List (CallOf E)) → isClearing E n k c ≡ false → Among E n k ts cs
+  kept : (choice : Bool) (c : CallOf E) (ts : List E.Tick) (cs : List (CallOf E)) → is_clearing E n k c ≡ false → Among E n k ts cs
       → Among E n k (taken E n k choice c ts) (c ∷ cs)
-  kept choice (tick t) ts cs e a = go (numberFor E (tick t) n k) refl choice
+  kept choice (tick t) ts cs e a = go (number_for E (tick t) n k) refl choice
     where
-      go : (r : ℕ) → numberFor E (tick t) n k ≡ r → (b : Bool) → Among E n k (ifNone r (t ∷ ts) (cond b (t ∷ ts) ts)) (tick t ∷ cs)
+      go : (r : ℕ) → number_for E (tick t) n k ≡ r → (b : Bool) → Among E n k (if_none r (t ∷ ts) (cond b (t ∷ ts) ts)) (tick t ∷ cs)
       go zero f b = later a
       go (suc r) f true = later a
-      go (suc r) f false = idle (ap isRefusal f) a
-  kept choice (retune r) ts cs e a = idle (not-false (isRefusal (numberFor E (retune r) n k)) e) a
-  kept choice reset ts cs e a = idle (not-false (isRefusal (numberFor E reset n k)) e) a
+      go (suc r) f false = idle (ap is_refusal f) a
+  kept choice (retune r) ts cs e a = idle (not-false (is_refusal (number_for E (retune r) n k)) e) a
+  kept choice reset ts cs e a = idle (not-false (is_refusal (number_for E reset n k)) e) a
   kept choice ask ts cs e a = idle refl a
 
-  all : (chosen : ℕ → Bool) (cs : List (CallOf E)) → Among E n k (laterTicks E n k chosen (beforeClearing E n k cs)) (beforeClearing E n k cs)
-  unfolding laterTicks beforeClearing
+  all : (chosen : ℕ → Bool) (cs : List (CallOf E)) → Among E n k (later_ticks E n k chosen (before_clearing E n k cs)) (before_clearing E n k cs)
+  unfolding later_ticks before_clearing
   all chosen [] = end
-  all chosen (c ∷ cs) = go (isClearing E n k c) refl (all (λ i. chosen (suc i)) cs)
+  all chosen (c ∷ cs) = go (is_clearing E n k c) refl (all (λ i. chosen (suc i)) cs)
     where
       bs : List (CallOf E)
-      bs = beforeClearing E n k cs
+      bs = before_clearing E n k cs
 
-      go : (b : Bool) → isClearing E n k c ≡ b → Among E n k (laterTicks E n k (λ i. chosen (suc i)) bs) bs
-          → Among E n k (laterTicks E n k chosen (cond b [] (c ∷ bs))) (cond b [] (c ∷ bs))
+      go : (b : Bool) → is_clearing E n k c ≡ b → Among E n k (later_ticks E n k (λ i. chosen (suc i)) bs) bs
+          → Among E n k (later_ticks E n k chosen (cond b [] (c ∷ bs))) (cond b [] (c ∷ bs))
       go true e a = end
-      go false e a = kept (chosen 0) c (laterTicks E n k (λ i. chosen (suc i)) bs) bs e a
+      go false e a = kept (chosen 0) c (later_ticks E n k (λ i. chosen (suc i)) bs) bs e a
 
   -- ---- nothing else is let in
 
   tick-taken : (t : E.Tick) (ts : List E.Tick) → taken E n k true (tick t) ts ≡ t ∷ ts
-  tick-taken t ts = ifNone-both (λ l. l ≡ t ∷ ts) (numberFor E (tick t) n k) refl refl
+  tick-taken t ts = if_none-both (λ l. l ≡ t ∷ ts) (number_for E (tick t) n k) refl refl
 
-  no-clearing : (c : CallOf E) → idles c (numberFor E c n k) ≡ true → isClearing E n k c ≡ false
+  no-clearing : (c : CallOf E) → idles c (number_for E c n k) ≡ true → is_clearing E n k c ≡ false
   no-clearing (tick t) e = refl
   no-clearing (retune r) e = ap not e
   no-clearing reset e = ap not e
   no-clearing ask e = refl
 
-  not_taken : (c : CallOf E) (ts : List E.Tick) → idles c (numberFor E c n k) ≡ true → taken E n k false c ts ≡ ts
-  not_taken (tick t) ts e = refusal-skips (numberFor E (tick t) n k) (t ∷ ts) ts e
+  not_taken : (c : CallOf E) (ts : List E.Tick) → idles c (number_for E c n k) ≡ true → taken E n k false c ts ≡ ts
+  not_taken (tick t) ts e = refusal-skips (number_for E (tick t) n k) (t ∷ ts) ts e
   not_taken (retune r) ts e = refl
   not_taken reset ts e = refl
   not_taken ask ts e = refl
 
-  before-all : {ts : List E.Tick} {cs : List (CallOf E)} → Among E n k ts cs → beforeClearing E n k cs ≡ cs
-  unfolding beforeClearing
+  before-all : {ts : List E.Tick} {cs : List (CallOf E)} → Among E n k ts cs → before_clearing E n k cs ≡ cs
+  unfolding before_clearing
   before-all end = refl
   before-all (later {t} a) = ap (λ (l : List (CallOf E)). tick t ∷ l) (before-all a)
   before-all (idle {c} i a) = rw (no-clearing c i) (ap (λ (l : List (CallOf E)). c ∷ l) (before-all a))
@@ -74,8 +74,8 @@ module _ (E : Effect) (n : ℕ) (k : E.Settings) where
   choices (later a) = then true (choices a)
   choices (idle i a) = then false (choices a)
 
-  choices-take : {ts : List E.Tick} {cs : List (CallOf E)} (a : Among E n k ts cs) → laterTicks E n k (choices a) cs ≡ ts
-  unfolding laterTicks choices then
+  choices-take : {ts : List E.Tick} {cs : List (CallOf E)} (a : Among E n k ts cs) → later_ticks E n k (choices a) cs ≡ ts
+  unfolding later_ticks choices then
   choices-take end = refl
   choices-take (later {t} {ts} a) = ap (λ (l : List E.Tick). taken E n k true (tick t) l) (choices-take a) ∙ tick-taken t ts
   choices-take (idle {c} {ts} i a) = ap (λ (l : List E.Tick). taken E n k false c l) (choices-take a) ∙ not_taken c ts i

@@ -6,13 +6,13 @@ use mathlib.Core.Bool.{true}
 use mathlib.Core.List.{List, [], ◌∷◌}
 use Rattle.port.specs.Answer.{Reply, played, refused}
 use Rattle.effect.specs.Effect.{Effect}
-use Rattle.effect.specs.Run.{tick, retune, reset, ask, CallOf, Device, ifNone, numberFor, changed, says, step, reply, replies}
+use Rattle.effect.specs.Run.{tick, retune, reset, ask, CallOf, Device, if_none, number_for, changed, says, step, reply, replies}
 use Rattle.effect.specs.Lines.{Lines}
 use Rattle.effect.specs.Past.{Past, put}
-use Rattle.effect.specs.Later.{isRefusal, idles, Among, end, later, idle, picked}
+use Rattle.effect.specs.Later.{is_refusal, idles, Among, end, later, idle, picked}
 use Rattle.effect.proofs.Laws.{Laws}
 use Rattle.effect.proofs.LineLaws.{LineLaws}
-use Rattle.effect.proofs.Table.{ifNone-both, memory-enough}
+use Rattle.effect.proofs.Table.{if_none-both, memory-enough}
 use Rattle.effect.proofs.Runs.{InRun, number_is, changed-in}
 use Rattle.effect.proofs.Past.{Shows, changed-shows}
 
@@ -20,29 +20,29 @@ use Rattle.effect.proofs.Past.{Shows, changed-shows}
 pub heard : (E : Effect) (I : Lines E) → LineLaws E I → Past E.Settings → I.Phase → List E.Tick → List Reply
 heard E I lined p f [] = []
 heard E I lined p f (t ∷ ts) =
-    ifNone (E.tickNumber t p.settings)
+    if_none (E.tick_number t p.settings)
     (played (lined.played t p.settings f p.samples) ∷ heard E I lined (put E I (tick t) p) (lined.advanced t p.settings f) ts)
-    (refused (E.tickNumber t p.settings) ∷ heard E I lined p f ts)
+    (refused (E.tick_number t p.settings) ∷ heard E I lined p f ts)
 
-pub refusal-skips : {A : Type 0} (a : ℕ) (x y : A) → isRefusal a ≡ true → ifNone a x y ≡ y
+pub refusal-skips : {A : Type 0} (a : ℕ) (x y : A) → is_refusal a ≡ true → if_none a x y ≡ y
 refusal-skips zero x y e = let z : ◌≡◌ {A = ℕ} 0 1 = cc in absurd (omega arith)
 refusal-skips (suc a) x y e = refl
 
 -- silent questions and refused calls leave the unit as it was
 pub idle-still : (E : Effect) {n : ℕ} {h : Device E.State} {k : E.Settings} (c : CallOf E) → InRun E n h → E.settings h.state ≡ k
-    → idles c (numberFor E c n k) ≡ true → step E c h ≡ h
-idle-still E {n} {h} {k} c r e i = rw (number_is E c r e) (go c (numberFor E c n k) i)
+    → idles c (number_for E c n k) ≡ true → step E c h ≡ h
+idle-still E {n} {h} {k} c r e i = rw (number_is E c r e) (go c (number_for E c n k) i)
   where
-    go : (c : CallOf E) (a : ℕ) → idles c a ≡ true → ifNone a (changed E c h) h ≡ h
+    go : (c : CallOf E) (a : ℕ) → idles c a ≡ true → if_none a (changed E c h) h ≡ h
     go (tick t) a f = refusal-skips a (changed E (tick t) h) h f
     go (retune b) a f = refusal-skips a (changed E (retune b) h) h f
     go reset a f = refusal-skips a (changed E reset h) h f
-    go ask a f = ifNone-both (λ u. u ≡ h) a refl refl
+    go ask a f = if_none-both (λ u. u ≡ h) a refl refl
 
 module _ (E : Effect) (I : Lines E) (laws : Laws E) (lined : LineLaws E I) where
   -- a run's tick is not refused for the memory's length
   tick-number-by : {n : ℕ} {h : Device E.State} {p : Past E.Settings} (t : E.Tick) → InRun E n h → Shows E I h p
-      → numberFor E (tick t) n p.settings ≡ E.tickNumber t p.settings
+      → number_for E (tick t) n p.settings ≡ E.tick_number t p.settings
   tick-number-by {n} {h} {p} t r v =
       let l : E.places p.settings ≤ n = omega (arith, r.enough, ap E.places v.settings) in
       rw (← memory-enough l)
@@ -53,20 +53,20 @@ module _ (E : Effect) (I : Lines E) (laws : Laws E) (lined : LineLaws E I) where
       → ((u : Device E.State) (q : Past E.Settings) → InRun E n u → Shows E I u q → E.settings u.state ≡ E.settings h.state → rest u ≡ heard E I lined q (I.phase u.state) ts)
       → reply E (tick t) h ∷ rest (step E (tick t) h) ≡ heard E I lined p (I.phase h.state) (t ∷ ts)
   unfolding heard
-  next-heard {n} {h} {p} t ts r v rest on = rw (number_is E (tick t) r v.settings ∙ tick-number-by t r v) (go (E.tickNumber t p.settings) refl)
+  next-heard {n} {h} {p} t ts r v rest on = rw (number_is E (tick t) r v.settings ∙ tick-number-by t r v) (go (E.tick_number t p.settings) refl)
     where
       s : E.State
       s = h.state
 
-      go : (a : ℕ) → E.tickNumber t p.settings ≡ a
-          → ifNone a (says E (tick t) h) (refused a) ∷ rest (ifNone a (changed E (tick t) h) h)
-          ≡ ifNone a
+      go : (a : ℕ) → E.tick_number t p.settings ≡ a
+          → if_none a (says E (tick t) h) (refused a) ∷ rest (if_none a (changed E (tick t) h) h)
+          ≡ if_none a
           (played (lined.played t p.settings (I.phase s) p.samples) ∷ heard E I lined (put E I (tick t) p) (lined.advanced t p.settings (I.phase s)) ts)
           (refused a ∷ heard E I lined p (I.phase s) ts)
       go zero e =
-          let e' = ap (λ (k : E.Settings). E.tickNumber t k) v.settings ∙ e in
-          let r' = changed-in E laws (tick t) r (ap (λ (k : E.Settings). numberFor E (tick t) n k) v.settings ∙ tick-number-by t r v ∙ e) in
-          let plays = lined.plays t s h.memory p.samples r.stateFits (omega (arith, r.enough, r.size)) e' v.lines in
+          let e' = ap (λ (k : E.Settings). E.tick_number t k) v.settings ∙ e in
+          let r' = changed-in E laws (tick t) r (ap (λ (k : E.Settings). number_for E (tick t) n k) v.settings ∙ tick-number-by t r v ∙ e) in
+          let plays = lined.plays t s h.memory p.samples r.state_fits (omega (arith, r.enough, r.size)) e' v.lines in
           let heard-on = on (changed E (tick t) h) (put E I (tick t) p) r' (changed-shows E I laws lined (tick t) r r' v) (laws.next-settings t s h.memory) in
           λ i. (ap played plays ∙ (λ j. played (lined.played t (v.settings j) (I.phase s) p.samples))) i
           ∷ (heard-on ∙ (λ j. heard E I lined (put E I (tick t) p) ((lined.next-phase t s h.memory ∙ (λ l. lined.advanced t (v.settings l) (I.phase s))) j) ts)) i

@@ -18,20 +18,20 @@ Below n ws = Within (λ p. p < n) ws
 
 pub record Laws (E : Effect) : Type 0 where
   -- the blank state is refused
-  pub blank-refused : E.stateFits E.blank ≡ false
+  pub blank-refused : E.state_fits E.blank ≡ false
   -- a clearing leaves its settings in force, and a tick those that are
   pub fresh-settings : (k : E.Settings) → E.settings (E.fresh k) ≡ k
   pub retuned-settings : (k : E.Settings) (s : E.State) → E.settings (E.retuned k s) ≡ k
   pub next-settings : (t : E.Tick) (s : E.State) (m : List Float) → E.settings (E.next t s m) ≡ E.settings s
   -- every state that an accepted call returns passes the state test
-  pub start_fits : (x : E.Start) → E.settingsNumber (E.startSettings x) ≡ 0 → E.stateFits (E.fresh (E.startSettings x)) ≡ true
-  pub reset-fits : (s : E.State) → E.stateFits s ≡ true → E.stateFits (E.fresh (E.settings s)) ≡ true
-  pub retuned-fits : (r : E.Retune) (s : E.State) → E.settingsNumber (E.retuneSettings r (E.settings s)) ≡ 0 → E.stateFits s ≡ true
-      → E.stateFits (E.retuned (E.retuneSettings r (E.settings s)) s) ≡ true
-  pub next_fits : (t : E.Tick) (s : E.State) (m : List Float) → E.stateFits s ≡ true → E.places (E.settings s) ≤ length m
-      → E.tickNumber t (E.settings s) ≡ 0
-      → E.stateFits (E.next t s m) ≡ true
+  pub start_fits : (x : E.Start) → E.settings_number (E.start_settings x) ≡ 0 → E.state_fits (E.fresh (E.start_settings x)) ≡ true
+  pub reset-fits : (s : E.State) → E.state_fits s ≡ true → E.state_fits (E.fresh (E.settings s)) ≡ true
+  pub retuned-fits : (r : E.Retune) (s : E.State) → E.settings_number (E.retune_settings r (E.settings s)) ≡ 0 → E.state_fits s ≡ true
+      → E.state_fits (E.retuned (E.retune_settings r (E.settings s)) s) ≡ true
+  pub next_fits : (t : E.Tick) (s : E.State) (m : List Float) → E.state_fits s ≡ true → E.places (E.settings s) ≤ length m
+      → E.tick_number t (E.settings s) ≡ 0
+      → E.state_fits (E.next t s m) ≡ true
   -- places in use are among those needed
   pub used : (k : E.Settings) (p : ℕ) → E.InUse k p → p < E.places k
   -- a tick writes only places in use
-  pub inside : (t : E.Tick) (s : E.State) (m : List Float) → E.stateFits s ≡ true → Within (E.InUse (E.settings s)) (E.writes t s m)
+  pub inside : (t : E.Tick) (s : E.State) (m : List Float) → E.state_fits s ≡ true → Within (E.InUse (E.settings s)) (E.writes t s m)

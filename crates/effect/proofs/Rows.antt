@@ -4,14 +4,14 @@ use mathlib.Core.Path.{◌≡◌, sym}
 use mathlib.Core.Logic.{◌≢◌}
 use mathlib.Core.Bool.{Bool, true, false, cond}
 use Rattle.effect.specs.Effect.{Effect}
-use Rattle.effect.specs.Run.{tick, reset, first, memoryNumber, number_in}
+use Rattle.effect.specs.Run.{tick, reset, first, memory_number, number_in}
 use Rattle.effect.proofs.Table.{first_some}
 
 -- what refuses a reset refuses a tick
 pub unit-refused : (E : Effect) (n : ℕ) (s : E.State) (t : E.Tick) {k : ℕ} → k ≡ number_in E reset n s → k ≢ 0 → k ≡ number_in E (tick t) n s
-unit-refused E n s t {k} e some = go (E.stateFits s) e
+unit-refused E n s t {k} e some = go (E.state_fits s) e
   where
-    go : (b : Bool) → k ≡ cond b (memoryNumber (E.places (E.settings s)) n) 4
-        → k ≡ cond b (first (memoryNumber (E.places (E.settings s)) n) (E.tickNumber t (E.settings s))) 4
-    go true f = rw (← f) (sym (first_some k (E.tickNumber t (E.settings s)) some))
+    go : (b : Bool) → k ≡ cond b (memory_number (E.places (E.settings s)) n) 4
+        → k ≡ cond b (first (memory_number (E.places (E.settings s)) n) (E.tick_number t (E.settings s))) 4
+    go true f = rw (← f) (sym (first_some k (E.tick_number t (E.settings s)) some))
     go false f = f

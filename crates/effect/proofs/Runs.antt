@@ -4,11 +4,11 @@ use mathlib.Core.Path.{◌≡◌, refl, sym, ap, ◌∙◌, subst}
 use mathlib.Core.Bool.{true}
 use mathlib.Core.List.{List, [], ◌∷◌}
 use lib.ListN.{length, length-replicate}
-use Rattle.float64.specs.Number.{plusZero}
+use Rattle.float64.specs.Number.{plus_zero}
 use Rattle.common.specs.Line.{zeros}
 use Rattle.effect.specs.Effect.{Effect, laid}
-use Rattle.effect.specs.Run.{tick, retune, reset, ask, CallOf, Device, ifNone, numberFor, number_at, start, changed, step, after, Run, final}
-use Rattle.effect.specs.Trace.{Trace, laidOut, added, trace, tracedFrom, traced}
+use Rattle.effect.specs.Run.{tick, retune, reset, ask, CallOf, Device, if_none, number_for, number_at, start, changed, step, after, Run, final}
+use Rattle.effect.specs.Trace.{Trace, laid_out, added, trace, traced_from, traced}
 use Rattle.effect.proofs.Laws.{Laws}
 use Rattle.effect.proofs.Memory.{length-laid, laid-append}
 use Rattle.effect.proofs.Table.{settings-accepted, tick-accepted, Accepted}
@@ -16,21 +16,21 @@ use Rattle.effect.proofs.Table.{settings-accepted, tick-accepted, Accepted}
 -- what holds of a unit along a run in a memory of n places
 pub record InRun (E : Effect) (n : ℕ) (h : Device E.State) : Type 0 where
   pub size : length h.memory ≡ n
-  pub stateFits : E.stateFits h.state ≡ true
+  pub state_fits : E.state_fits h.state ≡ true
   pub enough : E.places (E.settings h.state) ≤ n
 
 module _ (E : Effect) where
   -- cause 4 never applies: acceptance is settled by the arguments, the memory's length and the settings in force
   pub number_is : {n : ℕ} {h : Device E.State} {k : E.Settings} (c : CallOf E) → InRun E n h → E.settings h.state ≡ k
-      → number_at E c h ≡ numberFor E c n k
-  number_is c i e = rw (i.stateFits, i.size, e)
+      → number_at E c h ≡ number_for E c n k
+  number_is c i e = rw (i.state_fits, i.size, e)
 
   -- what holds of the unit, and after the call if that is accepted, holds after the call
   pub step-cases : (P : Device E.State → Type 0) {n : ℕ} {h : Device E.State} (c : CallOf E) → InRun E n h → P h
-      → (numberFor E c n (E.settings h.state) ≡ 0 → P (changed E c h)) → P (step E c h)
-  step-cases P {n} {h} c i p q = rw (number_is c i refl) (go (numberFor E c n (E.settings h.state)) refl)
+      → (number_for E c n (E.settings h.state) ≡ 0 → P (changed E c h)) → P (step E c h)
+  step-cases P {n} {h} c i p q = rw (number_is c i refl) (go (number_for E c n (E.settings h.state)) refl)
     where
-      go : (k : ℕ) → numberFor E c n (E.settings h.state) ≡ k → P (ifNone k (changed E c h) h)
+      go : (k : ℕ) → number_for E c n (E.settings h.state) ≡ k → P (if_none k (changed E c h) h)
       go zero e = q e
       go (suc k) e = p
 
@@ -48,41 +48,41 @@ module _ (E : Effect) where
   length-changed ask h = refl
 
 module _ (E : Effect) (laws : Laws E) where
-  pub changed-fits : (c : CallOf E) (h : Device E.State) → Accepted E (length h.memory) c h.state → E.stateFits (changed E c h).state ≡ true
+  pub changed-fits : (c : CallOf E) (h : Device E.State) → Accepted E (length h.memory) c h.state → E.state_fits (changed E c h).state ≡ true
   changed-fits (tick t) h a =
       let v = tick-accepted E (length h.memory) t (E.settings h.state) a.number in
-      laws.next_fits t h.state h.memory a.stateFits v.enough v.number
+      laws.next_fits t h.state h.memory a.state_fits v.enough v.number
   changed-fits (retune r) h a =
-      let k = E.retuneSettings r (E.settings h.state) in
-      laws.retuned-fits r h.state (settings-accepted E (length h.memory) k a.number).number a.stateFits
-  changed-fits reset h a = laws.reset-fits h.state a.stateFits
-  changed-fits ask h a = a.stateFits
+      let k = E.retune_settings r (E.settings h.state) in
+      laws.retuned-fits r h.state (settings-accepted E (length h.memory) k a.number).number a.state_fits
+  changed-fits reset h a = laws.reset-fits h.state a.state_fits
+  changed-fits ask h a = a.state_fits
 
   -- an accepted call leaves settings that the memory has the places for
-  changed-enough : (n : ℕ) (c : CallOf E) (h : Device E.State) → E.places (E.settings h.state) ≤ n → numberFor E c n (E.settings h.state) ≡ 0
+  changed-enough : (n : ℕ) (c : CallOf E) (h : Device E.State) → E.places (E.settings h.state) ≤ n → number_for E c n (E.settings h.state) ≡ 0
       → E.places (E.settings (changed E c h).state) ≤ n
   changed-enough n (tick t) h l e = rw (laws.next-settings t h.state h.memory) l
   changed-enough n (retune r) h l e =
-      let k = E.retuneSettings r (E.settings h.state) in
+      let k = E.retune_settings r (E.settings h.state) in
       rw (laws.retuned-settings k h.state) (settings-accepted E n k e).enough
   changed-enough n reset h l e = rw (laws.fresh-settings (E.settings h.state)) l
   changed-enough n ask h l e = l
 
   pub start-in : (x : Run E) → InRun E (length x.memory) (start E x.handed x.memory)
   start-in x =
-      let k = E.startSettings x.handed in
+      let k = E.start_settings x.handed in
       let v = settings-accepted E (length x.memory) k x.accepted in
       record {
         size = rw x.accepted (length-replicate _ _);
-        stateFits = rw x.accepted (laws.start_fits x.handed v.number);
+        state_fits = rw x.accepted (laws.start_fits x.handed v.number);
         enough = rw (x.accepted, laws.fresh-settings k) v.enough;
       }
 
-  pub changed-in : {n : ℕ} {h : Device E.State} (c : CallOf E) → InRun E n h → numberFor E c n (E.settings h.state) ≡ 0 → InRun E n (changed E c h)
+  pub changed-in : {n : ℕ} {h : Device E.State} (c : CallOf E) → InRun E n h → number_for E c n (E.settings h.state) ≡ 0 → InRun E n (changed E c h)
   changed-in {n} {h} c i e =
       record {
         size = length-changed E c h ∙ i.size;
-        stateFits = changed-fits c h (record { stateFits = i.stateFits; number = rw i.size e });
+        state_fits = changed-fits c h (record { state_fits = i.state_fits; number = rw i.size e });
         enough = changed-enough n c h i.enough e;
       }
 
@@ -108,39 +108,39 @@ module _ (E : Effect) (laws : Laws E) where
   -- ---- state and memory are those of the trace
 
   all-places : (n : ℕ) (t : Trace E.State) → length (laid t.written (zeros n)) ≡ n
-  all-places n t = length-laid t.written (zeros n) ∙ length-replicate n plusZero
+  all-places n t = length-laid t.written (zeros n) ∙ length-replicate n plus_zero
 
   changed-traced : (n : ℕ) (t : Trace E.State) (c : CallOf E)
-      → changed E c (laidOut n t) ≡ laidOut n (record { state = (changed E c (laidOut n t)).state; written = added E c (laidOut n t) t.written })
+      → changed E c (laid_out n t) ≡ laid_out n (record { state = (changed E c (laid_out n t)).state; written = added E c (laid_out n t) t.written })
   changed-traced n t (tick a) =
       let m = laid t.written (zeros n) in
       let e = laid-append t.written (E.writes a t.state m) (zeros n) in
       λ i. record { state = E.next a t.state m; memory = sym e i }
-  changed-traced n t (retune r) = λ i. record { state = E.retuned (E.retuneSettings r (E.settings t.state)) t.state; memory = zeros (all-places n t i) }
+  changed-traced n t (retune r) = λ i. record { state = E.retuned (E.retune_settings r (E.settings t.state)) t.state; memory = zeros (all-places n t i) }
   changed-traced n t reset = λ i. record { state = E.fresh (E.settings t.state); memory = zeros (all-places n t i) }
   changed-traced n t ask = refl
 
-  step-traced : {n : ℕ} (c : CallOf E) (t : Trace E.State) → InRun E n (laidOut n t) → step E c (laidOut n t) ≡ laidOut n (trace E n c t)
-  step-traced {n} c t i = rw (number_is E c i refl) (go (numberFor E c n (E.settings t.state)))
+  step-traced : {n : ℕ} (c : CallOf E) (t : Trace E.State) → InRun E n (laid_out n t) → step E c (laid_out n t) ≡ laid_out n (trace E n c t)
+  step-traced {n} c t i = rw (number_is E c i refl) (go (number_for E c n (E.settings t.state)))
     where
       t' : Trace E.State
-      t' = record { state = (changed E c (laidOut n t)).state; written = added E c (laidOut n t) t.written }
+      t' = record { state = (changed E c (laid_out n t)).state; written = added E c (laid_out n t) t.written }
 
-      go : (k : ℕ) → ifNone k (changed E c (laidOut n t)) (laidOut n t) ≡ laidOut n (ifNone k t' t)
+      go : (k : ℕ) → if_none k (changed E c (laid_out n t)) (laid_out n t) ≡ laid_out n (if_none k t' t)
       go zero = changed-traced n t c
       go (suc k) = refl
 
-  after-traced : {n : ℕ} (cs : List (CallOf E)) (t : Trace E.State) → InRun E n (laidOut n t) → after E cs (laidOut n t) ≡ laidOut n (tracedFrom E n cs t)
-  unfolding after tracedFrom
+  after-traced : {n : ℕ} (cs : List (CallOf E)) (t : Trace E.State) → InRun E n (laid_out n t) → after E cs (laid_out n t) ≡ laid_out n (traced_from E n cs t)
+  unfolding after traced_from
   after-traced [] t i = refl
   after-traced {n} (c ∷ cs) t i =
       let e = step-traced c t i in
       ap (λ (h : Device E.State). after E cs h) e
       ∙ after-traced cs (trace E n c t) (subst (λ (h : Device E.State). InRun E n h) e (step_in c i))
 
-  pub run-traced : (x : Run E) → final E x ≡ laidOut (length x.memory) (traced E x.handed (length x.memory) x.calls)
+  pub run-traced : (x : Run E) → final E x ≡ laid_out (length x.memory) (traced E x.handed (length x.memory) x.calls)
   run-traced x =
-      let e : start E x.handed x.memory ≡ laidOut (length x.memory) (record { state = E.fresh (E.startSettings x.handed); written = [] }) =
+      let e : start E x.handed x.memory ≡ laid_out (length x.memory) (record { state = E.fresh (E.start_settings x.handed); written = [] }) =
       rw x.accepted in
       ap (λ (h : Device E.State). after E x.calls h) e
       ∙ after-traced x.calls _ (subst (λ (h : Device E.State). InRun E (length x.memory) h) e (start-in x))

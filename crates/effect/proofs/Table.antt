@@ -7,18 +7,18 @@ use mathlib.Core.Bool.{Bool, true, false, cond}
 use lib.Dec.{ltb}
 use borrow.Author.Tests.{ltb-false, le-ltb}
 use Rattle.effect.specs.Effect.{Effect}
-use Rattle.effect.specs.Run.{tick, CallOf, ifNone, first, memoryNumber, numberFor, number_in}
+use Rattle.effect.specs.Run.{tick, CallOf, if_none, first, memory_number, number_for, number_in}
 
 -- ---- numbers
 
 -- what holds in both cases holds
-pub ifNone-both : {A : Type 0} (P : A → Type 0) (k : ℕ) {a b : A} → P a → P b → P (ifNone k a b)
-ifNone-both P zero p q = p
-ifNone-both P (suc k) p q = q
+pub if_none-both : {A : Type 0} (P : A → Type 0) (k : ℕ) {a b : A} → P a → P b → P (if_none k a b)
+if_none-both P zero p q = p
+if_none-both P (suc k) p q = q
 
-pub ifNone-some : {A : Type 0} (k : ℕ) (a b : A) → k ≢ 0 → ifNone k a b ≡ b
-ifNone-some zero a b f = absurd (f refl)
-ifNone-some (suc k) a b f = refl
+pub if_none-some : {A : Type 0} (k : ℕ) (a b : A) → k ≢ 0 → if_none k a b ≡ b
+if_none-some zero a b f = absurd (f refl)
+if_none-some (suc k) a b f = refl
 
 pub first_some : (a b : ℕ) → a ≢ 0 → first a b ≡ a
 first_some zero b f = absurd (f refl)
@@ -46,10 +46,10 @@ none-5-6 false false e = absurd (omega arith)
 
 -- ---- cause 3
 
-pub memory-enough : {needed n : ℕ} → needed ≤ n → ◌≡◌ {A = ℕ} 0 (memoryNumber needed n)
+pub memory-enough : {needed n : ℕ} → needed ≤ n → ◌≡◌ {A = ℕ} 0 (memory_number needed n)
 memory-enough {needed} {n} h = rw (le-ltb n needed h)
 
-pub enough : (needed n : ℕ) → memoryNumber needed n ≡ 0 → needed ≤ n
+pub enough : (needed n : ℕ) → memory_number needed n ≡ 0 → needed ≤ n
 enough needed n e = go (ltb n needed) refl e
   where
     go : (b : Bool) → ltb n needed ≡ b → ◌≡◌ {A = ℕ} (cond b 3 0) 0 → needed ≤ n
@@ -61,32 +61,32 @@ enough needed n e = go (ltb n needed) refl e
 module _ (E : Effect) (n : ℕ) where
   -- the settings k of a start or a retune
   pub record SettingsAccepted (k : E.Settings) : Type 0 where
-    pub number : E.settingsNumber k ≡ 0
+    pub number : E.settings_number k ≡ 0
     pub enough : E.places k ≤ n
 
-  pub settings-accepted : (k : E.Settings) → first (E.settingsNumber k) (memoryNumber (E.places k) n) ≡ 0 → SettingsAccepted k
+  pub settings-accepted : (k : E.Settings) → first (E.settings_number k) (memory_number (E.places k) n) ≡ 0 → SettingsAccepted k
   settings-accepted k e =
-      let v = none_first (E.settingsNumber k) (memoryNumber (E.places k) n) e in
+      let v = none_first (E.settings_number k) (memory_number (E.places k) n) e in
       record { number = v.0; enough = enough (E.places k) n v.1 }
 
   -- a tick with the settings k in force
   pub record TickAccepted (t : E.Tick) (k : E.Settings) : Type 0 where
     pub enough : E.places k ≤ n
-    pub number : E.tickNumber t k ≡ 0
+    pub number : E.tick_number t k ≡ 0
 
-  pub tick-accepted : (t : E.Tick) (k : E.Settings) → numberFor E (tick t) n k ≡ 0 → TickAccepted t k
+  pub tick-accepted : (t : E.Tick) (k : E.Settings) → number_for E (tick t) n k ≡ 0 → TickAccepted t k
   tick-accepted t k e =
-      let v = none_first (memoryNumber (E.places k) n) (E.tickNumber t k) e in
+      let v = none_first (memory_number (E.places k) n) (E.tick_number t k) e in
       record { enough = enough (E.places k) n v.0; number = v.1 }
 
   -- the state of any
   pub record Accepted (c : CallOf E) (s : E.State) : Type 0 where
-    pub stateFits : E.stateFits s ≡ true
-    pub number : numberFor E c n (E.settings s) ≡ 0
+    pub state_fits : E.state_fits s ≡ true
+    pub number : number_for E c n (E.settings s) ≡ 0
 
   pub accepted : (c : CallOf E) (s : E.State) → number_in E c n s ≡ 0 → Accepted c s
-  accepted c s e = go (E.stateFits s) refl e
+  accepted c s e = go (E.state_fits s) refl e
     where
-      go : (b : Bool) → E.stateFits s ≡ b → ◌≡◌ {A = ℕ} (cond b (numberFor E c n (E.settings s)) 4) 0 → Accepted c s
-      go true f g = record { stateFits = f; number = g }
+      go : (b : Bool) → E.state_fits s ≡ b → ◌≡◌ {A = ℕ} (cond b (number_for E c n (E.settings s)) 4) 0 → Accepted c s
+      go true f g = record { state_fits = f; number = g }
       go false f g = absurd (omega arith)

@@ -30,18 +30,18 @@ pub record Effect : Type 1 where
   pub Retune : Type 0
   pub Tick : Type 0
   -- the state test, cause 4: true where the state passes
-  pub stateFits : State → Bool
+  pub state_fits : State → Bool
   pub settings : State → Settings
   -- what a start and a retune put in force if they are accepted
-  pub startSettings : Start → Settings
-  pub retuneSettings : Retune → Settings → Settings
+  pub start_settings : Start → Settings
+  pub retune_settings : Retune → Settings → Settings
   -- causes 1 and 2: the number of the first that applies, 0 for none
-  pub settingsNumber : Settings → ℕ
+  pub settings_number : Settings → ℕ
   -- the places needed, and which places are in use: all of these, but for the reverb, whose lines have room up to their longest length
   pub places : Settings → ℕ
   pub InUse : Settings → ℕ → Type 0
   -- causes 5 and 6: the number of the first that applies, 0 for none
-  pub tickNumber : Tick → Settings → ℕ
+  pub tick_number : Tick → Settings → ℕ
   -- the state that a refused start gives
   pub blank : State
   -- the state that start and reset leave, and the one that retune leaves

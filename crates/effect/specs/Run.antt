@@ -17,13 +17,13 @@ pub record Device (S : Type 0) : Type 0 where
   pub state : S
   pub memory : List Float
 
-abbrev pub deviceOf : {S : Type 0} → S → List Float → Device S
-deviceOf s m = record { state = s; memory = m }
+abbrev pub device_of : {S : Type 0} → S → List Float → Device S
+device_of s m = record { state = s; memory = m }
 
 -- a where the number is 0 (none), else b
-abbrev pub ifNone : {A : Type 0} → ℕ → A → A → A
-ifNone zero a b = a
-ifNone (suc k) a b = b
+abbrev pub if_none : {A : Type 0} → ℕ → A → A → A
+if_none zero a b = a
+if_none (suc k) a b = b
 
 -- the first number that is not 0
 abbrev pub first : ℕ → ℕ → ℕ
@@ -31,8 +31,8 @@ first zero b = b
 first (suc a) b = suc a
 
 -- cause 3: n places are fewer than needed
-abbrev pub memoryNumber : ℕ → ℕ → ℕ
-memoryNumber needed n = cond (ltb n needed) 3 0
+abbrev pub memory_number : ℕ → ℕ → ℕ
+memory_number needed n = cond (ltb n needed) 3 0
 
 module _ (E : Effect) where
   abbrev pub CallOf : Type 0
@@ -43,19 +43,19 @@ module _ (E : Effect) where
 
   -- ---- the table: start 1, 2, 3; retune 4, 1, 2, 3; reset and silent 4, 3; tick 4, 3, 5, 6. The first that applies is given; 0 is none
 
-  abbrev pub startNumber : E.Start → ℕ → ℕ
-  startNumber a n = first (E.settingsNumber (E.startSettings a)) (memoryNumber (E.places (E.startSettings a)) n)
+  abbrev pub start_number : E.Start → ℕ → ℕ
+  start_number a n = first (E.settings_number (E.start_settings a)) (memory_number (E.places (E.start_settings a)) n)
 
   -- without cause 4: by the arguments, the memory's length n and the settings k in force
-  abbrev pub numberFor : CallOf → ℕ → E.Settings → ℕ
-  numberFor (tick t) n k = first (memoryNumber (E.places k) n) (E.tickNumber t k)
-  numberFor (retune r) n k = first (E.settingsNumber (E.retuneSettings r k)) (memoryNumber (E.places (E.retuneSettings r k)) n)
-  numberFor reset n k = memoryNumber (E.places k) n
-  numberFor ask n k = memoryNumber (E.places k) n
+  abbrev pub number_for : CallOf → ℕ → E.Settings → ℕ
+  number_for (tick t) n k = first (memory_number (E.places k) n) (E.tick_number t k)
+  number_for (retune r) n k = first (E.settings_number (E.retune_settings r k)) (memory_number (E.places (E.retune_settings r k)) n)
+  number_for reset n k = memory_number (E.places k) n
+  number_for ask n k = memory_number (E.places k) n
 
   -- the whole table: cause 4 stands first
   abbrev pub number_in : CallOf → ℕ → E.State → ℕ
-  number_in c n s = cond (E.stateFits s) (numberFor c n (E.settings s)) 4
+  number_in c n s = cond (E.state_fits s) (number_for c n (E.settings s)) 4
 
   abbrev pub number_at : CallOf → DeviceOf → ℕ
   number_at c h = number_in c (length h.memory) h.state
@@ -63,12 +63,12 @@ module _ (E : Effect) where
   -- ---- an accepted call: what it leaves, and what it answers
 
   abbrev pub started : E.Start → List Float → DeviceOf
-  started a m = record { state = E.fresh (E.startSettings a); memory = zeros (length m) }
+  started a m = record { state = E.fresh (E.start_settings a); memory = zeros (length m) }
 
   abbrev pub changed : CallOf → DeviceOf → DeviceOf
   changed (tick t) h = record { state = E.next t h.state h.memory; memory = laid (E.writes t h.state h.memory) h.memory }
   changed (retune r) h =
-      record { state = E.retuned (E.retuneSettings r (E.settings h.state)) h.state; memory = zeros (length h.memory) }
+      record { state = E.retuned (E.retune_settings r (E.settings h.state)) h.state; memory = zeros (length h.memory) }
   changed reset h = record { state = E.fresh (E.settings h.state); memory = zeros (length h.memory) }
   changed ask h = h
 
@@ -81,16 +81,16 @@ module _ (E : Effect) where
   -- ---- any call: accepted, or refused, which leaves every place and field and answers the number. A refused start gives the blank state
 
   abbrev pub start : E.Start → List Float → DeviceOf
-  start a m = ifNone (startNumber a (length m)) (started a m) (record { state = E.blank; memory = m })
+  start a m = if_none (start_number a (length m)) (started a m) (record { state = E.blank; memory = m })
 
-  abbrev pub startReply : E.Start → List Float → Reply
-  startReply a m = ifNone (startNumber a (length m)) done (refused (startNumber a (length m)))
+  abbrev pub start_reply : E.Start → List Float → Reply
+  start_reply a m = if_none (start_number a (length m)) done (refused (start_number a (length m)))
 
   abbrev pub step : CallOf → DeviceOf → DeviceOf
-  step c h = ifNone (number_at c h) (changed c h) h
+  step c h = if_none (number_at c h) (changed c h) h
 
   abbrev pub reply : CallOf → DeviceOf → Reply
-  reply c h = ifNone (number_at c h) (says c h) (refused (number_at c h))
+  reply c h = if_none (number_at c h) (says c h) (refused (number_at c h))
 
   -- ---- a list of calls: the unit after them, and every reply in order
 
@@ -106,7 +106,7 @@ module _ (E : Effect) where
 pub record Run (E : Effect) : Type 0 where
   pub handed : E.Start
   pub memory : List Float
-  pub accepted : startNumber E handed (length memory) ≡ 0
+  pub accepted : start_number E handed (length memory) ≡ 0
   pub calls : List (CallOf E)
 
 -- the unit that a run leaves

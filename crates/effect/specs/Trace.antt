@@ -3,7 +3,7 @@
 use Rattle.std.specs.Prelude.{ℕ, List, [], ◌∷◌, ◌++◌}
 use Rattle.common.specs.Line.{zeros}
 use Rattle.effect.specs.Effect.{Effect, Write, laid}
-use Rattle.effect.specs.Run.{tick, retune, reset, ask, CallOf, Device, ifNone, numberFor, changed}
+use Rattle.effect.specs.Run.{tick, retune, reset, ask, CallOf, Device, if_none, number_for, changed}
 
 pub record Trace (S : Type 0) : Type 0 where
   pub state : S
@@ -11,8 +11,8 @@ pub record Trace (S : Type 0) : Type 0 where
   pub written : List Write
 
 -- the unit that wrote just that, over n places of +0
-abbrev pub laidOut : {S : Type 0} → ℕ → Trace S → Device S
-laidOut n t = record { state = t.state; memory = laid t.written (zeros n) }
+abbrev pub laid_out : {S : Type 0} → ℕ → Trace S → Device S
+laid_out n t = record { state = t.state; memory = laid t.written (zeros n) }
 
 module _ (E : Effect) where
   -- what is written after an accepted call: a tick adds its writes, a clearing drops all
@@ -25,14 +25,14 @@ module _ (E : Effect) where
   -- one call in a memory of n places
   abbrev pub trace : ℕ → CallOf E → Trace E.State → Trace E.State
   trace n c t =
-      ifNone (numberFor E c n (E.settings t.state))
-      (record { state = (changed E c (laidOut n t)).state; written = added c (laidOut n t) t.written })
+      if_none (number_for E c n (E.settings t.state))
+      (record { state = (changed E c (laid_out n t)).state; written = added c (laid_out n t) t.written })
       t
 
-  unfoldable pub tracedFrom : ℕ → List (CallOf E) → Trace E.State → Trace E.State
-  tracedFrom n [] t = t
-  tracedFrom n (c ∷ cs) t = tracedFrom n cs (trace n c t)
+  unfoldable pub traced_from : ℕ → List (CallOf E) → Trace E.State → Trace E.State
+  traced_from n [] t = t
+  traced_from n (c ∷ cs) t = traced_from n cs (trace n c t)
 
   -- an accepted start in a memory of n places, and then the calls
   abbrev pub traced : E.Start → ℕ → List (CallOf E) → Trace E.State
-  traced a n cs = tracedFrom n cs (record { state = E.fresh (E.startSettings a); written = [] })
+  traced a n cs = traced_from n cs (record { state = E.fresh (E.start_settings a); written = [] })

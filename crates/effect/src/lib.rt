@@ -1,15 +1,15 @@
 // One machine for all effects: its definitions are in specs/, its theorems in proofs/. The functions are the parts of the calls that all effects share.
 ghost use Rattle.std.specs.Prelude.{◌≡◌, cond, min, length, take};
-ghost use Rattle.port.specs.Answer.{silent, refused, number_of, silenceReply};
-ghost use Rattle.common.specs.Line.{zeros, allZero};
-ghost use Rattle.effect.specs.Run.{ifNone, memoryNumber};
-ghost use Rattle.effect.specs.Needed.{rateNumber, placesOrNone};
+ghost use Rattle.port.specs.Answer.{silent, refused, number_of, silence_reply};
+ghost use Rattle.common.specs.Line.{zeros, all_zero};
+ghost use Rattle.effect.specs.Run.{if_none, memory_number};
+ghost use Rattle.effect.specs.Needed.{rate_number, places_or_none};
 
 use port::{Outcome, Refusal, Silence};
 
 // Cause 3: the memory has fewer places than needed.
 pub fn check_memory(needed: u64, places: usize) -> Outcome
-    ensures { number_of result ≡ memoryNumber needed places }
+    ensures { number_of result ≡ memory_number needed places }
 {
     if (places as u64) < needed {
         return Outcome::Refused(Refusal::Memory);
@@ -19,7 +19,7 @@ pub fn check_memory(needed: u64, places: usize) -> Outcome
 
 // Causes 1 and 3, where a refused rate is known by the 0 places that it needs.
 pub fn check_rate(needed: u64, places: usize) -> Outcome
-    ensures { number_of result ≡ rateNumber needed places }
+    ensures { number_of result ≡ rate_number needed places }
 {
     if needed == 0 {
         return Outcome::Refused(Refusal::SampleRate);
@@ -39,7 +39,7 @@ pub fn check_state(fits: bool, others: Outcome) -> Outcome
 
 // The places needed, as a controller is answered: 2^64 - 1 for a refused rate, which is known by its 0 places.
 pub fn places_or_none(needed: u64) -> u64
-    ensures { result ≡ placesOrNone needed }
+    ensures { result ≡ places_or_none needed }
 {
     if needed == 0 {
         return 0xffff_ffff_ffff_ffff;
@@ -49,7 +49,7 @@ pub fn places_or_none(needed: u64) -> u64
 
 // The memory of a start, a retune or a reset whose tests came to this outcome: +0 in every place, or left as it was.
 pub fn clear(outcome: Outcome, mem: &mut [f64])
-    ensures { mem.new ≡ ifNone (number_of outcome) (zeros (length mem.old)) mem.old }
+    ensures { mem.new ≡ if_none (number_of outcome) (zeros (length mem.old)) mem.old }
 {
     if let Outcome::Accepted = outcome {
         common::clear(mem);
@@ -65,7 +65,7 @@ fn fewer(a: usize, b: usize) -> usize
 
 // The answer to "silent?" of a unit whose tests came to this outcome: whether the first `used` places are +0 or -0.
 pub fn silence(outcome: Outcome, used: usize, mem: &[f64]) -> Silence
-    ensures { silenceReply result ≡ ifNone (number_of outcome) (silent (allZero (take used mem.now)))
+    ensures { silence_reply result ≡ if_none (number_of outcome) (silent (all_zero (take used mem.now)))
         (refused (number_of outcome)) }
 {
     if let Outcome::Refused(cause) = outcome {

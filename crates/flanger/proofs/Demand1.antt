@@ -5,7 +5,7 @@ use mathlib.Core.Bool.{true, false}
 use mathlib.Core.List.{List}
 use lib.Ieee.{Float, le, lt, of_int}
 use lib.Ieee as Ieee
-use Rattle.float64.specs.Number.{plusZero, rateFits, phaseFits, in_range, inUnit}
+use Rattle.float64.specs.Number.{plus_zero, rate_fits, phase_fits, in_range, in_unit}
 use Rattle.common.proofs.Phases.{phase-stays}
 use Rattle.common.proofs.Ring.{next-lt}
 use Rattle.effect.proofs.Table.{none_1}
@@ -13,24 +13,24 @@ use Rattle.effect.proofs.Laws.{Laws, Below}
 use Rattle.effect.specs.Demand1.{Demand1}
 use Rattle.effect.proofs.Demand1.{demand-1}
 use Rattle.flanger.specs.declared.Flanger.{Flanger}
-use Rattle.flanger.specs.Flanger.{Tick, flanger, stateFits, lineLength, places, cleared, blank, tickNumber, next, writes}
+use Rattle.flanger.specs.Flanger.{Tick, flanger, state_fits, line_length, places, cleared, blank, tick_number, next, writes}
 use Rattle.flanger.proofs.Laws.{fits-parts, fit, length-fits, tick-fits}
 
 -- ---- the laws
 
-blank-refused : stateFits blank ≡ false
-unfolding stateFits in_range le of_int Ieee.fits
+blank-refused : state_fits blank ≡ false
+unfolding state_fits in_range le of_int Ieee.fits
 blank-refused = refl
 
-zero-phase : phaseFits plusZero ≡ true
-unfolding inUnit le lt of_int Ieee.fits
+zero-phase : phase_fits plus_zero ≡ true
+unfolding in_unit le lt of_int Ieee.fits
 zero-phase = refl
 
 -- a clearing leaves a state that passes, with every phase that does
-cleared-fits : (phase rate : Float) → rateFits rate ≡ true → phaseFits phase ≡ true → stateFits (cleared phase rate) ≡ true
+cleared-fits : (phase rate : Float) → rate_fits rate ≡ true → phase_fits phase ≡ true → state_fits (cleared phase rate) ≡ true
 cleared-fits phase rate h p = fit (cleared phase rate) (record { rate = h; inside = omega (arith, (length-fits rate h).0); phase = p })
 
-next_fits : (t : Tick) (s : Flanger) → stateFits s ≡ true → tickNumber t ≡ 0 → stateFits (next t s) ≡ true
+next_fits : (t : Tick) (s : Flanger) → state_fits s ≡ true → tick_number t ≡ 0 → state_fits (next t s) ≡ true
 unfolding next
 next_fits t s e n =
     let f = fits-parts s e in
@@ -38,11 +38,11 @@ next_fits t s e n =
     fit (next t s)
     (record {
       rate = f.rate;
-      inside = next-lt (lineLength rate) s.write_pos f.inside;
+      inside = next-lt (line_length rate) s.write_pos f.inside;
       phase = phase-stays s.lfo_phase t.frequency rate f.phase (tick-fits t n).frequency f.rate;
     })
 
-inside : (t : Tick) (s : Flanger) (m : List Float) → stateFits s ≡ true → Below (places s.sample_rate) (writes t s m)
+inside : (t : Tick) (s : Flanger) (m : List Float) → state_fits s ≡ true → Below (places s.sample_rate) (writes t s m)
 unfolding writes
 inside t s m e = let f = (fits-parts s e).inside in (omega arith, (omega arith, tt))
 
@@ -54,9 +54,9 @@ laws =
       fresh-settings = λ k. refl;
       retuned-settings = λ k s. refl;
       next-settings = λ t s m. refl;
-      start_fits = λ k e. cleared-fits plusZero k (none_1 (rateFits k) e) zero-phase;
-      reset-fits = λ s f. cleared-fits plusZero s.sample_rate (fits-parts s f).rate zero-phase;
-      retuned-fits = λ k s e f. cleared-fits s.lfo_phase k (none_1 (rateFits k) e) (fits-parts s f).phase;
+      start_fits = λ k e. cleared-fits plus_zero k (none_1 (rate_fits k) e) zero-phase;
+      reset-fits = λ s f. cleared-fits plus_zero s.sample_rate (fits-parts s f).rate zero-phase;
+      retuned-fits = λ k s e f. cleared-fits s.lfo_phase k (none_1 (rate_fits k) e) (fits-parts s f).phase;
       next_fits = λ t s m e r n. next_fits t s e n;
       used = λ k p h. h;
       inside = λ t s m e. inside t s m e;

@@ -2,11 +2,11 @@
 use Rattle.std.specs.Prelude.{ℕ, ◌+◌, ◌-◌, ◌*◌, ◌<◌, Bool, ◌&&◌, ◌||◌, cond, List, [], ◌∷◌, ltb, take, Float}
 use Rattle.std.specs.Float.{binary64}
 use Rattle.std.specs.Float.Ieee.{add, mul, div, neg}
-use Rattle.float64.specs.Number.{plusZero, float_of, fraction, half, rateFits, phaseFits, frequencyFits, sineFits, clampOf}
+use Rattle.float64.specs.Number.{plus_zero, float_of, fraction, half, rate_fits, phase_fits, frequency_fits, sine_fits, clamp_of}
 use Rattle.port.specs.declared.Port.{Port}
-use Rattle.port.specs.Port.{valueOr, isNanSet}
-use Rattle.common.specs.Signal.{sanitized, blended, advanced, causeNumber}
-use Rattle.common.specs.Line.{sweptLength, line_at, readAt, nextPlace, allZero}
+use Rattle.port.specs.Port.{value_or, is_nan_set}
+use Rattle.common.specs.Signal.{sanitized, blended, advanced, cause_number}
+use Rattle.common.specs.Line.{swept_length, line_at, read_at, next_place, all_zero}
 use Rattle.effect.specs.Effect.{Effect, Write}
 use Rattle.flanger.specs.declared.Flanger.{Flanger}
 
@@ -20,17 +20,17 @@ pub record Tick : Type 0 where
   pub sine0 : Float
   pub sine1 : Float
 
-abbrev pub tickOf : Port → Port → Port → Port → Float → Float → Float → Tick
-tickOf audio depth feedback mix frequency sine0 sine1 =
+abbrev pub tick_of : Port → Port → Port → Port → Float → Float → Float → Tick
+tick_of audio depth feedback mix frequency sine0 sine1 =
     record { audio = audio; depth = depth; feedback = feedback; mix = mix; frequency = frequency; sine0 = sine0; sine1 = sine1 }
 
 -- L: the whole part of rate × 10 / 1000, plus 10
-unfoldable pub lineLength : Float → ℕ
-lineLength rate = sweptLength (float_of 10) rate
+unfoldable pub line_length : Float → ℕ
+line_length rate = swept_length (float_of 10) rate
 
 -- two lines follow each other from place 0
 abbrev pub places : Float → ℕ
-places rate = 2 * lineLength rate
+places rate = 2 * line_length rate
 
 -- ---- states
 
@@ -42,7 +42,7 @@ cleared phase rate = state_of 0 phase rate
 
 -- after a start and a reset
 abbrev pub fresh : Float → Flanger
-fresh rate = cleared plusZero rate
+fresh rate = cleared plus_zero rate
 
 -- after a retune, which keeps the phase
 abbrev pub retuned : Float → Flanger → Flanger
@@ -50,47 +50,47 @@ retuned rate s = cleared s.lfo_phase rate
 
 -- what a refused start gives
 abbrev pub blank : Flanger
-blank = cleared plusZero plusZero
+blank = cleared plus_zero plus_zero
 
 -- the state test, cause 4
-unfoldable pub stateFits : Flanger → Bool
-stateFits s = rateFits s.sample_rate && (ltb s.write_pos (lineLength s.sample_rate) && phaseFits s.lfo_phase)
+unfoldable pub state_fits : Flanger → Bool
+state_fits s = rate_fits s.sample_rate && (ltb s.write_pos (line_length s.sample_rate) && phase_fits s.lfo_phase)
 
 -- causes 5 and 6
-unfoldable pub tickNumber : Tick → ℕ
-tickNumber t =
-    causeNumber (isNanSet t.depth || (isNanSet t.feedback || isNanSet t.mix))
-    (frequencyFits t.frequency && (sineFits t.sine0 && sineFits t.sine1))
+unfoldable pub tick_number : Tick → ℕ
+tick_number t =
+    cause_number (is_nan_set t.depth || (is_nan_set t.feedback || is_nan_set t.mix))
+    (frequency_fits t.frequency && (sine_fits t.sine0 && sine_fits t.sine1))
 
 -- ---- an accepted tick
 
 -- the audio under the input rule
 abbrev pub input : Tick → Float
-input t = sanitized (valueOr t.audio plusZero)
+input t = sanitized (value_or t.audio plus_zero)
 
 abbrev pub depth : Tick → Float
-depth t = clampOf (valueOr t.depth half) plusZero (float_of 1)
+depth t = clamp_of (value_or t.depth half) plus_zero (float_of 1)
 
 -- −0.95 to 0.95
 abbrev pub feedback : Tick → Float
-feedback t = clampOf (valueOr t.feedback plusZero) (neg (fraction 95 100)) (fraction 95 100)
+feedback t = clamp_of (value_or t.feedback plus_zero) (neg (fraction 95 100)) (fraction 95 100)
 
 abbrev pub mix : Tick → Float
-mix t = clampOf (valueOr t.mix half) plusZero (float_of 1)
+mix t = clamp_of (value_or t.mix half) plus_zero (float_of 1)
 
 -- (1 + (sine + 1) × 0.5 × (depth × 9)) × rate / 1000, clamped to 1 to L − 1
 unfoldable pub distance : Float → Float → Float → Float
 distance rate depth sine =
-    clampOf
+    clamp_of
     (div binary64 (mul binary64 (add binary64 (float_of 1) (mul binary64 (mul binary64 (add binary64 sine (float_of 1)) half) (mul binary64 depth (float_of 9)))) rate) (float_of 1000))
     (float_of 1)
-    (float_of (lineLength rate - 1))
+    (float_of (line_length rate - 1))
 
 -- what line i, 0 left and 1 right, holds at its own distance, before the store
 unfoldable pub tap : ℕ → Float → Tick → Flanger → List Float → Float
 tap i sine t s m =
-    let L = lineLength s.sample_rate in
-    readAt (line_at (i * L) L s.write_pos m) (distance s.sample_rate (depth t) sine)
+    let L = line_length s.sample_rate in
+    read_at (line_at (i * L) L s.write_pos m) (distance s.sample_rate (depth t) sine)
 
 -- audio + the line's own read × feedback
 unfoldable pub fed : Tick → Float → Float
@@ -99,12 +99,12 @@ fed t read = add binary64 (input t) (mul binary64 read (feedback t))
 unfoldable pub next : Tick → Flanger → Flanger
 next t s =
     let rate = s.sample_rate in
-    state_of (nextPlace (lineLength rate) s.write_pos) (advanced s.lfo_phase (div binary64 t.frequency rate)) rate
+    state_of (next_place (line_length rate) s.write_pos) (advanced s.lfo_phase (div binary64 t.frequency rate)) rate
 
 unfoldable pub writes : Tick → Flanger → List Float → List Write
 writes t s m =
     record { place = s.write_pos; value = fed t (tap 0 t.sine0 t s m) }
-    ∷ record { place = lineLength s.sample_rate + s.write_pos; value = fed t (tap 1 t.sine1 t s m) }
+    ∷ record { place = line_length s.sample_rate + s.write_pos; value = fed t (tap 1 t.sine1 t s m) }
     ∷ []
 
 -- mono, left, right; mono is left
@@ -124,19 +124,19 @@ flanger =
       Start = Float;
       Retune = Float;
       Tick = Tick;
-      stateFits = stateFits;
+      state_fits = state_fits;
       settings = λ s. s.sample_rate;
-      startSettings = λ rate. rate;
-      retuneSettings = λ rate old. rate;
-      settingsNumber = λ rate. cond (rateFits rate) 0 1;
+      start_settings = λ rate. rate;
+      retune_settings = λ rate old. rate;
+      settings_number = λ rate. cond (rate_fits rate) 0 1;
       places = places;
       InUse = λ k p. p < places k;
-      tickNumber = λ t rate. tickNumber t;
+      tick_number = λ t rate. tick_number t;
       blank = blank;
       fresh = fresh;
       retuned = retuned;
       next = λ t s m. next t s;
       writes = writes;
       samples = samples;
-      silence = λ s m. allZero (take (places s.sample_rate) m);
+      silence = λ s m. all_zero (take (places s.sample_rate) m);
     }

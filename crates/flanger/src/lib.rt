@@ -2,15 +2,15 @@
 ghost use Rattle.std.specs.Prelude.{◌≡◌, true, cond, ◌<◌, length};
 ghost use Rattle.std.specs.Float.{binary64};
 ghost use Rattle.std.specs.Float.Ieee.{div};
-ghost use Rattle.float64.specs.Number.{plusZero, float_of, in_range, rateFits, sineFits};
+ghost use Rattle.float64.specs.Number.{plus_zero, float_of, in_range, rate_fits, sine_fits};
 ghost use Rattle.port.specs.declared.Port.TheVariants.{Set};
-ghost use Rattle.port.specs.Answer.{number_of, outcomeReply, answerReply, silenceReply};
+ghost use Rattle.port.specs.Answer.{number_of, outcome_reply, answer_reply, silence_reply};
 ghost use Rattle.common.specs.Signal.{advanced};
-ghost use Rattle.common.specs.Line.{line_at, readAt, nextPlace};
-ghost use Rattle.effect.specs.Run.{tick, retune, reset, ask, ifNone, startNumber, number_in};
+ghost use Rattle.common.specs.Line.{line_at, read_at, next_place};
+ghost use Rattle.effect.specs.Run.{tick, retune, reset, ask, if_none, start_number, number_in};
 ghost use Rattle.effect.specs.Contract.{Does, Starts};
-ghost use Rattle.effect.specs.Needed.{placesNeeded};
-ghost use Rattle.flanger.specs.Flanger.{flanger, tickOf, lineLength, cleared, stateFits, distance};
+ghost use Rattle.effect.specs.Needed.{places_needed};
+ghost use Rattle.flanger.specs.Flanger.{flanger, tick_of, line_length, cleared, state_fits, distance};
 
 use port::{Answer, Outcome, Port, Silence};
 
@@ -40,14 +40,14 @@ impl Flanger {
 
     // The places of a line; 0 at a refused rate.
     fn line_length(rate: f64) -> u64
-        ensures { result ≡ cond (rateFits rate) (lineLength rate) 0 }
+        ensures { result ≡ cond (rate_fits rate) (line_length rate) 0 }
     {
         common::line_length(rate, Flanger::MAX_DELAY_MS)
     }
 
     // The places that a start needs at the rate; 2^64 - 1 for a rate that is refused.
     pub fn places_needed(rate: f64) -> u64
-        ensures { result ≡ placesNeeded flanger rate }
+        ensures { result ≡ places_needed flanger rate }
     {
         effect::places_or_none(2 * Flanger::line_length(rate))
     }
@@ -65,14 +65,14 @@ impl Flanger {
 
     // Causes 1 and 3: a rate that is refused, and memory that is too short for it.
     fn rate_refusal(rate: f64, places: usize) -> Outcome
-        ensures { number_of result ≡ startNumber flanger rate places }
+        ensures { number_of result ≡ start_number flanger rate places }
     {
         effect::check_rate(2 * Flanger::line_length(rate), places)
     }
 
     // What a start, a retune or a reset returns, by the outcome of its tests: the state `next`, or `kept`.
     fn settled(outcome: Outcome, next: Flanger, kept: Flanger) -> Cleared
-        ensures { (result.state ≡ ifNone (number_of outcome) next kept) × (result.outcome ≡ outcome) }
+        ensures { (result.state ≡ if_none (number_of outcome) next kept) × (result.outcome ≡ outcome) }
     {
         if let Outcome::Accepted = outcome {
             return Cleared {
@@ -88,7 +88,7 @@ impl Flanger {
 
     // Start: phase 0, at the rate.
     pub fn new(sample_rate: f64, mem: &mut [f64]) -> Cleared
-        ensures { Starts flanger sample_rate mem.old result.state mem.new (outcomeReply result.outcome) }
+        ensures { Starts flanger sample_rate mem.old result.state mem.new (outcome_reply result.outcome) }
     {
         let outcome = Flanger::rate_refusal(sample_rate, mem.len());
         effect::clear(outcome, mem);
@@ -101,15 +101,15 @@ impl Flanger {
 
     // The state test, where n is the length of a line.
     fn state_fits(self, n: u64) -> bool
-        requires { n ≡ cond (rateFits self.sample_rate) (lineLength self.sample_rate) 0 }
-        ensures { result ≡ stateFits self }
+        requires { n ≡ cond (rate_fits self.sample_rate) (line_length self.sample_rate) 0 }
+        ensures { result ≡ state_fits self }
     {
         self.write_pos < n && float64::phase_fits(self.lfo_phase)
     }
 
     // Causes 4 and 3: a state that fails its test, and memory that is too short for it.
     fn refusal(self, n: u64, places: usize) -> Outcome
-        requires { n ≡ cond (rateFits self.sample_rate) (lineLength self.sample_rate) 0 }
+        requires { n ≡ cond (rate_fits self.sample_rate) (line_length self.sample_rate) 0 }
         ensures { number_of result ≡ number_in flanger reset places self }
     {
         effect::check_state(self.state_fits(n), effect::check_memory(2 * n, places))
@@ -118,7 +118,7 @@ impl Flanger {
     // Retune: a clearing at another rate, which keeps the phase.
     pub fn set_sample_rate(self, sample_rate: f64, mem: &mut [f64]) -> Cleared
         ensures { Does flanger (retune sample_rate) self mem.old result.state mem.new
-            (outcomeReply result.outcome) }
+            (outcome_reply result.outcome) }
     {
         let n = Flanger::line_length(self.sample_rate);
         let others = Flanger::rate_refusal(sample_rate, mem.len());
@@ -129,7 +129,7 @@ impl Flanger {
 
     // Reset: a clearing at the rate in force, with phase 0 again.
     pub fn reset(self, mem: &mut [f64]) -> Cleared
-        ensures { Does flanger reset self mem.old result.state mem.new (outcomeReply result.outcome) }
+        ensures { Does flanger reset self mem.old result.state mem.new (outcome_reply result.outcome) }
     {
         let n = Flanger::line_length(self.sample_rate);
         let outcome = self.refusal(n, mem.len());
@@ -139,7 +139,7 @@ impl Flanger {
 
     // Silent? Whether every place of the two lines is +0 or -0.
     pub fn silent(self, mem: &[f64]) -> Silence
-        ensures { Does flanger ask self mem.now self mem.now (silenceReply result) }
+        ensures { Does flanger ask self mem.now self mem.now (silence_reply result) }
     {
         let n = Flanger::line_length(self.sample_rate);
         let outcome = self.refusal(n, mem.len());
@@ -148,8 +148,8 @@ impl Flanger {
 
     // (1 + (sine + 1) x 0.5 x (depth x 9)) x rate / 1000, clamped to 1 to n - 1, n the length of a line.
     fn distance(n: usize, rate: f64, depth: f64, sine: f64) -> f64
-        requires rate_value { rateFits rate ≡ true }
-        requires n_value { n ≡ lineLength rate }
+        requires rate_value { rate_fits rate ≡ true }
+        requires n_value { n ≡ line_length rate }
         ensures { result ≡ distance rate depth sine }
     {
         let swing = depth * (Flanger::MAX_DELAY_MS - 1.0);
@@ -159,12 +159,12 @@ impl Flanger {
 
     // What a line holds at its own distance.
     fn tap(line: &[f64], w: usize, rate: f64, depth: f64, sine: f64) -> f64
-        requires rate_value { rateFits rate ≡ true }
-        requires line_len { length line.now ≡ lineLength rate }
+        requires rate_value { rate_fits rate ≡ true }
+        requires line_len { length line.now ≡ line_length rate }
         requires w_in_bounds { w < length line.now }
-        requires float_of_value { in_range depth plusZero (float_of 1) ≡ true }
-        requires sine_value { sineFits sine ≡ true }
-        ensures { result ≡ readAt (line_at 0 (length line.now) w line.now) (distance rate depth sine) }
+        requires float_of_value { in_range depth plus_zero (float_of 1) ≡ true }
+        requires sine_value { sine_fits sine ≡ true }
+        ensures { result ≡ read_at (line_at 0 (length line.now) w line.now) (distance rate depth sine) }
     {
         common::read_interpolated(line, w, Flanger::distance(line.len(), rate, depth, sine))
     }
@@ -172,7 +172,7 @@ impl Flanger {
     // The state after a tick.
     fn next(self, n: u64, frequency: f64) -> Flanger
         requires { self.write_pos < n }
-        ensures write_pos_value { result.write_pos ≡ nextPlace n self.write_pos }
+        ensures write_pos_value { result.write_pos ≡ next_place n self.write_pos }
         ensures lfo_phase_value { result.lfo_phase ≡ advanced self.lfo_phase (div binary64 frequency self.sample_rate) }
         ensures sample_rate_value { result.sample_rate ≡ self.sample_rate }
     {
@@ -198,11 +198,11 @@ impl Flanger {
         sine0: f64,
         sine1: f64,
     ) -> Ticked
-        requires n_value { n ≡ lineLength self.sample_rate }
-        requires self_value { number_in flanger (tick (tickOf (Set audio) (Set depth) (Set feedback) (Set mix) frequency sine0 sine1))
+        requires n_value { n ≡ line_length self.sample_rate }
+        requires self_value { number_in flanger (tick (tick_of (Set audio) (Set depth) (Set feedback) (Set mix) frequency sine0 sine1))
             (length mem.old) self ≡ 0 }
-        ensures { Does flanger (tick (tickOf (Set audio) (Set depth) (Set feedback) (Set mix) frequency sine0 sine1)) self
-            mem.old result.state mem.new (answerReply result.answer) }
+        ensures { Does flanger (tick (tick_of (Set audio) (Set depth) (Set feedback) (Set mix) frequency sine0 sine1)) self
+            mem.old result.state mem.new (answer_reply result.answer) }
     {
         let state = self.next(n, frequency);
         let rate = self.sample_rate;
@@ -237,8 +237,8 @@ impl Flanger {
         sine0: f64,
         sine1: f64,
     ) -> Ticked
-        ensures { Does flanger (tick (tickOf audio depth feedback mix frequency sine0 sine1)) self mem.old result.state
-            mem.new (answerReply result.answer) }
+        ensures { Does flanger (tick (tick_of audio depth feedback mix frequency sine0 sine1)) self mem.old result.state
+            mem.new (answer_reply result.answer) }
     {
         let n = Flanger::line_length(self.sample_rate);
         let refusal = self.refusal(n, mem.len());

@@ -2,15 +2,15 @@
 use Rattle.std.proofs.Common.{◌≡◌, ℕ, zero, suc, ◌+◌, ◌-◌, ◌*◌, ◌^◌, ◌<◌, ◌≤◌, Bool, true, false, T, ℤ, pos, negsuc, refl, ap, zero-lt-suc, mul-pos, arith, eqb→eq, pow_mono, ltb-false}
 use lib.Ieee.{Float, nan, inf, fin, Format, binary64, up, down, fits, sub, lt}
 use lib.Ieee.Fits.{up_pos}
-use Rattle.float64.specs.Number.{plusZero, absolute}
+use Rattle.float64.specs.Number.{plus_zero, absolute}
 use Rattle.float64.proofs.Units.{one, cap, one-pos, cap-pos, sign, mag, mag-cross, mag-rep, mag-lt}
 use Rattle.float64.proofs.Round.{difference-exact}
 use Rattle.float64.proofs.Keys.{rekeyed, sub_at}
-use Rattle.float64.proofs.Order.{plusZero-at, sign-size}
+use Rattle.float64.proofs.Order.{plus_zero-at, sign-size}
 use Rattle.float64.proofs.Same.{same_key}
 use Rattle.float64.proofs.Tests.{clash}
 
-pub above_zero : (x : Float) → lt plusZero x ≡ true → x ≡ absolute x
+pub above_zero : (x : Float) → lt plus_zero x ≡ true → x ≡ absolute x
 unfolding lt
 above_zero nan h = clash h refl
 above_zero (inf true) h = clash h refl
@@ -34,7 +34,7 @@ mag-pos f s m e a = go (mag f (fin s (suc m) e)) (mag-cross f s (suc m) e a) (mu
     go zero h p = absurd (omega arith)
     go (suc n) h p = omega arith
 
-turned : (m : ℕ) (e : ℤ) → T (fits binary64 (fin true (suc m) e)) → T (fits binary64 (fin false (suc m) e)) → sub binary64 plusZero (fin true (suc m) e) ≡ fin false (suc m) e
+turned : (m : ℕ) (e : ℤ) → T (fits binary64 (fin true (suc m) e)) → T (fits binary64 (fin false (suc m) e)) → sub binary64 plus_zero (fin true (suc m) e) ≡ fin false (suc m) e
 unfolding sign
 turned m e a b =
     let B = binary64 in
@@ -42,17 +42,17 @@ turned m e a b =
     let n = mag B y in
     let l : n < cap B = mag-lt B y b tt in
     let x' = rekeyed (sign-size B (fin true (suc m) e) a tt) (ap (λ (k : ℕ). cap B - k) (mag-sign B (suc m) e)) in
-    let r = sub_at (plusZero-at B) x' (omega (arith, cap-pos B), omega (arith, cap-pos B)) (omega arith, omega arith) in
+    let r = sub_at (plus_zero-at B) x' (omega (arith, cap-pos B), omega (arith, cap-pos B)) (omega arith, omega arith) in
     same_key (rekeyed r (difference-exact B (cap B + 0) (cap B - n) n (mag-rep B y b tt) l (omega arith))) (sign-size B y b tt) (mag-pos B false m e b) l
 
-pub not-above : (x : Float) → T (fits binary64 x) → lt plusZero x ≡ false → sub binary64 plusZero x ≡ absolute x
+pub not-above : (x : Float) → T (fits binary64 x) → lt plus_zero x ≡ false → sub binary64 plus_zero x ≡ absolute x
 unfolding lt sub fits
 not-above nan a k = refl
 not-above (inf true) a k = refl
 not-above (inf false) a k = clash refl k
 not-above (fin s zero (pos zero)) a k = go s
   where
-    go : (s : Bool) → sub binary64 plusZero (fin s zero (pos zero)) ≡ fin false zero (pos zero)
+    go : (s : Bool) → sub binary64 plus_zero (fin s zero (pos zero)) ≡ fin false zero (pos zero)
     go true = refl
     go false = refl
 not-above (fin s zero (pos (suc n))) a k = absurd (two n (2 ^ suc n) (pow_mono (one-le n)) (eqb→eq (2 ^ suc n * 1) 1 a))

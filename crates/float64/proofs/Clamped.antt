@@ -2,13 +2,13 @@
 -- a NaN too. The ends of the range are finite and in order. Assumes nothing.
 use Rattle.std.proofs.Common.{◌≡◌, Bool, true, false, cond, not, T, refl, ap, ◌∙◌}
 use lib.Ieee.{Float, binary64, fits, is_nan, le, lt}
-use Rattle.float64.specs.Number.{is_number, clampOf, at_least, at_most}
+use Rattle.float64.specs.Number.{is_number, clamp_of, at_least, at_most}
 use Rattle.float64.proofs.Order.{le-reflexive, not-lt→le, le→not-lt, finite-num}
 use Rattle.float64.proofs.Interval.{In, ends, box, in-finite, lo-fits, hi-fits, lo-finite, hi-finite}
 use Rattle.float64.proofs.Ranges.{number_fits, number-num}
 
-pub clamp-in : (x : Float) {lo hi : Float} → T (ends binary64 lo hi) → T (le lo hi) → is_number x ≡ true → In binary64 lo hi (clampOf x lo hi)
-unfolding clampOf
+pub clamp-in : (x : Float) {lo hi : Float} → T (ends binary64 lo hi) → T (le lo hi) → is_number x ≡ true → In binary64 lo hi (clamp_of x lo hi)
+unfolding clamp_of
 clamp-in x {lo} {hi} t h k = go (lt x lo) (lt hi x) (not-lt→le binary64 x lo (number_fits x k) l (number-num x k) p) (not-lt→le binary64 hi x u (number_fits x k) q (number-num x k))
   where
     l : T (fits binary64 lo)
@@ -29,8 +29,8 @@ clamp-in x {lo} {hi} t h k = go (lt x lo) (lt hi x) (not-lt→le binary64 x lo (
     go false false i j = box t (number_fits x k) (i tt) (j tt)
 
 -- between numbers, whatever their order, a number stays one
-pub clamp-number : (x lo hi : Float) → is_number x ≡ true → is_number lo ≡ true → is_number hi ≡ true → is_number (clampOf x lo hi) ≡ true
-unfolding clampOf
+pub clamp-number : (x lo hi : Float) → is_number x ≡ true → is_number lo ≡ true → is_number hi ≡ true → is_number (clamp_of x lo hi) ≡ true
+unfolding clamp_of
 clamp-number x lo hi k l u = go (lt x lo) (lt hi x)
   where
     go : (b c : Bool) → is_number (cond b lo (cond c hi x)) ≡ true
@@ -38,15 +38,15 @@ clamp-number x lo hi k l u = go (lt x lo) (lt hi x)
     go false true = u
     go false false = k
 
-pub clamp-keeps : {x lo hi : Float} → In binary64 lo hi x → clampOf x lo hi ≡ x
-unfolding clampOf
+pub clamp-keeps : {x lo hi : Float} → In binary64 lo hi x → clamp_of x lo hi ≡ x
+unfolding clamp_of
 clamp-keeps {x} {lo} {hi} i =
     let l = lo-fits binary64 lo hi i.ends-ok in
     let u = hi-fits binary64 lo hi i.ends-ok in
     ap (λ (b : Bool). cond b lo (cond (lt hi x) hi x)) (le→not-lt binary64 lo x l i.fit i.lower) ∙ ap (λ (b : Bool). cond b hi x) (le→not-lt binary64 x hi i.fit u i.upper)
 
-pub clamp-halves : (x lo hi : Float) → lt hi lo ≡ false → at_most (at_least x lo) hi ≡ clampOf x lo hi
-unfolding at_most at_least clampOf
+pub clamp-halves : (x lo hi : Float) → lt hi lo ≡ false → at_most (at_least x lo) hi ≡ clamp_of x lo hi
+unfolding at_most at_least clamp_of
 clamp-halves x lo hi h = go (lt x lo)
   where
     go : (b : Bool) → cond (lt hi (cond b lo x)) hi (cond b lo x) ≡ cond b lo (cond (lt hi x) hi x)

@@ -7,7 +7,7 @@ use Rattle.float64.proofs.Tests.{clash, both}
 use Rattle.float64.proofs.Ranges.{yes}
 use Rattle.float64.proofs.Units.{one, cap, one-pos, key}
 use Rattle.float64.proofs.Round.{whole-lt}
-use Rattle.float64.proofs.Keys.{at, rekeyed, of_le, le-num-l, ofInt-at}
+use Rattle.float64.proofs.Keys.{at, rekeyed, of_le, le-num-l, of_int-at}
 use Rattle.float64.proofs.Same.{same_key}
 
 or_right : (a b : Bool) → b ≡ true → T (a || b)
@@ -49,6 +49,6 @@ pub equal-whole : (x : Float) (n : ℕ) → T (fits binary64 x) → 0 < n → n 
 equal-whole x n f p w h =
     let l = at-most x (float_of n) h in
     let x' = at binary64 x f (le-num-l x (float_of n) l) in
-    let y' = ofInt-at binary64 n w in
+    let y' = of_int-at binary64 n w in
     let e : key binary64 x ≡ cap binary64 + n * one binary64 = omega (arith, of_le x' y' l, of_le y' x' (at-most (float_of n) x (eq-swaps x (float_of n) h))) in
     same_key (rekeyed x' e) y' (mul-pos p (one-pos binary64)) (whole-lt binary64 n w)

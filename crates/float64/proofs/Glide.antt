@@ -4,11 +4,11 @@ use Rattle.std.proofs.Common.{◌≡◌, ℕ, suc, ◌+◌, ◌-◌, ◌*◌, �
 use lib.Dec.{nleb→lt}
 use lib.Ieee.{Float, binary64, add, sub, mul, le}
 use lib.Ieee.Fits.{add-fits}
-use Rattle.float64.specs.Number.{float_of, coefficientFits}
+use Rattle.float64.specs.Number.{float_of, coefficient_fits}
 use Rattle.float64.proofs.Units.{one, cap, one-pos, cap-pos, Rep}
 use Rattle.float64.proofs.Round.{rounded, rounded-exact, rounded-le, rounded-rep, rounded-units-mono, difference-le, difference-ge, difference-pos, difference-neg, rep-whole, whole-lt}
 use Rattle.float64.proofs.Near.{rep-sub, no-overshoot}
-use Rattle.float64.proofs.Keys.{At, rekeyed, le_of, le-of-size, size-of-le, add_at, sub_at, mul_at, ofInt-at, rep_at}
+use Rattle.float64.proofs.Keys.{At, rekeyed, le_of, le-of-size, size-of-le, add_at, sub_at, mul_at, of_int-at, rep_at}
 use Rattle.float64.proofs.Order.{size_of}
 use Rattle.float64.proofs.Interval.{In, box, in-finite}
 use Rattle.float64.proofs.Ranges.{unit-in}
@@ -65,7 +65,7 @@ module _ (M U D C : ℕ) (t d c : Float) (hM : suc M ≤ 2 ^ 52) (t-at : At bina
       let top : E ≤ rounded B (M * o - U) o = rounded-units-mono B (D - U) (M * o - U) (omega arith) in
       let high : rounded B (U + m) o ≤ M * o = le_trans (rounded-units-mono B (U + m) (U + rounded B (M * o - U) o) (omega arith)) (no-overshoot B M hM U t-hi) in
       let low : o ≤ rounded B (U + m) o = le_trans (le_of_eq (sym (rounded-exact B o one-rep one-lt))) (rounded-units-mono B o (U + m) (omega arith)) in
-      (le-of-size one_at r' low, le-of-size r' (ofInt-at B M wide) high)
+      (le-of-size one_at r' low, le-of-size r' (of_int-at B M wide) high)
     where
       apart : (k t m : ℕ) → k + t + (k + m) - (k + k) ≡ t + m
       apart k t m = omega arith
@@ -88,7 +88,7 @@ module _ (M U D C : ℕ) (t d c : Float) (hM : suc M ≤ 2 ^ 52) (t-at : At bina
       let m' : At B (mul B (sub B d t) c) (K - m) = mul_at true false E C s' c-at E-lt c_lt in
       let r' = add_at t-at m' (above U t-lt) (omega arith, omega (arith, cap-pos B)) in (
         le_of one_at r' (difference-ge B (K + U + (K - m)) (K + K) o one-rep one-lt (omega arith)),
-        le_of r' (ofInt-at B M wide) (difference-le B (K + U + (K - m)) (K + K) (M * o) end-rep end_lt (omega arith)),
+        le_of r' (of_int-at B M wide) (difference-le B (K + U + (K - m)) (K + K) (M * o) end-rep end_lt (omega arith)),
       )
 
   stays : Stays
@@ -98,7 +98,7 @@ module _ (M U D C : ℕ) (t d c : Float) (hM : suc M ≤ 2 ^ 52) (t-at : At bina
       go true p q = rising (p tt)
       go false p q = falling (le_of_lt (q tt))
 
-pub glide-in : (M : ℕ) {t d : Float} (c : Float) → M ≤ 2 ^ 24 → In binary64 (float_of 1) (float_of M) t → In binary64 (float_of 1) (float_of M) d → coefficientFits c ≡ true
+pub glide-in : (M : ℕ) {t d : Float} (c : Float) → M ≤ 2 ^ 24 → In binary64 (float_of 1) (float_of M) t → In binary64 (float_of 1) (float_of M) d → coefficient_fits c ≡ true
     → In binary64 (float_of 1) (float_of M) (add binary64 t (mul binary64 (sub binary64 d t) c))
 glide-in M {t} {d} c h i j k =
     let t' = count M (omega arith) i in

@@ -4,11 +4,11 @@ use Rattle.std.proofs.Common.{◌≡◌, ℕ, ◌+◌, ◌*◌, ◌<◌, ◌≤�
 use lib.Ieee.{Float, Format, unlike, add, sub, mul, div, to_unsigned, fits, le, lt}
 use lib.Ieee.Fits.{and_l, and_r, add-fits, sub-fits, mul-fits, div-fits}
 use lib.Ieee.Scale.{finite}
-use Rattle.float64.specs.Number.{plusZero}
+use Rattle.float64.specs.Number.{plus_zero}
 use Rattle.float64.proofs.Units.{one, cap, one-pos, sign, mag, signed, mag-lt}
 use Rattle.float64.proofs.Round.{rounded, rounded-mono}
 use Rattle.float64.proofs.Keys.{At, le_of, le-of-size, size-of-le, mul_at}
-use Rattle.float64.proofs.Order.{le-reflexive, le-transitive, lt-le-lt, plusZero-fits, between-finite, finite-num, sign-size, size_of, add-mono, sub-mono, mul-mono-left, mul_mono, div_mono, whole-mono}
+use Rattle.float64.proofs.Order.{le-reflexive, le-transitive, lt-le-lt, plus_zero-fits, between-finite, finite-num, sign-size, size_of, add-mono, sub-mono, mul-mono-left, mul_mono, div_mono, whole-mono}
 
 -- the ends of an interval
 abbrev pub ends : Format → Float → Float → Bool
@@ -96,34 +96,34 @@ module _ {f : Format} {a b c d x y : Float} (l h : Float) where
       (sub-mono f x b y c i.fit (hi-fits f a b s) j.fit (lo-fits f c d r) u (hi-finite f a b s) v (lo-finite f c d r) i.upper j.lower)
 
   -- both from 0 on
-  pub mul_in : T (le plusZero a) → T (le plusZero c) → T (around f l h (mul f a c) (mul f b d)) → In f a b x → In f c d y → In f l h (mul f x y)
+  pub mul_in : T (le plus_zero a) → T (le plus_zero c) → T (around f l h (mul f a c) (mul f b d)) → In f a b x → In f c d y → In f l h (mul f x y)
   mul_in z w t i j =
       let s = i.ends-ok in
       let r = j.ends-ok in
       let u = in-finite i in
       let v = in-finite j in
-      let x0 = le-transitive f plusZero a x (plusZero-fits f) (lo-fits f a b s) i.fit z i.lower in
-      let y0 = le-transitive f plusZero c y (plusZero-fits f) (lo-fits f c d r) j.fit w j.lower in
+      let x0 = le-transitive f plus_zero a x (plus_zero-fits f) (lo-fits f a b s) i.fit z i.lower in
+      let y0 = le-transitive f plus_zero c y (plus_zero-fits f) (lo-fits f c d r) j.fit w j.lower in
       within f l h (mul f a c) (mul f b d) (mul f x y) t (mul-fits f a c) (mul-fits f b d) (mul-fits f x y)
       (mul_mono f a x c y (lo-fits f a b s) i.fit (lo-fits f c d r) j.fit (lo-finite f a b s) u (lo-finite f c d r) v z w i.lower j.lower)
       (mul_mono f x b y d i.fit (hi-fits f a b s) j.fit (hi-fits f c d r) u (hi-finite f a b s) v (hi-finite f c d r) x0 y0 i.upper j.upper)
 
   -- x from 0 on, y above 0
-  pub div-in : T (le plusZero a) → T (lt plusZero c) → T (around f l h (div f a d) (div f b c)) → In f a b x → In f c d y → In f l h (div f x y)
+  pub div-in : T (le plus_zero a) → T (lt plus_zero c) → T (around f l h (div f a d) (div f b c)) → In f a b x → In f c d y → In f l h (div f x y)
   div-in z w t i j =
       let s = i.ends-ok in
       let r = j.ends-ok in
       let u = in-finite i in
       let v = in-finite j in
-      let x0 = le-transitive f plusZero a x (plusZero-fits f) (lo-fits f a b s) i.fit z i.lower in
-      let y0 = lt-le-lt f plusZero c y (plusZero-fits f) (lo-fits f c d r) j.fit w j.lower in
+      let x0 = le-transitive f plus_zero a x (plus_zero-fits f) (lo-fits f a b s) i.fit z i.lower in
+      let y0 = lt-le-lt f plus_zero c y (plus_zero-fits f) (lo-fits f c d r) j.fit w j.lower in
       within f l h (div f a d) (div f b c) (div f x y) t (div-fits f a d) (div-fits f b c) (div-fits f x y)
       (div_mono f a x d y (lo-fits f a b s) i.fit (hi-fits f c d r) j.fit (lo-finite f a b s) u (hi-finite f c d r) v z y0 i.lower j.upper)
       (div_mono f x b y c i.fit (hi-fits f a b s) j.fit (lo-fits f c d r) u (hi-finite f a b s) v (lo-finite f c d r) x0 w i.upper j.lower)
 
 -- ---- a product with a factor y from 0 on, and x of either sign
 -- a fixed a times y: up or down as y grows, by a's sign
-module _ (f : Format) (a c d : Float) (p : T (fits f a)) (q : T (fits f c)) (r : T (fits f d)) (u : T (finite a)) (v : T (finite c)) (w : T (finite d)) (z : T (le plusZero c)) (k : T (le c d)) where
+module _ (f : Format) (a c d : Float) (p : T (fits f a)) (q : T (fits f c)) (r : T (fits f d)) (u : T (finite a)) (v : T (finite c)) (w : T (finite d)) (z : T (le plus_zero c)) (k : T (le c d)) where
   by_sign : (s : Bool) → sign a ≡ s → cond s (T (le (mul f a d) (mul f a c))) (T (le (mul f a c) (mul f a d)))
   by_sign s e = go s (subst (λ (b : Bool). At f a (signed (cap f) b (mag f a))) e (sign-size f a p u))
     where
@@ -131,7 +131,7 @@ module _ (f : Format) (a c d : Float) (p : T (fits f a)) (q : T (fits f c)) (r :
       C = size_of f c q v z
 
       D : (n : ℕ) × (n < cap f) × At f d (cap f + n)
-      D = size_of f d r w (le-transitive f plusZero c d (plusZero-fits f) q r z k)
+      D = size_of f d r w (le-transitive f plus_zero c d (plus_zero-fits f) q r z k)
 
       m : rounded f (mag f a * C.0) (one f * one f) ≤ rounded f (mag f a * D.0) (one f * one f)
       m =
@@ -149,14 +149,14 @@ module _ (f : Format) (a c d : Float) (p : T (fits f a)) (q : T (fits f c)) (r :
       go true a' = le_of (at-d true a') (at_c true a') (omega (arith, m))
 
 -- so between c and d it stays on one side of what both ends stay on
-module _ {f : Format} {c d y : Float} (a l : Float) (p : T (fits f a)) (u : T (finite a)) (t : T (fits f l)) (z : T (le plusZero c)) (j : In f c d y) where
+module _ {f : Format} {c d y : Float} (a l : Float) (p : T (fits f a)) (u : T (finite a)) (t : T (fits f l)) (z : T (le plus_zero c)) (j : In f c d y) where
   up-to-y : (s : Bool) → sign a ≡ s → cond s (T (le (mul f a y) (mul f a c))) (T (le (mul f a c) (mul f a y)))
   up-to-y = by_sign f a c y p (lo-fits f c d j.ends-ok) j.fit u (lo-finite f c d j.ends-ok) (in-finite j) z j.lower
 
   from-y : (s : Bool) → sign a ≡ s → cond s (T (le (mul f a d) (mul f a y))) (T (le (mul f a y) (mul f a d)))
   from-y =
       by_sign f a y d p j.fit (hi-fits f c d j.ends-ok) u (in-finite j) (hi-finite f c d j.ends-ok)
-      (le-transitive f plusZero c y (plusZero-fits f) (lo-fits f c d j.ends-ok) j.fit z j.lower) j.upper
+      (le-transitive f plus_zero c y (plus_zero-fits f) (lo-fits f c d j.ends-ok) j.fit z j.lower) j.upper
 
   above : T (le l (mul f a c)) → T (le l (mul f a d)) → T (le l (mul f a y))
   above m n = go (sign a) refl
@@ -174,11 +174,11 @@ module _ {f : Format} {c d y : Float} (a l : Float) (p : T (fits f a)) (u : T (f
 
 module _ {f : Format} {a b c d x y : Float} (l h : Float) where
   -- x of either sign, y from 0 on
-  pub scale_in : T (le plusZero c) → T (around f l h (mul f a c) (mul f b c)) → T (around f l h (mul f a d) (mul f b d)) → In f a b x → In f c d y → In f l h (mul f x y)
+  pub scale_in : T (le plus_zero c) → T (around f l h (mul f a c) (mul f b c)) → T (around f l h (mul f a d) (mul f b d)) → In f a b x → In f c d y → In f l h (mul f x y)
   scale_in z t t' i j =
       let s = i.ends-ok in
       let e = out-ends f l h (mul f a c) (mul f b c) t in
-      let y0 = le-transitive f plusZero c y (plusZero-fits f) (lo-fits f c d j.ends-ok) j.fit z j.lower in
+      let y0 = le-transitive f plus_zero c y (plus_zero-fits f) (lo-fits f c d j.ends-ok) j.fit z j.lower in
       let lo' = above a l (lo-fits f a b s) (lo-finite f a b s) (lo-fits f l h e) z j (out-lo f l h (mul f a c) (mul f b c) t) (out-lo f l h (mul f a d) (mul f b d) t') in
       let hi' = below b h (hi-fits f a b s) (hi-finite f a b s) (hi-fits f l h e) z j (out-hi f l h (mul f a c) (mul f b c) t) (out-hi f l h (mul f a d) (mul f b d) t') in
       box e (mul-fits f x y)
@@ -186,9 +186,9 @@ module _ {f : Format} {a b c d x y : Float} (l h : Float) where
       (le-transitive f (mul f x y) (mul f b y) h (mul-fits f x y) (mul-fits f b y) (hi-fits f l h e) (mul-mono-left f x b y i.fit (hi-fits f a b s) j.fit (in-finite i) (hi-finite f a b s) (in-finite j) y0 i.upper) hi')
 
 -- the whole part
-pub cut_in : {f : Format} {a b x : Float} (w : ℕ) → T (le plusZero a) → In f a b x → (to_unsigned w a ≤ to_unsigned w x) × (to_unsigned w x ≤ to_unsigned w b)
+pub cut_in : {f : Format} {a b x : Float} (w : ℕ) → T (le plus_zero a) → In f a b x → (to_unsigned w a ≤ to_unsigned w x) × (to_unsigned w x ≤ to_unsigned w b)
 cut_in {f} {a} {b} {x} w z i =
     let s = i.ends-ok in
     let u = in-finite i in
-    let x0 = le-transitive f plusZero a x (plusZero-fits f) (lo-fits f a b s) i.fit z i.lower in
+    let x0 = le-transitive f plus_zero a x (plus_zero-fits f) (lo-fits f a b s) i.fit z i.lower in
     (whole-mono f w a x (lo-fits f a b s) i.fit (lo-finite f a b s) u z i.lower, whole-mono f w x b i.fit (hi-fits f a b s) u (hi-finite f a b s) x0 i.upper)

@@ -313,9 +313,9 @@ pub div-at : {f : Format} {x y : Float} (s t : Bool) (a b : ℕ) → At f x (sig
 div-at {f} {x} {y} s t a b x' y' p q B = div-fin f x y s t a b x' y' p q B (subst (Fin f) (sym x'.is) (signed-fin (cap f) a s p)) (subst (Fin f) (sym y'.is) (signed-fin (cap f) b t q))
 
 -- ---- the casts
-pub ofInt-at : (f : Format) (n : ℕ) → n < 2 ^ prec f → At f (of_int f (pos n)) (cap f + n * one f)
+pub of_int-at : (f : Format) (n : ℕ) → n < 2 ^ prec f → At f (of_int f (pos n)) (cap f + n * one f)
 unfolding of_int
-ofInt-at f n h =
+of_int-at f n h =
     rekeyed (round-at f false n 1) (ap (λ (z : ℕ). cap f + z) (rounded-same f n 1 (n * one f) (one f) (zero-lt-suc 0) (one-pos f) (sym (mul-one (n * one f))) ∙ rounded-exact f (n * one f) (rep-whole f n h) (whole-lt f n h)))
 
 cut-fin : (f : Format) (w : ℕ) (x : Float) (a : ℕ) → At f x (cap f + a) → a < cap f → Fin f (key f x) → to_unsigned w x ≡ min (a / one f) (2 ^ w - 1)
@@ -330,8 +330,8 @@ cut-fin f w (fin true m e) a x p u =
     let z : a ≡ 0 = elim (same_sign (cap f) (mag f (fin true m e)) a true false (mag-lt f (fin true m e) x.fit tt) p x.is) [ inl q ↦ absurd (subst T q tt) | inr q ↦ q ] in
     sym (ap (λ (v : ℕ). min (v / one f) (2 ^ w - 1)) z ∙ ap (λ (v : ℕ). min v (2 ^ w - 1)) (zero-div (one f)) ∙ zero-min (2 ^ w - 1))
 
-pub toUnsigned-at : {f : Format} (w : ℕ) {x : Float} (a : ℕ) → At f x (cap f + a) → a < cap f → to_unsigned w x ≡ min (a / one f) (2 ^ w - 1)
-toUnsigned-at {f} w {x} a h p = cut-fin f w x a h p (subst (Fin f) (sym h.is) (signed-fin (cap f) a false p))
+pub to_unsigned-at : {f : Format} (w : ℕ) {x : Float} (a : ℕ) → At f x (cap f + a) → a < cap f → to_unsigned w x ≡ min (a / one f) (2 ^ w - 1)
+to_unsigned-at {f} w {x} a h p = cut-fin f w x a h p (subst (Fin f) (sym h.is) (signed-fin (cap f) a false p))
 
 -- ---- the size of a value is one that the format holds
 rep-fin : (f : Format) (x : Float) (n : ℕ) → At f x (cap f + n) → n < cap f → Fin f (key f x) → Rep f n

@@ -3,10 +3,10 @@ use Rattle.std.proofs.Common.{◌≡◌, ℕ, ◌+◌, ◌-◌, ◌*◌, ◌/◌
 use native.Mathlib.Nat.{eq_of_mul-eq-mul_right}
 use lib.Ieee.{Float, nan, inf, fin, Format, unlike, add, sub, mul, div, to_unsigned, fits, is_nan, le, lt}
 use lib.Ieee.Scale.{finite}
-use Rattle.float64.specs.Number.{plusZero}
+use Rattle.float64.specs.Number.{plus_zero}
 use Rattle.float64.proofs.Units.{one, cap, one-pos, sign, mag, signed, key, mag-lt, mag-cross}
 use Rattle.float64.proofs.Round.{rounded, rounded-mono, rounded-zero, difference-mono}
-use Rattle.float64.proofs.Keys.{At, at, rekeyed, le_of, of_le, of-nle, lt_of, of_lt, of-nlt, le-of-size, size-of-le, size-of-lt, le-num-l, le-num-r, lt-num-l, lt-num-r, Fin, inf-key, signed-fin, add_at, sub_at, mul_at, div-at, toUnsigned-at}
+use Rattle.float64.proofs.Keys.{At, at, rekeyed, le_of, of_le, of-nle, lt_of, of_lt, of-nlt, le-of-size, size-of-le, size-of-lt, le-num-l, le-num-r, lt-num-l, lt-num-r, Fin, inf-key, signed-fin, add_at, sub_at, mul_at, div-at, to_unsigned-at}
 
 -- ---- the order
 module _ (f : Format) where
@@ -83,20 +83,20 @@ between-finite f lo x hi a b c p q h k =
     of-key f (fin s m e) n p q = tt
 
 -- ---- 0, and values from 0 on by their sizes
-pub plusZero-fits : (f : Format) → T (fits f plusZero)
+pub plus_zero-fits : (f : Format) → T (fits f plus_zero)
 unfolding fits
-plusZero-fits f = tt
+plus_zero-fits f = tt
 
-pub plusZero-at : (f : Format) → At f plusZero (cap f + 0)
+pub plus_zero-at : (f : Format) → At f plus_zero (cap f + 0)
 unfolding sign
-plusZero-at f =
-    rekeyed (sign-size f plusZero (plusZero-fits f) tt)
-    (ap (λ (n : ℕ). cap f + n) (eq_of_mul-eq-mul_right 1 (pow_pos 0) (mag f plusZero) 0 (sym (mag-cross f false 0 (pos 0) (plusZero-fits f)) ∙ zero-mul (one f))))
+plus_zero-at f =
+    rekeyed (sign-size f plus_zero (plus_zero-fits f) tt)
+    (ap (λ (n : ℕ). cap f + n) (eq_of_mul-eq-mul_right 1 (pow_pos 0) (mag f plus_zero) 0 (sym (mag-cross f false 0 (pos 0) (plus_zero-fits f)) ∙ zero-mul (one f))))
 
-pub size_of : (f : Format) (x : Float) → T (fits f x) → T (finite x) → T (le plusZero x) → (n : ℕ) × (n < cap f) × At f x (cap f + n)
+pub size_of : (f : Format) (x : Float) → T (fits f x) → T (finite x) → T (le plus_zero x) → (n : ℕ) × (n < cap f) × At f x (cap f + n)
 size_of f x a p h =
     let x' = at f x a (finite-num x p) in
-    let l = of_le (plusZero-at f) x' h in
+    let l = of_le (plus_zero-at f) x' h in
     let k = finite-key f x a p in
     let e : key f x ≡ cap f + (key f x - cap f) = omega arith in
     (key f x - cap f, omega (arith, k.1), rekeyed x' e)
@@ -135,32 +135,32 @@ module _ (f : Format) where
         (difference-mono f (key f a) (key f c) (key f b) (key f d) (omega (arith, of_le a' b' h, of_le d' c' k)))
 
     -- 0 ≤ a ≤ b and 0 ≤ c ≤ d: a c ≤ b d
-    pub mul_mono : T (le plusZero a) → T (le plusZero c) → T (le a b) → T (le c d) → T (le (mul f a c) (mul f b d))
+    pub mul_mono : T (le plus_zero a) → T (le plus_zero c) → T (le a b) → T (le c d) → T (le (mul f a c) (mul f b d))
     mul_mono h k l m =
         let A = size_of f a x p h in
-        let B = size_of f b y q (le-transitive f plusZero a b (plusZero-fits f) x y h l) in
+        let B = size_of f b y q (le-transitive f plus_zero a b (plus_zero-fits f) x y h l) in
         let C = size_of f c z r k in
-        let D = size_of f d w s (le-transitive f plusZero c d (plusZero-fits f) z w k m) in
+        let D = size_of f d w s (le-transitive f plus_zero c d (plus_zero-fits f) z w k m) in
         let o = one f * one f in
         let O : 0 < o = mul-pos (one-pos f) (one-pos f) in
         le-of-size (mul_at false false A.0 C.0 A.2 C.2 A.1 C.1) (mul_at false false B.0 D.0 B.2 D.2 B.1 D.1)
         (rounded-mono f (A.0 * C.0) o (B.0 * D.0) o O O (mul-le-mul_right o (mul-le-mul (size-of-le A.2 B.2 l) (size-of-le C.2 D.2 m))))
 
     -- 0 ≤ a ≤ b and 0 < d ≤ c: a / c ≤ b / d
-    pub div_mono : T (le plusZero a) → T (lt plusZero d) → T (le a b) → T (le d c) → T (le (div f a c) (div f b d))
+    pub div_mono : T (le plus_zero a) → T (lt plus_zero d) → T (le a b) → T (le d c) → T (le (div f a c) (div f b d))
     div_mono h k l m =
-        let k' = lt→le f plusZero d (plusZero-fits f) w k in
+        let k' = lt→le f plus_zero d (plus_zero-fits f) w k in
         let A = size_of f a x p h in
-        let B = size_of f b y q (le-transitive f plusZero a b (plusZero-fits f) x y h l) in
+        let B = size_of f b y q (le-transitive f plus_zero a b (plus_zero-fits f) x y h l) in
         let D = size_of f d w s k' in
-        let C = size_of f c z r (le-transitive f plusZero d c (plusZero-fits f) w z k' m) in
-        let D' : 0 < D.0 = size-of-lt (plusZero-at f) D.2 k in
+        let C = size_of f c z r (le-transitive f plus_zero d c (plus_zero-fits f) w z k' m) in
+        let D' : 0 < D.0 = size-of-lt (plus_zero-at f) D.2 k in
         let C' : 0 < C.0 = le_trans D' (size-of-le D.2 C.2 m) in
         le-of-size (div-at false false A.0 C.0 A.2 C.2 A.1 C.1 C') (div-at false false B.0 D.0 B.2 D.2 B.1 D.1 D')
         (rounded-mono f A.0 C.0 B.0 D.0 C' D' (mul-le-mul (size-of-le A.2 B.2 l) (size-of-le D.2 C.2 m)))
 
   -- a c ≤ b c by a factor c from 0 on, a and b of either sign
-  pub mul-mono-left : (a b c : Float) → T (fits f a) → T (fits f b) → T (fits f c) → T (finite a) → T (finite b) → T (finite c) → T (le plusZero c) → T (le a b) → T (le (mul f a c) (mul f b c))
+  pub mul-mono-left : (a b c : Float) → T (fits f a) → T (fits f b) → T (fits f c) → T (finite a) → T (finite b) → T (finite c) → T (le plus_zero c) → T (le a b) → T (le (mul f a c) (mul f b c))
   mul-mono-left a b c x y z p q r h l =
       let n = size_of f c z r h in
       let C = n.0 in
@@ -178,12 +178,12 @@ module _ (f : Format) where
       (signed-mono (cap f) A B (rounded f (A * C) o) (rounded f (B * C) o) (sign a) (sign b) (of_le a' b' l) (mono A B) (mono B A) (none A) (none B) (mag-lt f a x p) (mag-lt f b y q))
 
   -- 0 ≤ a ≤ b, cut to whole numbers
-  pub whole-mono : (w : ℕ) (a b : Float) → T (fits f a) → T (fits f b) → T (finite a) → T (finite b) → T (le plusZero a) → T (le a b) → to_unsigned w a ≤ to_unsigned w b
+  pub whole-mono : (w : ℕ) (a b : Float) → T (fits f a) → T (fits f b) → T (finite a) → T (finite b) → T (le plus_zero a) → T (le a b) → to_unsigned w a ≤ to_unsigned w b
   whole-mono w a b x y p q h l =
       let A = size_of f a x p h in
-      let B = size_of f b y q (le-transitive f plusZero a b (plusZero-fits f) x y h l) in
+      let B = size_of f b y q (le-transitive f plus_zero a b (plus_zero-fits f) x y h l) in
       let m = lib.Ieee.Nearest.div_mono A.0 (one f) B.0 (one f) (one-pos f) (one-pos f) (mul-le-mul_right (one f) (size-of-le A.2 B.2 l)) in
-      le_trans (le_of_eq (toUnsigned-at w A.0 A.2 A.1)) (le_trans (both (A.0 / one f) (B.0 / one f) (2 ^ w - 1) m) (le_of_eq (sym (toUnsigned-at w B.0 B.2 B.1))))
+      le_trans (le_of_eq (to_unsigned-at w A.0 A.2 A.1)) (le_trans (both (A.0 / one f) (B.0 / one f) (2 ^ w - 1) m) (le_of_eq (sym (to_unsigned-at w B.0 B.2 B.1))))
     where
       both : (i j k : ℕ) → i ≤ j → min i k ≤ min j k
       both i j k h = omega arith

@@ -4,10 +4,10 @@ use Rattle.std.proofs.Common.{◌≡◌, ℕ, ◌^◌, ◌<◌, ◌≤◌, true,
 use lib.Ieee.{Float, binary64, fits, le, lt, of_int}
 use lib.Ieee.Fits.{and_i}
 use lib.Ieee.Scale.{finite}
-use Rattle.float64.specs.Number.{plusZero, float_of, wholePart, Small, is_number, clampOf}
+use Rattle.float64.specs.Number.{plus_zero, float_of, whole_part, Small, is_number, clamp_of}
 use Rattle.float64.proofs.Units.{one, one-pos}
-use Rattle.float64.proofs.Keys.{le-of-size, ofInt-at}
-use Rattle.float64.proofs.Order.{plusZero-at, le-lt-lt, le-transitive}
+use Rattle.float64.proofs.Keys.{le-of-size, of_int-at}
+use Rattle.float64.proofs.Order.{plus_zero-at, le-lt-lt, le-transitive}
 use Rattle.float64.proofs.Interval.{In, ends, box, in-finite}
 use Rattle.float64.proofs.Wholes.{count, whole_le, whole_is}
 use Rattle.float64.proofs.Clamped.{clamp-in}
@@ -18,8 +18,8 @@ unfolding fits lt of_int
 small-in {x} i = (i.lower, le-lt-lt binary64 x (float_of 16777216) (float_of (2 ^ 52)) i.fit tt tt i.upper tt)
 
 pub record Parts (M : ℕ) (x : Float) : Type 0 where
-  pub at_least : 1 ≤ wholePart x
-  pub at-most : wholePart x ≤ M
+  pub at_least : 1 ≤ whole_part x
+  pub at-most : whole_part x ≤ M
   pub small : Small x
 
 module _ (M : ℕ) (h : M ≤ 2 ^ 24) where
@@ -27,18 +27,18 @@ module _ (M : ℕ) (h : M ≤ 2 ^ 24) where
   wide = omega arith
 
   -- ---- M as an end of an interval
-  whole_in : In binary64 plusZero (float_of 16777216) (float_of M)
+  whole_in : In binary64 plus_zero (float_of 16777216) (float_of M)
   unfolding fits of_int
   whole_in =
-      let m = ofInt-at binary64 M wide in
-      box tt m.fit (le-of-size (plusZero-at binary64) m zero-le) (le-of-size m (ofInt-at binary64 16777216 (lit< tt)) (mul-le-mul_right (one binary64) h))
+      let m = of_int-at binary64 M wide in
+      box tt m.fit (le-of-size (plus_zero-at binary64) m zero-le) (le-of-size m (of_int-at binary64 16777216 (lit< tt)) (mul-le-mul_right (one binary64) h))
 
   pub whole-ends : T (ends binary64 (float_of 1) (float_of M))
   unfolding fits of_int
   whole-ends = and_i (fits binary64 (float_of 1) && fits binary64 (float_of M) && finite (float_of 1)) (finite (float_of M)) (and_i (fits binary64 (float_of 1) && fits binary64 (float_of M)) (finite (float_of 1)) whole_in.fit tt) (in-finite whole_in)
 
-  pub clamp-whole-in : (x : Float) → 1 ≤ M → is_number x ≡ true → In binary64 (float_of 1) (float_of M) (clampOf x (float_of 1) (float_of M))
-  clamp-whole-in x k n = clamp-in x whole-ends (le-of-size (ofInt-at binary64 1 (lit< tt)) (ofInt-at binary64 M wide) (mul-le-mul_right (one binary64) k)) n
+  pub clamp-whole-in : (x : Float) → 1 ≤ M → is_number x ≡ true → In binary64 (float_of 1) (float_of M) (clamp_of x (float_of 1) (float_of M))
+  clamp-whole-in x k n = clamp-in x whole-ends (le-of-size (of_int-at binary64 1 (lit< tt)) (of_int-at binary64 M wide) (mul-le-mul_right (one binary64) k)) n
 
   -- ---- the parts
   pub parts-of : {x : Float} → In binary64 (float_of 1) (float_of M) x → Parts M x
@@ -60,9 +60,9 @@ module _ (M : ℕ) (h : M ≤ 2 ^ 24) where
 -- a whole number between two others lies between them as a float
 pub whole-between : (a n b : ℕ) → a ≤ n → n ≤ b → b ≤ 2 ^ 24 → In binary64 (float_of a) (float_of b) (float_of n)
 whole-between a n b h k l =
-    let x = ofInt-at binary64 a (wide a (omega arith)) in
-    let y = ofInt-at binary64 n (wide n (omega arith)) in
-    let z = ofInt-at binary64 b (wide b l) in
+    let x = of_int-at binary64 a (wide a (omega arith)) in
+    let y = of_int-at binary64 n (wide n (omega arith)) in
+    let z = of_int-at binary64 b (wide b l) in
     let both = and_i (fits binary64 (float_of a)) (fits binary64 (float_of b)) x.fit z.fit in
     let low = and_i (fits binary64 (float_of a) && fits binary64 (float_of b)) (finite (float_of a)) both (in-finite (whole_in a (omega arith))) in
     box (and_i (fits binary64 (float_of a) && fits binary64 (float_of b) && finite (float_of a)) (finite (float_of b)) low (in-finite (whole_in b l))) y.fit

@@ -2,7 +2,7 @@
 -- raised by a factor of up to 1.1, as the chorus's voices have it. Assumes nothing.
 use Rattle.std.proofs.Common.{◌≡◌, Bool, true, false, cond, refl}
 use lib.Ieee.{Float, binary64, add, sub, mul, div, fits, is_nan, le, lt, of_int}
-use Rattle.float64.specs.Number.{plusZero, float_of, fraction, half, phaseFits, frequencyFits, rateFits}
+use Rattle.float64.specs.Number.{plus_zero, float_of, fraction, half, phase_fits, frequency_fits, rate_fits}
 use Rattle.float64.proofs.Order.{finite-num, lt→le, le-lt-lt, not-le→lt}
 use Rattle.float64.proofs.Interval.{In, point, in-finite, cut-above, cut_below, widen, add-in, sub_in, mul_in, div-in}
 use Rattle.float64.proofs.Ranges.{yes, no, unit-in, in-unit, rate-in, frequency-in}
@@ -11,38 +11,38 @@ use Rattle.float64.proofs.Ranges.{yes, no, unit-in, in-unit, rate-in, frequency-
 abbrev pub moved_on : Float → Float → Float
 moved_on p s = cond (le (float_of 1) (add binary64 p s)) (sub binary64 (add binary64 p s) (float_of 1)) (add binary64 p s)
 
-pub phase-advanced : (p : Float) {s : Float} → phaseFits p ≡ true → In binary64 plusZero half s → phaseFits (moved_on p s) ≡ true
+pub phase-advanced : (p : Float) {s : Float} → phase_fits p ≡ true → In binary64 plus_zero half s → phase_fits (moved_on p s) ≡ true
 unfolding fits is_nan le lt add sub of_int
 phase-advanced p {s} h i = go (le (float_of 1) q) refl
   where
     q : Float
     q = add binary64 p s
 
-    r : In binary64 plusZero (fraction 3 2) (add binary64 p s)
-    r = add-in plusZero (fraction 3 2) tt (unit-in h) i
+    r : In binary64 plus_zero (fraction 3 2) (add binary64 p s)
+    r = add-in plus_zero (fraction 3 2) tt (unit-in h) i
 
-    go : (b : Bool) → le (float_of 1) (add binary64 p s) ≡ b → phaseFits (cond b (sub binary64 (add binary64 p s) (float_of 1)) (add binary64 p s)) ≡ true
+    go : (b : Bool) → le (float_of 1) (add binary64 p s) ≡ b → phase_fits (cond b (sub binary64 (add binary64 p s) (float_of 1)) (add binary64 p s)) ≡ true
     go true e =
-        let d = sub_in plusZero half tt (cut_below (float_of 1) tt (yes e) r) (point (float_of 1) tt) in
-        in-unit (widen plusZero (float_of 1) tt d) (le-lt-lt binary64 (sub binary64 q (float_of 1)) half (float_of 1) d.fit tt tt d.upper tt)
+        let d = sub_in plus_zero half tt (cut_below (float_of 1) tt (yes e) r) (point (float_of 1) tt) in
+        in-unit (widen plus_zero (float_of 1) tt d) (le-lt-lt binary64 (sub binary64 q (float_of 1)) half (float_of 1) d.fit tt tt d.upper tt)
     go false e =
         let l = not-le→lt binary64 (float_of 1) q tt r.fit tt (finite-num q (in-finite r)) (no e) in
         in-unit (cut-above (float_of 1) tt (lt→le binary64 q (float_of 1) r.fit tt l) r) l
 
-module _ (f r : Float) (h : frequencyFits f ≡ true) (k : rateFits r ≡ true) where
+module _ (f r : Float) (h : frequency_fits f ≡ true) (k : rate_fits r ≡ true) where
   -- ---- steps
-  pub step_in : In binary64 plusZero half (div binary64 f r)
+  pub step_in : In binary64 plus_zero half (div binary64 f r)
   unfolding fits le lt div of_int
-  step_in = div-in plusZero half tt tt tt (frequency-in h) (rate-in k)
+  step_in = div-in plus_zero half tt tt tt (frequency-in h) (rate-in k)
 
-  pub detuned-step-in : {d : Float} → In binary64 plusZero (fraction 11 10) d → In binary64 plusZero half (div binary64 (mul binary64 f d) r)
+  pub detuned-step-in : {d : Float} → In binary64 plus_zero (fraction 11 10) d → In binary64 plus_zero half (div binary64 (mul binary64 f d) r)
   unfolding fits le lt mul div of_int
-  detuned-step-in i = div-in plusZero half tt tt tt (mul_in plusZero (float_of 36) tt tt tt (frequency-in h) i) (rate-in k)
+  detuned-step-in i = div-in plus_zero half tt tt tt (mul_in plus_zero (float_of 36) tt tt tt (frequency-in h) i) (rate-in k)
 
   -- ---- a phase stays a phase at every accepted frequency and rate
-  module _ (p : Float) (g : phaseFits p ≡ true) where
-    pub phase-stepped : phaseFits (moved_on p (div binary64 f r)) ≡ true
+  module _ (p : Float) (g : phase_fits p ≡ true) where
+    pub phase-stepped : phase_fits (moved_on p (div binary64 f r)) ≡ true
     phase-stepped = phase-advanced p g step_in
 
-    pub phase-detuned : {d : Float} → In binary64 plusZero (fraction 11 10) d → phaseFits (moved_on p (div binary64 (mul binary64 f d) r)) ≡ true
+    pub phase-detuned : {d : Float} → In binary64 plus_zero (fraction 11 10) d → phase_fits (moved_on p (div binary64 (mul binary64 f d) r)) ≡ true
     phase-detuned i = phase-advanced p g (detuned-step-in i)

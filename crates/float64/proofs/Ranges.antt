@@ -1,10 +1,10 @@
--- From the tests of `Number` to intervals and back: a value that passes `inRange` or `inUnit` lies in the interval, what lies there passes, and what passes is a number.
+-- From the tests of `Number` to intervals and back: a value that passes `in_range` or `in_unit` lies in the interval, what lies there passes, and what passes is a number.
 -- Assumes nothing.
 use Rattle.std.proofs.Common.{◌≡◌, Bool, true, false, not, ◌&&◌, T, sym, refl, subst}
 use lib.Ieee.{Float, binary64, fits, is_nan, neg, le, lt, of_int}
 use lib.Ieee.Fits.{and_l, and_r, and_i}
 use lib.Ieee.Scale.{finite}
-use Rattle.float64.specs.Number.{plusZero, float_of, is_number, is_finite, in_range, inUnit, rateFits, frequencyFits, sineFits}
+use Rattle.float64.specs.Number.{plus_zero, float_of, is_number, is_finite, in_range, in_unit, rate_fits, frequency_fits, sine_fits}
 use Rattle.float64.proofs.Order.{lt→le, finite-num}
 use Rattle.float64.proofs.Interval.{In, ends, box, in-finite}
 
@@ -54,29 +54,29 @@ unfolding in_range
 in-range {x} {lo} {hi} i = passed (fits binary64 x && (le lo x && le x hi)) (and_i (fits binary64 x) (le lo x && le x hi) i.fit (and_i (le lo x) (le x hi) i.lower i.upper))
 
 -- ---- 0 ≤ x < 1
-pub unit-lt : (x : Float) → inUnit x ≡ true → T (lt x (float_of 1))
-unfolding inUnit
-unit-lt x h = and_r (le plusZero x) (lt x (float_of 1)) (and_r (fits binary64 x) (le plusZero x && lt x (float_of 1)) (yes h))
+pub unit-lt : (x : Float) → in_unit x ≡ true → T (lt x (float_of 1))
+unfolding in_unit
+unit-lt x h = and_r (le plus_zero x) (lt x (float_of 1)) (and_r (fits binary64 x) (le plus_zero x && lt x (float_of 1)) (yes h))
 
-pub unit-in : {x : Float} → inUnit x ≡ true → In binary64 plusZero (float_of 1) x
-unfolding inUnit fits of_int
+pub unit-in : {x : Float} → in_unit x ≡ true → In binary64 plus_zero (float_of 1) x
+unfolding in_unit fits of_int
 unit-in {x} h =
-    let a = and_l (fits binary64 x) (le plusZero x && lt x (float_of 1)) (yes h) in
-    box tt a (and_l (le plusZero x) (lt x (float_of 1)) (and_r (fits binary64 x) (le plusZero x && lt x (float_of 1)) (yes h))) (lt→le binary64 x (float_of 1) a tt (unit-lt x h))
+    let a = and_l (fits binary64 x) (le plus_zero x && lt x (float_of 1)) (yes h) in
+    box tt a (and_l (le plus_zero x) (lt x (float_of 1)) (and_r (fits binary64 x) (le plus_zero x && lt x (float_of 1)) (yes h))) (lt→le binary64 x (float_of 1) a tt (unit-lt x h))
 
-pub in-unit : {x : Float} → In binary64 plusZero (float_of 1) x → T (lt x (float_of 1)) → inUnit x ≡ true
-unfolding inUnit
-in-unit {x} i k = passed (fits binary64 x && (le plusZero x && lt x (float_of 1))) (and_i (fits binary64 x) (le plusZero x && lt x (float_of 1)) i.fit (and_i (le plusZero x) (lt x (float_of 1)) i.lower k))
+pub in-unit : {x : Float} → In binary64 plus_zero (float_of 1) x → T (lt x (float_of 1)) → in_unit x ≡ true
+unfolding in_unit
+in-unit {x} i k = passed (fits binary64 x && (le plus_zero x && lt x (float_of 1))) (and_i (fits binary64 x) (le plus_zero x && lt x (float_of 1)) i.fit (and_i (le plus_zero x) (lt x (float_of 1)) i.lower k))
 
 -- ---- the accepted rates, frequencies and sines
-pub rate-in : {r : Float} → rateFits r ≡ true → In binary64 (float_of 8000) (float_of 192000) r
+pub rate-in : {r : Float} → rate_fits r ≡ true → In binary64 (float_of 8000) (float_of 192000) r
 unfolding fits of_int
 rate-in h = range-in tt h
 
-pub frequency-in : {f : Float} → frequencyFits f ≡ true → In binary64 plusZero (float_of 32) f
+pub frequency-in : {f : Float} → frequency_fits f ≡ true → In binary64 plus_zero (float_of 32) f
 unfolding fits of_int
 frequency-in h = range-in tt h
 
-pub sine-in : {s : Float} → sineFits s ≡ true → In binary64 (neg (float_of 1)) (float_of 1) s
+pub sine-in : {s : Float} → sine_fits s ≡ true → In binary64 (neg (float_of 1)) (float_of 1) s
 unfolding fits of_int neg
 sine-in h = range-in tt h

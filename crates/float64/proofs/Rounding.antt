@@ -1,21 +1,21 @@
--- `roundHalfAway`, the nearest whole number with halves away from zero, by the whole part and the fraction: from 2 ^ 52 on there is no fraction; below, one more than the whole part where the
+-- `round_half_away`, the nearest whole number with halves away from zero, by the whole part and the fraction: from 2 ^ 52 on there is no fraction; below, one more than the whole part where the
 -- fraction is 1/2 or more. A value below 0 has the whole part 0 and a fraction that is not above 0. Assumes nothing.
 use Rattle.std.proofs.Common.{◌≡◌, ℕ, suc, ◌+◌, ◌-◌, ◌*◌, ◌/◌, ◌%◌, ◌^◌, ◌<◌, ◌≤◌, min, true, false, T, ℤ, pos, negsuc, sym, refl, ap, ◌∙◌, zero-le, le_trans, le_of_eq, lt_of_le_of_lt, le_of_lt, mod-lt, zero-lt-suc, mul_assoc, mul_comm, add-mul, mul-pos, one-mul, pow-suc, div-add-mod', le-mul_of_pos_right, div-one, mul_left_comm, arith, lit<, nltb→le, pow_mono}
 use lib.Arith.{digits_div}
 use lib.Ieee.{Float, nan, inf, fin, binary64, up, down, sub, fits, le, lt, of_int, to_unsigned}
 use lib.Ieee.Fits.{down_pos, sub-fits}
 use lib.Ieee.Nearest.{div_same}
-use Rattle.float64.specs.Number.{plusZero, float_of, half, wholePart, fractionPart, roundHalfAway}
+use Rattle.float64.specs.Number.{plus_zero, float_of, half, whole_part, fraction_part, round_half_away}
 use Rattle.float64.proofs.Units.{one, cap, one-pos, sign, mag, Rep, mag-cross, fits-small}
 use Rattle.float64.proofs.Round.{rounded-same, rounded-exact}
-use Rattle.float64.proofs.Keys.{At, rekeyed, le_of, of-nle, size-of-le, size-of-lt, round-at, ofInt-at}
-use Rattle.float64.proofs.Order.{plusZero-at, sign-size, sub-mono, le-transitive}
+use Rattle.float64.proofs.Keys.{At, rekeyed, le_of, of-nle, size-of-le, size-of-lt, round-at, of_int-at}
+use Rattle.float64.proofs.Order.{plus_zero-at, sign-size, sub-mono, le-transitive}
 use Rattle.float64.proofs.Ranges.{yes, no}
 use Rattle.float64.proofs.Wholes.{one-lt, whole_le, whole_is, fraction-at}
 
 -- ---- from 2 ^ 52 on
-pub round_whole : (x : Float) → T (fits binary64 x) → lt x (float_of 4503599627370496) ≡ false → roundHalfAway x ≡ wholePart x
-unfolding roundHalfAway to_unsigned lt of_int
+pub round_whole : (x : Float) → T (fits binary64 x) → lt x (float_of 4503599627370496) ≡ false → round_half_away x ≡ whole_part x
+unfolding round_half_away to_unsigned lt of_int
 round_whole nan a h = refl
 round_whole (inf s) a h = refl
 round_whole (fin true m e) a h = refl
@@ -45,17 +45,17 @@ module _ (m : ℕ) (e : ℤ) (a : T (fits binary64 (fin false m e))) (l : lt (fi
   place = sign-size binary64 (fin false m e) a tt
 
   high : mag binary64 (fin false m e) ≤ 4503599627370496 * one binary64
-  high = le_of_lt (size-of-lt place (ofInt-at binary64 4503599627370496 (lit< tt)) (yes l))
+  high = le_of_lt (size-of-lt place (of_int-at binary64 4503599627370496 (lit< tt)) (yes l))
 
-  whole_part : (wholePart (fin false m e) ≡ mag binary64 (fin false m e) / one binary64) × (mag binary64 (fin false m e) / one binary64 ≤ 4503599627370496)
+  whole_part : (whole_part (fin false m e) ≡ mag binary64 (fin false m e) / one binary64) × (mag binary64 (fin false m e) / one binary64 ≤ 4503599627370496)
   whole_part = (whole_is 4503599627370496 (lit< tt) high place, whole_le 4503599627370496 (lit< tt) high place)
 
-  rest : At binary64 (fractionPart (fin false m e)) (cap binary64 + mag binary64 (fin false m e) % one binary64)
+  rest : At binary64 (fraction_part (fin false m e)) (cap binary64 + mag binary64 (fin false m e) % one binary64)
   rest = fraction-at 4503599627370496 (lit< tt) high place
 
   -- the definition in units
-  in-units : roundHalfAway (fin false m e) ≡ min ((2 * mag binary64 (fin false m e) + one binary64) / (2 * one binary64)) (2 ^ 64 - 1)
-  unfolding roundHalfAway
+  in-units : round_half_away (fin false m e) ≡ min ((2 * mag binary64 (fin false m e) + one binary64) / (2 * one binary64)) (2 ^ 64 - 1)
+  unfolding round_half_away
   in-units =
       ap (λ (z : ℕ). min z (2 ^ 64 - 1))
       (div_same (2 * (m * up e) + down e) (2 * down e) (2 * mag binary64 (fin false m e) + one binary64) (2 * one binary64) (mul-pos (zero-lt-suc 1) (down_pos e)) (mul-pos (zero-lt-suc 1) (one-pos binary64))
@@ -76,15 +76,15 @@ module _ (n o : ℕ) (O : 0 < o) (l : n / o ≤ 4503599627370496) where
   same h = let e = div-add-mod' n o in quotient (n / o) (2 * (n % o) + o) (omega arith) (omega arith) (omega arith)
 
 -- below 0 the fraction is not above 0
-negative : (m : ℕ) (e : ℤ) → T (fits binary64 (fin true m e)) → le half (fractionPart (fin true m e)) ≡ true → ⊥
+negative : (m : ℕ) (e : ℤ) → T (fits binary64 (fin true m e)) → le half (fraction_part (fin true m e)) ≡ true → ⊥
 unfolding to_unsigned fits le lt sub of_int
 negative m e a h =
     let x = fin true m e in
-    let l : T (le x plusZero) = le_of (sign-size binary64 x a tt) (plusZero-at binary64) (unfold sign in omega arith) in
-    le-transitive binary64 half (sub binary64 x plusZero) plusZero tt (sub-fits binary64 x plusZero) tt (yes h) (sub-mono binary64 x plusZero plusZero plusZero a tt tt tt tt tt tt tt l tt)
+    let l : T (le x plus_zero) = le_of (sign-size binary64 x a tt) (plus_zero-at binary64) (unfold sign in omega arith) in
+    le-transitive binary64 half (sub binary64 x plus_zero) plus_zero tt (sub-fits binary64 x plus_zero) tt (yes h) (sub-mono binary64 x plus_zero plus_zero plus_zero a tt tt tt tt tt tt tt l tt)
 
 -- ---- below 2 ^ 52
-pub whole-small : (x : Float) → T (fits binary64 x) → lt x (float_of 4503599627370496) ≡ true → wholePart x ≤ 4503599627370496
+pub whole-small : (x : Float) → T (fits binary64 x) → lt x (float_of 4503599627370496) ≡ true → whole_part x ≤ 4503599627370496
 unfolding to_unsigned lt of_int
 whole-small nan a l = zero-le
 whole-small (inf true) a l = zero-le
@@ -92,7 +92,7 @@ whole-small (inf false) a l = absurd (yes l)
 whole-small (fin true m e) a l = zero-le
 whole-small (fin false m e) a l = let w = whole_part m e a l in le_trans (le_of_eq w.0) w.1
 
-pub round_up : (x : Float) → T (fits binary64 x) → lt x (float_of 4503599627370496) ≡ true → le half (fractionPart x) ≡ true → roundHalfAway x ≡ wholePart x + 1
+pub round_up : (x : Float) → T (fits binary64 x) → lt x (float_of 4503599627370496) ≡ true → le half (fraction_part x) ≡ true → round_half_away x ≡ whole_part x + 1
 unfolding to_unsigned le lt sub of_int
 round_up nan a l h = absurd (yes l)
 round_up (inf true) a l h = absurd (yes h)
@@ -105,8 +105,8 @@ round_up (fin false m e) a l h =
     let r : one binary64 ≤ 2 * (n % one binary64) = omega (arith, u.1, size-of-le u.2 (rest m e a l) (yes h)) in
     in-units m e a l ∙ more n (one binary64) (one-pos binary64) w.1 r ∙ ap (λ (z : ℕ). z + 1) (sym w.0)
 
-pub round-down : (x : Float) → T (fits binary64 x) → lt x (float_of 4503599627370496) ≡ true → le half (fractionPart x) ≡ false → roundHalfAway x ≡ wholePart x
-unfolding roundHalfAway to_unsigned lt
+pub round-down : (x : Float) → T (fits binary64 x) → lt x (float_of 4503599627370496) ≡ true → le half (fraction_part x) ≡ false → round_half_away x ≡ whole_part x
+unfolding round_half_away to_unsigned lt
 round-down nan a l h = refl
 round-down (inf s) a l h = refl
 round-down (fin true m e) a l h = refl

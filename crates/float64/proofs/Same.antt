@@ -5,11 +5,11 @@ use lib.Ieee.{Float, nan, inf, fin, Format, prec, up, down, size, top, hid, roun
 use lib.Ieee.Bits.{of_bits-to_bits}
 use lib.Ieee.Fits.{round-fits, down_pos}
 use lib.Ieee.Scale.{finite}
-use Rattle.float64.specs.Number.{plusZero}
+use Rattle.float64.specs.Number.{plus_zero}
 use Rattle.float64.proofs.Units.{one, cap, cap-pos, sign, mag, signed, key, mag-lt}
 use Rattle.float64.proofs.Round.{rounded, rounded-zero, round-shape, finite-of-mag}
 use Rattle.float64.proofs.Keys.{At, same_size, same_sign}
-use Rattle.float64.proofs.Order.{plusZero-fits, plusZero-at}
+use Rattle.float64.proofs.Order.{plus_zero-fits, plus_zero-at}
 
 -- a bit pattern is made of the sign and the size
 bits-fin : (f : Format) (s : Bool) (m : ℕ) (e : ℤ) (n : ℕ) (d : ℤ) → mag f (fin s m e) ≡ mag f (fin s n d) → to_bits f (fin s m e) ≡ to_bits f (fin s n d)
@@ -47,21 +47,21 @@ same_key {f} {x} {y} {n} a b p q =
     unique f x y a.fit b.fit u.0 v.0 (u.1 ∙ sym v.1) (u.2 ∙ sym v.2)
 
 -- ---- x - x
-round-zero : (f : Format) (c : ℕ) → 0 < c → round f false 0 c ≡ plusZero
+round-zero : (f : Format) (c : ℕ) → 0 < c → round f false 0 c ≡ plus_zero
 unfolding rounded sign
 round-zero f c h =
     let r = round f false 0 c in
     let m = rounded-zero f c h in
     let s = round-shape f false 0 c in
-    let z : mag f plusZero ≡ 0 = same_size (cap f) (mag f plusZero) 0 false false (mag-lt f plusZero (plusZero-fits f) tt) (cap-pos f) (unfold key in (plusZero-at f).is) in
-    unique f r plusZero (round-fits f false 0 c) (plusZero-fits f) (finite-of-mag f r s.1 (omega (arith, cap-pos f))) tt s.0 (m ∙ sym z)
+    let z : mag f plus_zero ≡ 0 = same_size (cap f) (mag f plus_zero) 0 false false (mag-lt f plus_zero (plus_zero-fits f) tt) (cap-pos f) (unfold key in (plus_zero-at f).is) in
+    unique f r plus_zero (round-fits f false 0 c) (plus_zero-fits f) (finite-of-mag f r s.1 (omega (arith, cap-pos f))) tt s.0 (m ∙ sym z)
 
-cancelled : (f : Format) (s : Bool) (a c : ℕ) → 0 < c → sum f s a (not s) a c ≡ plusZero
+cancelled : (f : Format) (s : Bool) (a c : ℕ) → 0 < c → sum f s a (not s) a c ≡ plus_zero
 unfolding sum
 cancelled f false a c h = rw (le-ltb a a (le_refl a), sub_self a) (round-zero f c h)
 cancelled f true a c h = rw (le-ltb a a (le_refl a), sub_self a) (round-zero f c h)
 
-pub less-itself : (f : Format) (x : Float) → T (finite x) → sub f x x ≡ plusZero
+pub less-itself : (f : Format) (x : Float) → T (finite x) → sub f x x ≡ plus_zero
 unfolding sub add neg
 less-itself f nan h = absurd h
 less-itself f (inf s) h = absurd h

@@ -4,7 +4,7 @@ use lib.Ieee as Ieee
 use lib.Ieee.{Float, fin, inf, nan, binary64, up, down}
 use lib.Ieee.Scale.{finite}
 use lib.Ieee.Bits.{of_bits-to_bits}
-use Rattle.float64.specs.Number.{plusZero}
+use Rattle.float64.specs.Number.{plus_zero}
 
 pub clash : {A : Type 0} {b : Bool} → b ≡ true → b ≡ false → A
 clash p q = absurd (subst T (sym p ∙ q) tt)
@@ -33,12 +33,12 @@ not-below-infinity (inf s) h = refl
 not-below-infinity (fin s m e) h = clash refl h
 
 -- an f64 whose bits are all 0 is +0
-pub no_bits : (x : Float) → T (Ieee.fits binary64 x) → Ieee.to_bits binary64 x ≡ 0 → x ≡ plusZero
+pub no_bits : (x : Float) → T (Ieee.fits binary64 x) → Ieee.to_bits binary64 x ≡ 0 → x ≡ plus_zero
 unfolding Ieee.of_bits
 no_bits x h e = sym (of_bits-to_bits binary64 x h) ∙ ap (Ieee.of_bits binary64) e
 
 -- what is equal to 0 is no NaN
-pub zero_number : (x : Float) → Ieee.eq x plusZero ≡ true → T (not (Ieee.is_nan x))
+pub zero_number : (x : Float) → Ieee.eq x plus_zero ≡ true → T (not (Ieee.is_nan x))
 unfolding Ieee.eq Ieee.is_nan
 zero_number nan h = clash h refl
 zero_number (inf s) h = tt

@@ -7,8 +7,8 @@ use Rattle.std.specs.Float.Ieee.Scale.{finite}
 
 -- ---- values
 
-abbrev pub plusZero : Float
-plusZero = fin false 0 (pos 0)
+abbrev pub plus_zero : Float
+plus_zero = fin false 0 (pos 0)
 
 -- a whole number; up to 2 ^ 53 it is exact
 abbrev pub float_of : ℕ → Float
@@ -36,37 +36,37 @@ unfoldable pub in_range : Float → Float → Float → Bool
 in_range x lo hi = fits binary64 x && (le lo x && le x hi)
 
 -- 0 ≤ x < 1
-unfoldable pub inUnit : Float → Bool
-inUnit x = fits binary64 x && (le plusZero x && lt x (float_of 1))
+unfoldable pub in_unit : Float → Bool
+in_unit x = fits binary64 x && (le plus_zero x && lt x (float_of 1))
 
 -- +0, sign included: all its bits are 0
-unfoldable pub isPlusZero : Float → Bool
-isPlusZero x = fits binary64 x && to_bits binary64 x == 0
+unfoldable pub is_plus_zero : Float → Bool
+is_plus_zero x = fits binary64 x && to_bits binary64 x == 0
 
 -- a sample rate, cause 1
-abbrev pub rateFits : Float → Bool
-rateFits r = in_range r (float_of 8000) (float_of 192000)
+abbrev pub rate_fits : Float → Bool
+rate_fits r = in_range r (float_of 8000) (float_of 192000)
 
 -- a glide coefficient, cause 2
-abbrev pub coefficientFits : Float → Bool
-coefficientFits c = inUnit c
+abbrev pub coefficient_fits : Float → Bool
+coefficient_fits c = in_unit c
 
 -- a phase, cause 4
-abbrev pub phaseFits : Float → Bool
-phaseFits p = inUnit p
+abbrev pub phase_fits : Float → Bool
+phase_fits p = in_unit p
 
 -- a frequency in Hz, and a sine, cause 6
-abbrev pub frequencyFits : Float → Bool
-frequencyFits f = in_range f plusZero (float_of 32)
+abbrev pub frequency_fits : Float → Bool
+frequency_fits f = in_range f plus_zero (float_of 32)
 
-abbrev pub sineFits : Float → Bool
-sineFits s = in_range s (neg (float_of 1)) (float_of 1)
+abbrev pub sine_fits : Float → Bool
+sine_fits s = in_range s (neg (float_of 1)) (float_of 1)
 
 -- ---- clamp
 
 -- x held to lo .. hi, as the Rust's `clamp`: what lies between passes as it is, −0 and a NaN too
-unfoldable pub clampOf : Float → Float → Float → Float
-clampOf x lo hi = cond (lt x lo) lo (cond (lt hi x) hi x)
+unfoldable pub clamp_of : Float → Float → Float → Float
+clamp_of x lo hi = cond (lt x lo) lo (cond (lt hi x) hi x)
 
 -- its two halves
 unfoldable pub at_least : Float → Float → Float
@@ -85,29 +85,29 @@ absolute (fin s m e) = fin false m e
 -- ---- whole numbers
 
 -- the whole part, as the Rust's `as usize`: toward zero, held to 0 .. 2 ^ 64 − 1, and 0 for a NaN
-abbrev pub wholePart : Float → ℕ
-wholePart x = to_unsigned 64 x
+abbrev pub whole_part : Float → ℕ
+whole_part x = to_unsigned 64 x
 
 -- the exponent field of an f64, and the 53-bit significand by a pattern whose field is neither 0 nor 2047: the 52 bits that are stored, under a leading one
-abbrev pub exponentField : Float → ℕ
-exponentField x = to_bits binary64 x % 2 ^ 63 / 2 ^ 52
+abbrev pub exponent_field : Float → ℕ
+exponent_field x = to_bits binary64 x % 2 ^ 63 / 2 ^ 52
 
-abbrev pub significandOf : ℕ → ℕ
-significandOf bits = 2 ^ 52 + bits % 2 ^ 52
+abbrev pub significand_of : ℕ → ℕ
+significand_of bits = 2 ^ 52 + bits % 2 ^ 52
 
 abbrev pub significand : Float → ℕ
-significand x = significandOf (to_bits binary64 x)
+significand x = significand_of (to_bits binary64 x)
 
 -- From 1 to below 2 ^ 52: the exponent field is from 1,023 to 1,074, so that there is a whole part and there are fraction bits.
 abbrev pub Small : Float → Type 0
 Small x = T (le (float_of 1) x) × T (lt x (float_of (2 ^ 52)))
 
 -- the fraction that the whole part leaves
-abbrev pub fractionPart : Float → Float
-fractionPart x = sub binary64 x (float_of (wholePart x))
+abbrev pub fraction_part : Float → Float
+fraction_part x = sub binary64 x (float_of (whole_part x))
 
 -- the nearest whole number, halves away from zero, as the Rust's `round` and then `as usize`
-unfoldable pub roundHalfAway : Float → ℕ
-roundHalfAway nan = 0
-roundHalfAway (inf s) = cond s 0 (2 ^ 64 - 1)
-roundHalfAway (fin s m e) = cond s 0 (min ((2 * (m * up e) + down e) / (2 * down e)) (2 ^ 64 - 1))
+unfoldable pub round_half_away : Float → ℕ
+round_half_away nan = 0
+round_half_away (inf s) = cond s 0 (2 ^ 64 - 1)
+round_half_away (fin s m e) = cond s 0 (min ((2 * (m * up e) + down e) / (2 * down e)) (2 ^ 64 - 1))

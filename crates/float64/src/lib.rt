@@ -1,6 +1,6 @@
 // Helpers on f64 that the Rust has in its library: clamp, whole part, rounding, range tests.
 ghost use Rattle.std.specs.Prelude.{◌≡◌, not};
-ghost use Rattle.float64.specs.Number.{float_of, is_number, is_finite, in_range, inUnit, isPlusZero, rateFits, coefficientFits, phaseFits, frequencyFits, sineFits, clampOf, at_least, at_most, absolute, wholePart, significandOf, Small, roundHalfAway};
+ghost use Rattle.float64.specs.Number.{float_of, is_number, is_finite, in_range, in_unit, is_plus_zero, rate_fits, coefficient_fits, phase_fits, frequency_fits, sine_fits, clamp_of, at_least, at_most, absolute, whole_part, significand_of, Small, round_half_away};
 
 // IEEE 754's exponent field, the eleven bits under the sign. The field of 1.0: a number with a lower one is below one.
 const FIELD_OF_ONE: u64 = 1023;
@@ -26,7 +26,7 @@ pub fn is_finite(x: f64) -> bool
 
 // Whether x is +0: no for -0. A NaN's bits may not be asked for; `x == 0.0` keeps it out.
 pub fn is_plus_zero(x: f64) -> bool
-    ensures { result ≡ isPlusZero x }
+    ensures { result ≡ is_plus_zero x }
 {
     if x == 0.0 {
         return f64::to_bits(x) == 0;
@@ -43,49 +43,49 @@ pub fn in_range(x: f64, lo: f64, hi: f64) -> bool
 
 // Whether 0 <= x < 1: no for a NaN, yes for -0.
 pub fn in_unit(x: f64) -> bool
-    ensures { result ≡ inUnit x }
+    ensures { result ≡ in_unit x }
 {
     x >= 0.0 && x < 1.0
 }
 
 // Whether x is a sample rate that a start accepts: 8,000 to 192,000.
 pub fn rate_fits(x: f64) -> bool
-    ensures { result ≡ rateFits x }
+    ensures { result ≡ rate_fits x }
 {
     in_range(x, 8000.0, 192000.0)
 }
 
 // Whether x is a glide coefficient.
 pub fn coefficient_fits(x: f64) -> bool
-    ensures { result ≡ coefficientFits x }
+    ensures { result ≡ coefficient_fits x }
 {
     in_unit(x)
 }
 
 // Whether x is a phase.
 pub fn phase_fits(x: f64) -> bool
-    ensures { result ≡ phaseFits x }
+    ensures { result ≡ phase_fits x }
 {
     in_unit(x)
 }
 
 // Whether x is a frequency that a tick accepts: 0 to 32 Hz.
 pub fn frequency_fits(x: f64) -> bool
-    ensures { result ≡ frequencyFits x }
+    ensures { result ≡ frequency_fits x }
 {
     in_range(x, 0.0, 32.0)
 }
 
 // Whether x lies from -1 to 1.
 pub fn sine_fits(x: f64) -> bool
-    ensures { result ≡ sineFits x }
+    ensures { result ≡ sine_fits x }
 {
     in_range(x, -1.0, 1.0)
 }
 
 // x held to lo..=hi. What lies between passes as it is, -0 and a NaN too.
 pub fn clamp(x: f64, lo: f64, hi: f64) -> f64
-    ensures { result ≡ clampOf x lo hi }
+    ensures { result ≡ clamp_of x lo hi }
 {
     if x < lo {
         lo
@@ -126,7 +126,7 @@ pub fn from_u32(n: u32) -> f64
 
 // The 53-bit significand of a number whose exponent field is neither 0 nor 2047, by its bits: the 52 that are stored, under a leading one.
 fn significand_of(bits: u64) -> u64
-    ensures { result ≡ significandOf bits }
+    ensures { result ≡ significand_of bits }
 {
     (bits & 0xf_ffff_ffff_ffff) | 0x10_0000_0000_0000
 }
@@ -135,7 +135,7 @@ fn significand_of(bits: u64) -> u64
 // lengths and the predelay call it alone, as their numbers are known, or tested, to lie there.
 pub fn whole_part_small(x: f64) -> u64
     requires { Small x }
-    ensures { result ≡ wholePart x }
+    ensures { result ≡ whole_part x }
 {
     let bits: u64 = f64::to_bits(x);
     significand_of(bits) >> (FIELD_WITHOUT_FRACTION - (bits >> 52))
@@ -143,7 +143,7 @@ pub fn whole_part_small(x: f64) -> u64
 
 // The Rust's `x as usize`: toward zero, held to 0..=2^64 - 1, and 0 for a NaN; by the cases of the exponent field.
 pub fn whole_part(x: f64) -> u64
-    ensures { result ≡ wholePart x }
+    ensures { result ≡ whole_part x }
 {
     // A NaN's bits may not be asked for, and a sign would stand above the field.
     if 0.0 < x {
@@ -169,7 +169,7 @@ pub fn whole_part(x: f64) -> u64
 
 // The nearest whole number, halves away from zero: the Rust's `round(x) as usize`.
 pub fn round_half_away(x: f64) -> u64
-    ensures { result ≡ roundHalfAway x }
+    ensures { result ≡ round_half_away x }
 {
     let down = whole_part(x);
     if x < 4503599627370496.0 {

@@ -7,27 +7,27 @@ use lib.Dec.{eqb}
 use lib.Ieee.{Float, le, lt, of_int}
 use lib.Ieee as Ieee
 use borrow.Author.Tests.{ne_eqb}
-use Rattle.float64.specs.Number.{inUnit, rateFits, coefficientFits}
-use Rattle.effect.specs.Needed.{noPlaces}
+use Rattle.float64.specs.Number.{in_unit, rate_fits, coefficient_fits}
+use Rattle.effect.specs.Needed.{no_places}
 use Rattle.effect.proofs.Needed.{start-needs}
 use Rattle.effect.proofs.Table.{none-1-2}
-use Rattle.delay_line.specs.DelayLine.{delayLine, settingsNumber}
+use Rattle.delay_line.specs.DelayLine.{delay_line, settings_number}
 use Rattle.chorus.specs.Chorus.{chorus}
 use Rattle.flanger.specs.Flanger.{flanger}
 use Rattle.vibrato.specs.Vibrato.{vibrato}
 use Rattle.tremolo.specs.Tremolo.{tremolo}
 use Rattle.reverb.specs.Reverb.{reverb}
-use Rattle.room_effects.specs.Needed.{neededBy}
+use Rattle.room_effects.specs.Needed.{needed_by}
 use Rattle.guarantees.specs.PlacesNeeded.{StartNeeds, PlacesNeeded}
 
 -- the delay's count is worked out with coefficient +0, and is the same with every coefficient that is accepted
-delay-needs : StartNeeds delayLine (λ x. neededBy 1 x.rate x.maximum)
-unfolding neededBy settingsNumber inUnit le lt of_int Ieee.fits
+delay-needs : StartNeeds delay_line (λ x. needed_by 1 x.rate x.maximum)
+unfolding needed_by settings_number in_unit le lt of_int Ieee.fits
 delay-needs =
     record {
       accepted = λ x n e.
-          let r = none-1-2 (rateFits x.rate) (coefficientFits x.coefficient) e in
-          start-needs delayLine x n e ∙ (rw (r.0, r.1));
+          let r = none-1-2 (rate_fits x.rate) (coefficient_fits x.coefficient) e in
+          start-needs delay_line x n e ∙ (rw (r.0, r.1));
     }
 
 either_way : {A : Type 0} (b : Bool) (x : A) → cond b x x ≡ x
@@ -35,20 +35,20 @@ either_way true x = refl
 either_way false x = refl
 
 -- whichever number it is, the answer is the one for a refused rate
-refused-is : (effect : ℕ) (rate maximum : Float) → rateFits rate ≡ false → neededBy effect rate maximum ≡ noPlaces
-unfolding neededBy settingsNumber
+refused-is : (effect : ℕ) (rate maximum : Float) → rate_fits rate ≡ false → needed_by effect rate maximum ≡ no_places
+unfolding needed_by settings_number
 refused-is effect rate maximum h =
-    rw (h, either_way (eqb effect 6) noPlaces, either_way (eqb effect 5) noPlaces, either_way (eqb effect 4) noPlaces, either_way (eqb effect 3) noPlaces, either_way (eqb effect 2) noPlaces)
-    (either_way (eqb effect 1) noPlaces)
+    rw (h, either_way (eqb effect 6) no_places, either_way (eqb effect 5) no_places, either_way (eqb effect 4) no_places, either_way (eqb effect 3) no_places, either_way (eqb effect 2) no_places)
+    (either_way (eqb effect 1) no_places)
 
 -- a number that is none of the six
-other-is : (effect : ℕ) (rate maximum : Float) → 7 ≤ effect → neededBy effect rate maximum ≡ noPlaces
-unfolding neededBy
+other-is : (effect : ℕ) (rate maximum : Float) → 7 ≤ effect → needed_by effect rate maximum ≡ no_places
+unfolding needed_by
 other-is effect rate maximum h =
     rw (ne_eqb effect 1 (omega arith), ne_eqb effect 2 (omega arith), ne_eqb effect 3 (omega arith), ne_eqb effect 4 (omega arith), ne_eqb effect 5 (omega arith), ne_eqb effect 6 (omega arith))
 
 pub places-needed : PlacesNeeded
-unfolding neededBy
+unfolding needed_by
 places-needed =
     record {
       delay = delay-needs;

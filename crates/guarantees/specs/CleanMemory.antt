@@ -1,7 +1,7 @@
 -- Demand 1 (docs/DEMANDS.md): clean memory, for each effect. What `Demand1` says is in effect/specs/Demand1.antt: of any list of calls after an accepted start,
 -- refused ones included, whatever the memory held before. Definitions only. Assumes nothing.
 use Rattle.effect.specs.Demand1.{Demand1}
-use Rattle.delay_line.specs.DelayLine.{delayLine}
+use Rattle.delay_line.specs.DelayLine.{delay_line}
 use Rattle.chorus.specs.Chorus.{chorus}
 use Rattle.flanger.specs.Flanger.{flanger}
 use Rattle.vibrato.specs.Vibrato.{vibrato}
@@ -9,7 +9,7 @@ use Rattle.tremolo.specs.Tremolo.{tremolo}
 use Rattle.reverb.specs.Reverb.{reverb}
 
 pub record CleanMemory : Type 0 where
-  pub delay-lines : Demand1 delayLine
+  pub delay-lines : Demand1 delay_line
   pub choruses : Demand1 chorus
   pub flangers : Demand1 flanger
   pub vibratos : Demand1 vibrato

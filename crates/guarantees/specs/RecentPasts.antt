@@ -4,7 +4,7 @@
 -- and silent questions, refused ones among them (`Run`, effect/specs/Run.antt). `Demand3` (effect/specs/Demand3.antt) says of them: their lines (a
 -- chorus has one, and so has a vibrato), all L places read newest to oldest, are equal exactly where the recent pasts are equal; and where they end at the same
 -- rate with lines and phases equal, the same later ticks get the same answers, refusals included, with silent questions and refused calls anywhere between them,
--- up to either unit's next clearing. The recent past (`recentPast`, effect/specs/Past.antt) is worked out from the calls' arguments and the memory's length. `Covers`
+-- up to either unit's next clearing. The recent past (`recent_past`, effect/specs/Past.antt) is worked out from the calls' arguments and the memory's length. `Covers`
 -- (effect/specs/Covers.antt) says that the shape chosen for the later ticks leaves out no list that the paper allows.
 -- `chorus` and `vibrato` are the definitions that the contracts of their calls cite. Definitions only. Assumes nothing.
 use Rattle.effect.specs.Run.{Run}

@@ -3,18 +3,18 @@
 use Rattle.std.specs.Prelude.{ℕ, ◌*◌, ◌≡◌, true, false, List, [], ◌∷◌, pos, get_or, replicate, Float}
 use Rattle.std.specs.Float.{nan, inf, fin}
 use Rattle.std.specs.Float.Ieee.{neg}
-use Rattle.float64.specs.Number.{plusZero, float_of, fraction, half}
+use Rattle.float64.specs.Number.{plus_zero, float_of, fraction, half}
 use Rattle.port.specs.declared.Port.TheVariants.{Set, Unset}
 use Rattle.port.specs.Answer.{played}
 use Rattle.common.specs.Signal.{sanitized}
-use Rattle.common.specs.Line.{place, line_at, readAt}
+use Rattle.common.specs.Line.{place, line_at, read_at}
 use Rattle.effect.specs.Run.{CallOf, tick, start, reply, replies}
 use Rattle.delay_line.specs.DelayLine as delay
 use Rattle.tremolo.specs.Tremolo as trem
-use Rattle.reverb.specs.Freeverb.{combStore, combFed, combed, passOutput, passFed}
-use Rattle.reverb.specs.Tunings.{Side, left, right, predelaySize, ratio, spread, combLengths, allpassLengths}
+use Rattle.reverb.specs.Freeverb.{comb_store, comb_fed, combed, pass_output, pass_fed}
+use Rattle.reverb.specs.Tunings.{Side, left, right, predelay_size, ratio, spread, comb_lengths, allpass_lengths}
 use Rattle.reverb.specs.Reverb as rev
-use Rattle.room_effects.specs.Needed.{neededBy}
+use Rattle.room_effects.specs.Needed.{needed_by}
 
 pub data Case : Type 0 where
   -- an effect's number, a rate and a maximum; the places needed
@@ -44,28 +44,28 @@ pub data Case : Type 0 where
 -- ---- what it is for a case to hold
 
 -- at 8,000, with a maximum of a millisecond, in memory that held NaN; the milliseconds are not read
-abbrev pub delayTick : Float → CallOf delay.delayLine
-delayTick audio = tick (delay.tickOf (Set audio) (Set plusZero) (Set plusZero) (Set (float_of 1)) nan)
+abbrev pub delay_tick : Float → CallOf delay.delay_line
+delay_tick audio = tick (delay.tick_of (Set audio) (Set plus_zero) (Set plus_zero) (Set (float_of 1)) nan)
 
 abbrev pub Holds : Case → Type 0
-Holds (needs effect rate maximum n) = neededBy effect rate maximum ≡ n
-Holds (comb-length rate side i n) = get_or (combLengths side rate) i 0 ≡ n
-Holds (allpass-length rate side i n) = get_or (allpassLengths side rate) i 0 ≡ n
+Holds (needs effect rate maximum n) = needed_by effect rate maximum ≡ n
+Holds (comb-length rate side i n) = get_or (comb_lengths side rate) i 0 ≡ n
+Holds (allpass-length rate side i n) = get_or (allpass_lengths side rate) i 0 ≡ n
 Holds (spread_at rate n) = spread (ratio rate) ≡ n
-Holds (reads distance x) = readAt (line_at 0 4 1 (float_of 10 ∷ float_of 20 ∷ float_of 30 ∷ float_of 40 ∷ [])) distance ≡ x
+Holds (reads distance x) = read_at (line_at 0 4 1 (float_of 10 ∷ float_of 20 ∷ float_of 30 ∷ float_of 40 ∷ [])) distance ≡ x
 Holds (enters audio x) = sanitized audio ≡ x
 Holds (delays x y a b) =
-    replies delay.delayLine (delayTick x ∷ delayTick y ∷ []) (start delay.delayLine (delay.handing (float_of 8000) plusZero (fraction 1 1000) true) (replicate 9 nan))
+    replies delay.delay_line (delay_tick x ∷ delay_tick y ∷ []) (start delay.delay_line (delay.handing (float_of 8000) plus_zero (fraction 1 1000) true) (replicate 9 nan))
     ≡ played (a ∷ []) ∷ played (b ∷ []) ∷ []
 Holds (trembles shape x) =
-    reply trem.tremolo (tick (trem.tickOf (Set (float_of 4)) (Set (float_of 1)) (Set shape) (float_of 1) plusZero)) (record { state = trem.fresh (float_of 44100); memory = [] })
+    reply trem.tremolo (tick (trem.tick_of (Set (float_of 4)) (Set (float_of 1)) (Set shape) (float_of 1) plus_zero)) (record { state = trem.fresh (float_of 44100); memory = [] })
     ≡ played (x ∷ [])
 Holds (combs held store damping feedback input answer store' written) =
     (combed held 2 0 store damping ≡ record { output = answer; filter_state = store'; pos = 1 })
-    × (combFed input (combStore held store damping) feedback ≡ written)
-Holds (passes held input answer written) = (passOutput input held ≡ answer) × (passFed input held ≡ written)
-Holds (lies w d p) = place predelaySize w d ≡ p
-Holds (waits control rate n) = rev.delayBy (rev.controlsOf (rev.tickOf Unset Unset Unset Unset (Set control))) rate ≡ n
+    × (comb_fed input (comb_store held store damping) feedback ≡ written)
+Holds (passes held input answer written) = (pass_output input held ≡ answer) × (pass_fed input held ≡ written)
+Holds (lies w d p) = place predelay_size w d ≡ p
+Holds (waits control rate n) = rev.delay_by (rev.controls_of (rev.tick_of Unset Unset Unset Unset (Set control))) rate ≡ n
 
 abbrev pub AllHold : List Case → Type 0
 AllHold [] = Unit {0}
@@ -89,13 +89,13 @@ starred =
     ∷ reads (float_of 1) (float_of 10)
     ∷ reads (fraction 5 2) (float_of 35)
     ∷ reads (float_of 3) (float_of 30)
-    ∷ enters nan plusZero
-    ∷ enters (inf false) plusZero
+    ∷ enters nan plus_zero
+    ∷ enters (inf false) plus_zero
     ∷ enters (fin true 0 (pos 0)) (fin true 0 (pos 0))
-    ∷ delays (float_of 3) (float_of 7) plusZero (float_of 3)
-    ∷ trembles plusZero (float_of 2)
-    ∷ trembles (float_of 1) plusZero
-    ∷ combs (float_of 4) plusZero (fraction 1 4) half (float_of 1) (float_of 4) (float_of 3) (fraction 5 2)
+    ∷ delays (float_of 3) (float_of 7) plus_zero (float_of 3)
+    ∷ trembles plus_zero (float_of 2)
+    ∷ trembles (float_of 1) plus_zero
+    ∷ combs (float_of 4) plus_zero (fraction 1 4) half (float_of 1) (float_of 4) (float_of 3) (fraction 5 2)
     ∷ passes (float_of 1) (float_of 2) (neg (float_of 1)) (fraction 5 2)
     ∷ lies 3 5 9598
     ∷ waits (float_of 1) (float_of 96000) 9599

@@ -7,24 +7,24 @@ use lib.Ieee.{Float}
 use Rattle.float64.specs.Number.{is_number}
 use Rattle.port.specs.declared.Port.{Port}
 use Rattle.port.specs.declared.Port.TheVariants.{Set, Unset}
-use Rattle.port.specs.Port.{valueOr, isNanSet}
+use Rattle.port.specs.Port.{value_or, is_nan_set}
 use Rattle.port.specs.declared.Refusal.{Refusal}
 use Rattle.port.specs.declared.Refusal.TheVariants.{SampleRate, GlideCoefficient, Memory, State, Control, Curve}
 use Rattle.port.specs.Answer.{number}
 
 -- a port taken apart: set, its number; unset, the default
-pub value_set : {p : Port} {x y : Float} (d : Float) → p ≡ Set x → y ≡ x → y ≡ valueOr p d
-value_set d e k = k ∙ sym (ap (λ (q : Port). valueOr q d) e)
+pub value_set : {p : Port} {x y : Float} (d : Float) → p ≡ Set x → y ≡ x → y ≡ value_or p d
+value_set d e k = k ∙ sym (ap (λ (q : Port). value_or q d) e)
 
-pub value-unset : {p : Port} {y : Float} (d : Float) → p ≡ Unset → y ≡ d → y ≡ valueOr p d
-value-unset d e k = k ∙ sym (ap (λ (q : Port). valueOr q d) e)
+pub value-unset : {p : Port} {y : Float} (d : Float) → p ≡ Unset → y ≡ d → y ≡ value_or p d
+value-unset d e k = k ∙ sym (ap (λ (q : Port). value_or q d) e)
 
 -- a NaN test of a port's value, where the default is a number, is the test that the port is set and NaN
-nan-value : (p : Port) (d : Float) → is_number d ≡ true → not (is_number (valueOr p d)) ≡ isNanSet p
+nan-value : (p : Port) (d : Float) → is_number d ≡ true → not (is_number (value_or p d)) ≡ is_nan_set p
 nan-value (Set x) d h = refl
 nan-value Unset d h = ap not h
 
-pub nan_is : (p : Port) (d : Float) {x : Float} {b : Bool} → is_number d ≡ true → x ≡ valueOr p d → b ≡ not (is_number x) → b ≡ isNanSet p
+pub nan_is : (p : Port) (d : Float) {x : Float} {b : Bool} → is_number d ≡ true → x ≡ value_or p d → b ≡ not (is_number x) → b ≡ is_nan_set p
 nan_is p d h e k = k ∙ ap (λ (y : Float). not (is_number y)) e ∙ nan-value p d h
 
 -- every cause has a number

@@ -1,6 +1,6 @@
 -- What each call answers, in the table's numbers and in samples. Definitions only. Assumes nothing.
 use Rattle.std.specs.Prelude.{ℕ, Bool, true, false, cond, List, [], ◌∷◌, get_or, Float}
-use Rattle.float64.specs.Number.{plusZero}
+use Rattle.float64.specs.Number.{plus_zero}
 use Rattle.port.specs.declared.Refusal.{Refusal}
 use Rattle.port.specs.declared.Refusal.TheVariants.{SampleRate, GlideCoefficient, Memory, State, Control, Curve}
 use Rattle.port.specs.declared.Outcome.{Outcome}
@@ -32,42 +32,42 @@ number_of outcome.Accepted = 0
 number_of (outcome.Refused r) = number r
 
 -- start, retune, reset
-abbrev pub outcomeReply : Outcome → Reply
-outcomeReply outcome.Accepted = done
-outcomeReply (outcome.Refused r) = refused (number r)
+abbrev pub outcome_reply : Outcome → Reply
+outcome_reply outcome.Accepted = done
+outcome_reply (outcome.Refused r) = refused (number r)
 
 -- tick
-abbrev pub answerReply : Answer → Reply
-answerReply (answer.One x) = played (x ∷ [])
-answerReply (answer.Two l r) = played (l ∷ r ∷ [])
-answerReply (answer.Three m l r) = played (m ∷ l ∷ r ∷ [])
-answerReply (answer.Refused r) = refused (number r)
+abbrev pub answer_reply : Answer → Reply
+answer_reply (answer.One x) = played (x ∷ [])
+answer_reply (answer.Two l r) = played (l ∷ r ∷ [])
+answer_reply (answer.Three m l r) = played (m ∷ l ∷ r ∷ [])
+answer_reply (answer.Refused r) = refused (number r)
 
 -- silent?
-abbrev pub silenceReply : Silence → Reply
-silenceReply silence.Silent = silent true
-silenceReply silence.Sounding = silent false
-silenceReply (silence.Refused r) = refused (number r)
+abbrev pub silence_reply : Silence → Reply
+silence_reply silence.Silent = silent true
+silence_reply silence.Sounding = silent false
+silence_reply (silence.Refused r) = refused (number r)
 
 -- ---- a reply in plain numbers, as the C interface hands it out
 
 -- the table's number, 0 for none
-abbrev pub replyNumber : Reply → ℕ
-replyNumber (played l) = 0
-replyNumber done = 0
-replyNumber (silent b) = 0
-replyNumber (refused n) = n
+abbrev pub reply_number : Reply → ℕ
+reply_number (played l) = 0
+reply_number done = 0
+reply_number (silent b) = 0
+reply_number (refused n) = n
 
 -- the sample at an index, +0 where there is none
-abbrev pub replySample : ℕ → Reply → Float
-replySample i (played l) = get_or l i plusZero
-replySample i done = plusZero
-replySample i (silent b) = plusZero
-replySample i (refused n) = plusZero
+abbrev pub reply_sample : ℕ → Reply → Float
+reply_sample i (played l) = get_or l i plus_zero
+reply_sample i done = plus_zero
+reply_sample i (silent b) = plus_zero
+reply_sample i (refused n) = plus_zero
 
 -- 1 where the answer is yes
-abbrev pub replySilent : Reply → ℕ
-replySilent (played l) = 0
-replySilent done = 0
-replySilent (silent b) = cond b 1 0
-replySilent (refused n) = 0
+abbrev pub reply_silent : Reply → ℕ
+reply_silent (played l) = 0
+reply_silent done = 0
+reply_silent (silent b) = cond b 1 0
+reply_silent (refused n) = 0

@@ -5,16 +5,16 @@ use Rattle.port.specs.declared.Port.{Port}
 use Rattle.port.specs.declared.Port.TheVariants.{Set, Unset}
 
 -- a port from a number and whether it is set
-abbrev pub portIf : Bool → Float → Port
-portIf true x = Set x
-portIf false x = Unset
+abbrev pub port_if : Bool → Float → Port
+port_if true x = Set x
+port_if false x = Unset
 
 -- the port's number, or the tick's own default where it is unset: the Rust's `get_or`
-abbrev pub valueOr : Port → Float → Float
-valueOr (Set x) default = x
-valueOr Unset default = default
+abbrev pub value_or : Port → Float → Float
+value_or (Set x) default = x
+value_or Unset default = default
 
 -- set, and NaN: cause 5 where a tick reads the control
-abbrev pub isNanSet : Port → Bool
-isNanSet (Set x) = not (is_number x)
-isNanSet Unset = false
+abbrev pub is_nan_set : Port → Bool
+is_nan_set (Set x) = not (is_number x)
+is_nan_set Unset = false

@@ -1,7 +1,7 @@
 // What goes into a call and what comes out of it: ports, refusals, answers.
 ghost use Rattle.std.specs.Prelude.{◌≡◌};
-ghost use Rattle.port.specs.Port.{portIf};
-ghost use Rattle.port.specs.Answer.{number, outcomeReply, answerReply, silenceReply, replyNumber, replySample, replySilent};
+ghost use Rattle.port.specs.Port.{port_if};
+ghost use Rattle.port.specs.Answer.{number, outcome_reply, answer_reply, silence_reply, reply_number, reply_sample, reply_silent};
 
 // An input port: it carries a number or is unset.
 #[derive(Drop)]
@@ -47,7 +47,7 @@ pub enum Silence {
 
 // A port from a number and whether it is set.
 pub fn port_if(on: bool, x: f64) -> Port
-    ensures { result ≡ portIf on x }
+    ensures { result ≡ port_if on x }
 {
     if on { Port::Set(x) } else { Port::Unset }
 }
@@ -71,7 +71,7 @@ impl Refusal {
 impl Outcome {
     // The table's number, 0 for none.
     pub fn number(self) -> u32
-        ensures { result ≡ replyNumber (outcomeReply self) }
+        ensures { result ≡ reply_number (outcome_reply self) }
     {
         match self {
             Outcome::Accepted => 0,
@@ -83,7 +83,7 @@ impl Outcome {
 impl Answer {
     // The table's number, 0 for none.
     pub fn number(self) -> u32
-        ensures { result ≡ replyNumber (answerReply self) }
+        ensures { result ≡ reply_number (answer_reply self) }
     {
         match self {
             Answer::One(_) => 0,
@@ -95,7 +95,7 @@ impl Answer {
 
     // The first sample, +0 on a refusal.
     pub fn first(self) -> f64
-        ensures { result ≡ replySample 0 (answerReply self) }
+        ensures { result ≡ reply_sample 0 (answer_reply self) }
     {
         match self {
             Answer::One(x) => x,
@@ -107,7 +107,7 @@ impl Answer {
 
     // The second sample, +0 where there is none.
     pub fn second(self) -> f64
-        ensures { result ≡ replySample 1 (answerReply self) }
+        ensures { result ≡ reply_sample 1 (answer_reply self) }
     {
         match self {
             Answer::One(_) => 0.0,
@@ -119,7 +119,7 @@ impl Answer {
 
     // The third sample, +0 where there is none.
     pub fn third(self) -> f64
-        ensures { result ≡ replySample 2 (answerReply self) }
+        ensures { result ≡ reply_sample 2 (answer_reply self) }
     {
         match self {
             Answer::One(_) => 0.0,
@@ -133,7 +133,7 @@ impl Answer {
 impl Silence {
     // The table's number, 0 for none.
     pub fn number(self) -> u32
-        ensures { result ≡ replyNumber (silenceReply self) }
+        ensures { result ≡ reply_number (silence_reply self) }
     {
         match self {
             Silence::Silent => 0,
@@ -144,7 +144,7 @@ impl Silence {
 
     // 1 where the answer is yes.
     pub fn flag(self) -> u32
-        ensures { result ≡ replySilent (silenceReply self) }
+        ensures { result ≡ reply_silent (silence_reply self) }
     {
         match self {
             Silence::Silent => 1,

@@ -5,12 +5,12 @@ use Rattle.std.specs.Float.Ieee.{of_bits}
 use Rattle.replay.specs.declared.words.Tally.{Tally}
 
 -- four bytes from `at` on, the lowest first
-abbrev pub halfWord : List ℕ → ℕ → ℕ
-halfWord b at = get_or b at 0 + 256 * get_or b (at + 1) 0 + 65536 * get_or b (at + 2) 0 + 16777216 * get_or b (at + 3) 0
+abbrev pub half_word : List ℕ → ℕ → ℕ
+half_word b at = get_or b at 0 + 256 * get_or b (at + 1) 0 + 65536 * get_or b (at + 2) 0 + 16777216 * get_or b (at + 3) 0
 
 -- the word number i: eight bytes, the lowest first
 abbrev pub word_of : List ℕ → ℕ → ℕ
-word_of b i = halfWord b (i * 8) + 4294967296 * halfWord b (i * 8 + 4)
+word_of b i = half_word b (i * 8) + 4294967296 * half_word b (i * 8 + 4)
 
 -- its float: the one NaN for every pattern of a NaN
 abbrev pub float_at : List ℕ → ℕ → Float
@@ -22,5 +22,5 @@ pub record Decides (r : Bool) (x y : Float) : Type 0 where
   pub only : x ≡ y → r ≡ true
 
 -- one call more, and one more that differs unless it is equal
-abbrev pub countedIn : Tally → Bool → Tally
-countedIn tally equal = record { calls = tally.calls + 1; differ = cond equal tally.differ (tally.differ + 1) }
+abbrev pub counted_in : Tally → Bool → Tally
+counted_in tally equal = record { calls = tally.calls + 1; differ = cond equal tally.differ (tally.differ + 1) }

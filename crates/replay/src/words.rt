@@ -1,6 +1,6 @@
 // Words of a stored file, as integers and as floats, when two floats are equal, and the tally of the calls.
 ghost use Rattle.std.specs.Prelude.{◌+◌, ◌*◌, ◌≤◌, ◌<◌, ◌≡◌, length};
-ghost use Rattle.replay.specs.Words.{halfWord, word_of, float_at, Decides, countedIn};
+ghost use Rattle.replay.specs.Words.{half_word, word_of, float_at, Decides, counted_in};
 
 fn wide(x: u8) -> u64
     ensures value { result ≡ x }
@@ -12,7 +12,7 @@ fn wide(x: u8) -> u64
 // Four bytes from `at` on, the lowest first.
 fn half_word(b: &[u8], at: usize) -> u64
     requires { at + 4 ≤ length b.now }
-    ensures value { result ≡ halfWord b.now at }
+    ensures value { result ≡ half_word b.now at }
     ensures upper_bound { result < 4294967296 }
 {
     wide(b[at]) + 256 * wide(b[at + 1]) + 65536 * wide(b[at + 2]) + 16777216 * wide(b[at + 3])
@@ -70,7 +70,7 @@ pub struct Tally {
 // One call more, and one more that differs unless it is equal.
 pub fn counted(tally: Tally, equal: bool) -> Tally
     requires { (tally.calls < 1000000) × (tally.differ ≤ tally.calls) }
-    ensures value { result ≡ countedIn tally equal }
+    ensures value { result ≡ counted_in tally equal }
     ensures differ_le_calls { result.differ ≤ result.calls }
 {
     let calls = tally.calls + 1;

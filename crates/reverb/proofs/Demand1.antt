@@ -2,7 +2,7 @@
 use Rattle.std.proofs.Common.{◌≡◌, ℕ, zero, suc, ◌<◌, true, false, List, [], ◌∷◌, ◌++◌, refl, arith}
 use lib.Ieee.{Float, le, of_int}
 use lib.Ieee as Ieee
-use Rattle.float64.specs.Number.{rateFits, in_range}
+use Rattle.float64.specs.Number.{rate_fits, in_range}
 use Rattle.common.proofs.Ring.{next-lt}
 use Rattle.effect.specs.Effect.{Write}
 use Rattle.effect.specs.Demand1.{Demand1}
@@ -11,9 +11,9 @@ use Rattle.effect.proofs.Laws.{Laws, Within}
 use Rattle.effect.proofs.Demand1.{demand-1}
 use Rattle.reverb.specs.declared.tick.Controls.{Controls}
 use Rattle.reverb.specs.declared.Reverb.{Reverb}
-use Rattle.reverb.specs.Tunings.{Side, left, right, predelaySize, combMost, allpassMost, combTunings, allpassTunings, tuned}
-use Rattle.reverb.specs.Tank.{combStart, allpassStart, tankSize, place_of, nextPosition, bySides, combsHeld, combWrite, allpassesHeld, allpassWrite, InUse, of-comb, of-allpass, of-predelay}
-use Rattle.reverb.specs.Reverb.{reverb, combs, stores, allpasses, fresh, blank, stateFits, controlsOf, damping, feedback, predelayed, summed, next, writes}
+use Rattle.reverb.specs.Tunings.{Side, left, right, predelay_size, comb_most, allpass_most, comb_tunings, allpass_tunings, tuned}
+use Rattle.reverb.specs.Tank.{comb_start, allpass_start, tank_size, place_of, next_position, by_sides, combs_held, comb_write, allpasses_held, allpass_write, InUse, of-comb, of-allpass, of-predelay}
+use Rattle.reverb.specs.Reverb.{reverb, combs, stores, allpasses, fresh, blank, state_fits, controls_of, damping, feedback, predelayed, summed, next, writes}
 use Rattle.reverb.proofs.Scaling.{lines-some, lines-most}
 use Rattle.reverb.proofs.Lists.{next-below}
 use Rattle.reverb.proofs.Laws.{combs-in, allpasses-in, Fits, fits-parts, fit}
@@ -21,17 +21,17 @@ use Rattle.reverb.proofs.Apart.{line-below}
 
 -- ---- states
 
-blank-refused : stateFits blank ≡ false
-unfolding stateFits in_range le of_int Ieee.fits
+blank-refused : state_fits blank ≡ false
+unfolding state_fits in_range le of_int Ieee.fits
 blank-refused = refl
 
 -- a clearing leaves a state that passes
-fresh-fits : (rate : Float) → rateFits rate ≡ true → stateFits (fresh rate) ≡ true
+fresh-fits : (rate : Float) → rate_fits rate ≡ true → state_fits (fresh rate) ≡ true
 unfolding tuned
 fresh-fits rate h =
     let u = fresh rate in
-    let comb : (side : Side) → _ = λ side. lines-some combMost combTunings side rate (omega arith) refl h in
-    let pass : (side : Side) → _ = λ side. lines-some allpassMost allpassTunings side rate (omega arith) refl h in
+    let comb : (side : Side) → _ = λ side. lines-some comb_most comb_tunings side rate (omega arith) refl h in
+    let pass : (side : Side) → _ = λ side. lines-some allpass_most allpass_tunings side rate (omega arith) refl h in
     fit u
     (record {
       rate = h;
@@ -40,8 +40,8 @@ fresh-fits rate h =
       allpasses = allpasses-in u (pass left) (pass right);
     })
 
-next_fits : (c : Controls) (s : Reverb) (m : List Float) → stateFits s ≡ true → stateFits (next c s m) ≡ true
-unfolding next nextPosition
+next_fits : (c : Controls) (s : Reverb) (m : List Float) → state_fits s ≡ true → state_fits (next c s m) ≡ true
+unfolding next next_position
 next_fits c s m e =
     let u = next c s m in
     let f = fits-parts s e in
@@ -50,7 +50,7 @@ next_fits c s m e =
     fit u
     (record {
       rate = f.rate;
-      predelay = next-lt predelaySize s.predelay_pos f.predelay;
+      predelay = next-lt predelay_size s.predelay_pos f.predelay;
       combs = combs-in u (comb left) (comb right);
       allpasses = allpasses-in u (pass left) (pass right);
     })
@@ -62,39 +62,39 @@ module _ (P : ℕ → Type 0) where
   within-append [] ws a b = b
   within-append (v ∷ vs) ws a b = (a.0, within-append vs ws a.1 b)
 
-  within-sides : (f : ℕ → Side → Write) (k : ℕ) → ((i : ℕ) → i < k → (side : Side) → P (f i side).place) → Within P (bySides f k)
-  unfolding bySides
+  within-sides : (f : ℕ → Side → Write) (k : ℕ) → ((i : ℕ) → i < k → (side : Side) → P (f i side).place) → Within P (by_sides f k)
+  unfolding by_sides
   within-sides f zero h = tt
   within-sides f (suc k) h =
-      within-append (bySides f k) (f k left ∷ f k right ∷ []) (within-sides f k (λ i l. h i (omega arith))) (h k (omega arith) left, (h k (omega arith) right, tt))
+      within-append (by_sides f k) (f k left ∷ f k right ∷ []) (within-sides f k (λ i l. h i (omega arith))) (h k (omega arith) left, (h k (omega arith) right, tt))
 
-inside : (c : Controls) (s : Reverb) (m : List Float) → stateFits s ≡ true → Within (InUse s.sample_rate) (writes c s m)
-unfolding writes combWrite allpassWrite
+inside : (c : Controls) (s : Reverb) (m : List Float) → state_fits s ≡ true → Within (InUse s.sample_rate) (writes c s m)
+unfolding writes comb_write allpass_write
 inside c s m e =
     let used = InUse s.sample_rate in
-    let comb = combWrite (predelayed c s m) (damping c) (feedback c) (combs s) (stores s) (combsHeld (combs s) m) in
-    let pass = allpassWrite (summed s m) (allpasses s) (allpassesHeld (allpasses s) m) in (
+    let comb = comb_write (predelayed c s m) (damping c) (feedback c) (combs s) (stores s) (combs_held (combs s) m) in
+    let pass = allpass_write (summed s m) (allpasses s) (allpasses_held (allpasses s) m) in (
       of-predelay s.predelay_pos f.predelay,
-      within-append used (bySides comb 8) (bySides pass 4) (within-sides used comb 8 in-comb) (within-sides used pass 4 in-pass),
+      within-append used (by_sides comb 8) (by_sides pass 4) (within-sides used comb 8 in-comb) (within-sides used pass 4 in-pass),
     )
   where
     f : Fits s
     f = fits-parts s e
 
-    in-comb : (i : ℕ) → i < 8 → (side : Side) → InUse s.sample_rate (place_of combStart (combs s) side i)
+    in-comb : (i : ℕ) → i < 8 → (side : Side) → InUse s.sample_rate (place_of comb_start (combs s) side i)
     in-comb i h left = of-comb left i _ h (line-below f.combs left i h).0
     in-comb i h right = of-comb right i _ h (line-below f.combs right i h).0
 
-    in-pass : (i : ℕ) → i < 4 → (side : Side) → InUse s.sample_rate (place_of allpassStart (allpasses s) side i)
+    in-pass : (i : ℕ) → i < 4 → (side : Side) → InUse s.sample_rate (place_of allpass_start (allpasses s) side i)
     in-pass i h left = of-allpass left i _ h (line-below f.allpasses left i h).0
     in-pass i h right = of-allpass right i _ h (line-below f.allpasses right i h).0
 
 -- the places in use at any rate lie in the tank
-used : (rate : Float) (p : ℕ) → InUse rate p → p < tankSize
-used rate p (of-comb left i w h l) = omega (arith, lines-most combMost combTunings left rate i)
-used rate p (of-comb right i w h l) = omega (arith, lines-most combMost combTunings right rate i)
-used rate p (of-allpass left i w h l) = omega (arith, lines-most allpassMost allpassTunings left rate i)
-used rate p (of-allpass right i w h l) = omega (arith, lines-most allpassMost allpassTunings right rate i)
+used : (rate : Float) (p : ℕ) → InUse rate p → p < tank_size
+used rate p (of-comb left i w h l) = omega (arith, lines-most comb_most comb_tunings left rate i)
+used rate p (of-comb right i w h l) = omega (arith, lines-most comb_most comb_tunings right rate i)
+used rate p (of-allpass left i w h l) = omega (arith, lines-most allpass_most allpass_tunings left rate i)
+used rate p (of-allpass right i w h l) = omega (arith, lines-most allpass_most allpass_tunings right rate i)
 used rate p (of-predelay w l) = omega arith
 
 pub laws : Laws reverb
@@ -105,12 +105,12 @@ laws =
       fresh-settings = λ k. refl;
       retuned-settings = λ k s. refl;
       next-settings = λ t s m. refl;
-      start_fits = λ k e. fresh-fits k (none_1 (rateFits k) e);
+      start_fits = λ k e. fresh-fits k (none_1 (rate_fits k) e);
       reset-fits = λ s e. fresh-fits s.sample_rate (fits-parts s e).rate;
-      retuned-fits = λ k s e f. fresh-fits k (none_1 (rateFits k) e);
-      next_fits = λ t s m e r n. next_fits (controlsOf t) s m e;
+      retuned-fits = λ k s e f. fresh-fits k (none_1 (rate_fits k) e);
+      next_fits = λ t s m e r n. next_fits (controls_of t) s m e;
       used = used;
-      inside = λ t s m e. inside (controlsOf t) s m e;
+      inside = λ t s m e. inside (controls_of t) s m e;
     }
 
 pub shown : Demand1 reverb

@@ -1,34 +1,34 @@
 -- The reverb's state test by its parts. Assumes nothing.
 use Rattle.std.proofs.Common.{◌≡◌, ◌<◌, Bool, true, false, cond, ◌&&◌, ltb, length, replicate, refl, ap, ltb-true, lt-ltb}
-use Rattle.float64.specs.Number.{rateFits}
+use Rattle.float64.specs.Number.{rate_fits}
 use Rattle.float64.proofs.Tests.{both}
 use Rattle.reverb.specs.declared.tunings.Lengths.{Lengths}
 use Rattle.reverb.specs.declared.Reverb.{Reverb}
-use Rattle.reverb.specs.Tunings.{Side, left, right, combMost, allpassMost, predelaySize, lengthsAt, noLengths, lengthsFor}
-use Rattle.reverb.specs.Tank.{SidedLines, all_below, positionsFit, InLines}
-use Rattle.reverb.specs.Reverb.{combs, allpasses, stateFits}
+use Rattle.reverb.specs.Tunings.{Side, left, right, comb_most, allpass_most, predelay_size, lengths_at, no_lengths, lengths_for}
+use Rattle.reverb.specs.Tank.{SidedLines, all_below, positions_fit, InLines}
+use Rattle.reverb.specs.Reverb.{combs, allpasses, state_fits}
 use Rattle.reverb.proofs.Lists.{and-false, below-zero}
 use Rattle.reverb.proofs.Scaling.{roomy}
 
 pub record Fits (s : Reverb) : Type 0 where
-  pub rate : rateFits s.sample_rate ≡ true
-  pub predelay : s.predelay_pos < predelaySize
-  pub combs : InLines 8 combMost (combs s)
-  pub allpasses : InLines 4 allpassMost (allpasses s)
+  pub rate : rate_fits s.sample_rate ≡ true
+  pub predelay : s.predelay_pos < predelay_size
+  pub combs : InLines 8 comb_most (combs s)
+  pub allpasses : InLines 4 allpass_most (allpasses s)
 
 module _ (s : Reverb) where
   -- the tests of positions
   abbrev below : SidedLines → Side → Bool
   below l side = all_below (l.positions side) (l.lengths side)
 
-  abbrev sideBelow : Side → Bool
-  sideBelow side = below (combs s) side && below (allpasses s) side
+  abbrev side_below : Side → Bool
+  side_below side = below (combs s) side && below (allpasses s) side
 
   abbrev inside : Bool
-  inside = ltb s.predelay_pos predelaySize && (sideBelow left && sideBelow right)
+  inside = ltb s.predelay_pos predelay_size && (side_below left && side_below right)
 
   -- the lines of a state with such positions
-  pub combs-in : below (combs s) left ≡ true → below (combs s) right ≡ true → InLines 8 combMost (combs s)
+  pub combs-in : below (combs s) left ≡ true → below (combs s) right ≡ true → InLines 8 comb_most (combs s)
   combs-in l r = record { counted = each; inside = under; capped = (roomy s.sample_rate refl).combs }
     where
       each : (side : Side) → length ((combs s).lengths side) ≡ 8
@@ -39,7 +39,7 @@ module _ (s : Reverb) where
       under left = l
       under right = r
 
-  pub allpasses-in : below (allpasses s) left ≡ true → below (allpasses s) right ≡ true → InLines 4 allpassMost (allpasses s)
+  pub allpasses-in : below (allpasses s) left ≡ true → below (allpasses s) right ≡ true → InLines 4 allpass_most (allpasses s)
   allpasses-in l r = record { counted = each; inside = under; capped = (roomy s.sample_rate refl).allpasses }
     where
       each : (side : Side) → length ((allpasses s).lengths side) ≡ 4
@@ -50,37 +50,37 @@ module _ (s : Reverb) where
       under left = l
       under right = r
 
-  pub fits-parts : stateFits s ≡ true → Fits s
-  unfolding stateFits
+  pub fits-parts : state_fits s ≡ true → Fits s
+  unfolding state_fits
   fits-parts e =
-      let a = both (rateFits s.sample_rate) inside e in
-      let c = both (ltb s.predelay_pos predelaySize) (sideBelow left && sideBelow right) a.1 in
-      let d = both (sideBelow left) (sideBelow right) c.1 in
+      let a = both (rate_fits s.sample_rate) inside e in
+      let c = both (ltb s.predelay_pos predelay_size) (side_below left && side_below right) a.1 in
+      let d = both (side_below left) (side_below right) c.1 in
       let l = both (below (combs s) left) (below (allpasses s) left) d.0 in
       let r = both (below (combs s) right) (below (allpasses s) right) d.1 in
       record {
         rate = a.0;
-        predelay = ltb-true s.predelay_pos predelaySize c.0;
+        predelay = ltb-true s.predelay_pos predelay_size c.0;
         combs = combs-in l.0 r.0;
         allpasses = allpasses-in l.1 r.1;
       }
 
-  pub fit : Fits s → stateFits s ≡ true
-  unfolding stateFits
+  pub fit : Fits s → state_fits s ≡ true
+  unfolding state_fits
   fit f =
       let c = f.combs.inside in
       let p = f.allpasses.inside in
-      rw (f.rate, lt-ltb s.predelay_pos predelaySize f.predelay, c left, c right, p left, p right)
+      rw (f.rate, lt-ltb s.predelay_pos predelay_size f.predelay, c left, c right, p left, p right)
 
   -- by the positions and every line's length as the code finds it
-  pub fits_by : {n : Lengths} → n ≡ lengthsFor s.sample_rate
-      → positionsFit s.comb_pos_l s.comb_pos_r s.allpass_pos_l s.allpass_pos_r s.predelay_pos n ≡ stateFits s
-  unfolding stateFits
-  fits_by {n} e = go (rateFits s.sample_rate) e
+  pub fits_by : {n : Lengths} → n ≡ lengths_for s.sample_rate
+      → positions_fit s.comb_pos_l s.comb_pos_r s.allpass_pos_l s.allpass_pos_r s.predelay_pos n ≡ state_fits s
+  unfolding state_fits
+  fits_by {n} e = go (rate_fits s.sample_rate) e
     where
       parts : Lengths → Bool
-      parts = positionsFit s.comb_pos_l s.comb_pos_r s.allpass_pos_l s.allpass_pos_r s.predelay_pos
+      parts = positions_fit s.comb_pos_l s.comb_pos_r s.allpass_pos_l s.allpass_pos_r s.predelay_pos
 
-      go : (b : Bool) → n ≡ cond b (lengthsAt s.sample_rate) noLengths → parts n ≡ b && inside
+      go : (b : Bool) → n ≡ cond b (lengths_at s.sample_rate) no_lengths → parts n ≡ b && inside
       go true e = ap parts e
-      go false e = rw (e, below-zero s.comb_pos_l (replicate 7 0)) (and-false (ltb s.predelay_pos predelaySize))
+      go false e = rw (e, below-zero s.comb_pos_l (replicate 7 0)) (and-false (ltb s.predelay_pos predelay_size))

@@ -2,9 +2,9 @@
 use Rattle.std.proofs.Common.{◌≡◌, ℕ, zero, suc, ◌+◌, ◌-◌, ◌*◌, ◌<◌, ◌≤◌, Bool, true, false, ◌&&◌, ltb, List, [], ◌∷◌, length, get_or, take, drop, refl, ap, le_of_suc-le-suc, not-suc-le-zero, suc-mul, add-one, arith, drop-cons, ltb-true, le-ltb, lt-ltb}
 use lib.Ieee.{Float}
 use Rattle.float64.proofs.Tests.{both, clash}
-use Rattle.common.specs.Line.{nextPlace, table, allZero}
+use Rattle.common.specs.Line.{next_place, table, all_zero}
 use Rattle.common.proofs.Ring.{next-lt}
-use Rattle.reverb.specs.Tank.{all_below, linesZero}
+use Rattle.reverb.specs.Tank.{all_below, lines_zero}
 
 pub and_assoc : (a b c : Bool) → (a && b) && c ≡ a && (b && c)
 and_assoc true b c = refl
@@ -49,20 +49,20 @@ below-zero [] ns = refl
 below-zero (w ∷ ws) ns = rw (le-ltb w 0 (omega arith))
 
 -- after a move each is below again
-pub next-below : (ws ns : List ℕ) → all_below ws ns ≡ true → all_below (table (λ i. nextPlace (get_or ns i 0) (get_or ws i 0)) (length ns)) ns ≡ true
+pub next-below : (ws ns : List ℕ) → all_below ws ns ≡ true → all_below (table (λ i. next_place (get_or ns i 0) (get_or ws i 0)) (length ns)) ns ≡ true
 unfolding all_below table
 next-below [] [] e = refl
 next-below [] (n ∷ ns) e = clash e refl
 next-below (w ∷ ws) [] e = clash e refl
 next-below (w ∷ ws) (n ∷ ns) e =
     let b = both (ltb w n) (all_below ws ns) e in
-    rw (lt-ltb (nextPlace n w) n (next-lt n w (ltb-true w n b.0))) (next-below ws ns b.1)
+    rw (lt-ltb (next_place n w) n (next-lt n w (ltb-true w n b.0))) (next-below ws ns b.1)
 
 -- ---- lines of zeros
 
 pub zero_more : (o apart : ℕ) (ns : List ℕ) (m : List Float) (i : ℕ) → i < length ns
-    → linesZero o apart (drop i ns) m ≡ allZero (take (get_or ns i 0) (drop o m)) && linesZero (o + apart) apart (drop (i + 1) ns) m
-unfolding linesZero
+    → lines_zero o apart (drop i ns) m ≡ all_zero (take (get_or ns i 0) (drop o m)) && lines_zero (o + apart) apart (drop (i + 1) ns) m
+unfolding lines_zero
 zero_more o apart ns m i h = rw (drop-cons ns i 0 h, add-one i)
 
 -- the room that is left for them

@@ -4,30 +4,30 @@ use native.Mathlib.Nat.{min-le_right}
 use lib.ListN.{length-map}
 use lib.Ieee.{Float, binary64, mul, div, le, lt, of_int, round, to_unsigned}
 use lib.Ieee as Ieee
-use Rattle.float64.specs.Number.{float_of, fraction, in_range, rateFits, wholePart, Small}
+use Rattle.float64.specs.Number.{float_of, fraction, in_range, rate_fits, whole_part, Small}
 use Rattle.float64.proofs.Tests.{both}
 use Rattle.float64.proofs.Interval.{In, point, mul_in, div-in, cut_in}
 use Rattle.float64.proofs.Ranges.{rate-in, range-in, in-range}
 use Rattle.float64.proofs.Parts.{small-in, whole-between}
 use Rattle.reverb.specs.declared.tunings.Lengths.{Lengths}
-use Rattle.reverb.specs.Tunings.{Side, left, right, combMost, allpassMost, leastTuning, mostTuning, combTunings, allpassTunings, ratio, scaled, spread, beside, lineLengths, lengthsAt, lengthsFor, Capped, Roomy, sided, tuned}
+use Rattle.reverb.specs.Tunings.{Side, left, right, comb_most, allpass_most, least_tuning, most_tuning, comb_tunings, allpass_tunings, ratio, scaled, spread, beside, line_lengths, lengths_at, lengths_for, Capped, Roomy, sided, tuned}
 use Rattle.reverb.specs.Tank.{all_below}
 
 -- ---- the ratio
 
-pub ratio-fits : (rate : Float) → rateFits rate ≡ true → in_range (ratio rate) (fraction 1 8) (float_of 5) ≡ true
+pub ratio-fits : (rate : Float) → rate_fits rate ≡ true → in_range (ratio rate) (fraction 1 8) (float_of 5) ≡ true
 unfolding ratio Ieee.fits le lt div of_int round
 ratio-fits rate h = in-range (div-in (fraction 1 8) (float_of 5) tt tt tt (rate-in h) (point (float_of 44100) tt))
 
 -- ---- a tuning times the ratio
 
-module _ (r : Float) (base : ℕ) (low : leastTuning ≤ base) (high : base ≤ mostTuning) (h : in_range r (fraction 1 8) (float_of 5) ≡ true) where
+module _ (r : Float) (base : ℕ) (low : least_tuning ≤ base) (high : base ≤ most_tuning) (h : in_range r (fraction 1 8) (float_of 5) ≡ true) where
   pub product-in : In binary64 (float_of 1) (float_of 16777216) (mul binary64 (float_of base) r)
   unfolding Ieee.fits le mul of_int round
-  product-in = mul_in (float_of 1) (float_of 16777216) tt tt tt (whole-between leastTuning base mostTuning low high (omega arith)) (range-in tt h)
+  product-in = mul_in (float_of 1) (float_of 16777216) tt tt tt (whole-between least_tuning base most_tuning low high (omega arith)) (range-in tt h)
 
   -- its whole part is below 2^25
-  pub product-cut : wholePart (mul binary64 (float_of base) r) ≤ 16777216
+  pub product-cut : whole_part (mul binary64 (float_of base) r) ≤ 16777216
   unfolding Ieee.fits le of_int to_unsigned
   product-cut = (cut_in 64 tt product-in).1
 
@@ -36,7 +36,7 @@ module _ (r : Float) (base : ℕ) (low : leastTuning ≤ base) (high : base ≤ 
   product_small = small-in product-in
 
 -- so is its whole part at least 1, under any cap, and beside it too
-scaled-some : (most : ℕ) (r : Float) (base : ℕ) → 1 ≤ most → leastTuning ≤ base → base ≤ mostTuning → in_range r (fraction 1 8) (float_of 5) ≡ true → 1 ≤ scaled most r base
+scaled-some : (most : ℕ) (r : Float) (base : ℕ) → 1 ≤ most → least_tuning ≤ base → base ≤ most_tuning → in_range r (fraction 1 8) (float_of 5) ≡ true → 1 ≤ scaled most r base
 unfolding scaled Ieee.fits le of_int to_unsigned
 scaled-some most r base h low high k = let c = cut_in 64 tt (product-in r base low high k) in omega (arith, c.0)
 
@@ -45,18 +45,18 @@ unfolding beside
 beside-some most wide n h k = omega arith
 
 -- a spread beyond every cap is as good as the largest cap
-pub beside-capped : (most wide n : ℕ) → most ≤ combMost → beside most (min wide combMost) n ≡ beside most wide n
+pub beside-capped : (most wide n : ℕ) → most ≤ comb_most → beside most (min wide comb_most) n ≡ beside most wide n
 unfolding beside
 beside-capped most wide n h = omega arith
 
 -- every tuning lies where that holds
-pub tuned-at : (l : List ℕ) (i : ℕ) → tuned l ≡ true → i < length l → (leastTuning ≤ get_or l i 0) × (get_or l i 0 ≤ mostTuning)
+pub tuned-at : (l : List ℕ) (i : ℕ) → tuned l ≡ true → i < length l → (least_tuning ≤ get_or l i 0) × (get_or l i 0 ≤ most_tuning)
 unfolding tuned
 tuned-at [] i e h = absurd (not-suc-le-zero h)
 tuned-at (b ∷ l) zero e h =
-    let a = both (leb leastTuning b) (leb b mostTuning && tuned l) e in
-    (leb-true leastTuning b a.0, leb-true b mostTuning (both (leb b mostTuning) (tuned l) a.1).0)
-tuned-at (b ∷ l) (suc i) e h = tuned-at l i (both (leb b mostTuning) (tuned l) (both (leb leastTuning b) (leb b mostTuning && tuned l) e).1).1 (le_of_suc-le-suc h)
+    let a = both (leb least_tuning b) (leb b most_tuning && tuned l) e in
+    (leb-true least_tuning b a.0, leb-true b most_tuning (both (leb b most_tuning) (tuned l) a.1).0)
+tuned-at (b ∷ l) (suc i) e h = tuned-at l i (both (leb b most_tuning) (tuned l) (both (leb least_tuning b) (leb b most_tuning && tuned l) e).1).1 (le_of_suc-le-suc h)
 
 -- ---- the lengths of lines, of either side
 
@@ -66,14 +66,14 @@ mapped-most f most (b ∷ l) zero h = h b
 mapped-most f most (b ∷ l) (suc i) h = mapped-most f most l i h
 
 -- none is longer than its cap
-pub lines-most : (most : ℕ) (tunings : List ℕ) (side : Side) (rate : Float) (i : ℕ) → get_or (lineLengths most tunings side rate) i 0 ≤ most
+pub lines-most : (most : ℕ) (tunings : List ℕ) (side : Side) (rate : Float) (i : ℕ) → get_or (line_lengths most tunings side rate) i 0 ≤ most
 unfolding scaled beside
 lines-most most tunings left rate i = mapped-most (scaled most (ratio rate)) most tunings i (λ b. min-le_right _ _)
 lines-most most tunings right rate i =
     mapped-most (λ base. beside most (spread (ratio rate)) (scaled most (ratio rate) base)) most tunings i (λ b. min-le_right _ _)
 
 -- as many as tunings
-pub length-lines : (most : ℕ) (tunings : List ℕ) (side : Side) (rate : Float) → length (lineLengths most tunings side rate) ≡ length tunings
+pub length-lines : (most : ℕ) (tunings : List ℕ) (side : Side) (rate : Float) → length (line_lengths most tunings side rate) ≡ length tunings
 length-lines most tunings left rate = length-map tunings _
 length-lines most tunings right rate = length-map tunings _
 
@@ -83,14 +83,14 @@ unfolding all_below
 zeros-below f [] h = refl
 zeros-below f (b ∷ l) h = rw (lt-ltb 0 (f b) (h 0 (omega arith))) (zeros-below f l (λ i k. h (suc i) (omega arith)))
 
-pub lines-some : (most : ℕ) (tunings : List ℕ) (side : Side) (rate : Float) → 1 ≤ most → tuned tunings ≡ true → rateFits rate ≡ true
-    → all_below (replicate (length tunings) 0) (lineLengths most tunings side rate) ≡ true
+pub lines-some : (most : ℕ) (tunings : List ℕ) (side : Side) (rate : Float) → 1 ≤ most → tuned tunings ≡ true → rate_fits rate ≡ true
+    → all_below (replicate (length tunings) 0) (line_lengths most tunings side rate) ≡ true
 lines-some most tunings side rate h t k = go side
   where
     some : (i : ℕ) → i < length tunings → 1 ≤ scaled most (ratio rate) (get_or tunings i 0)
     some i l = let b = tuned-at tunings i t l in scaled-some most (ratio rate) (get_or tunings i 0) h b.0 b.1 (ratio-fits rate k)
 
-    go : (w : Side) → all_below (replicate (length tunings) 0) (lineLengths most tunings w rate) ≡ true
+    go : (w : Side) → all_below (replicate (length tunings) 0) (line_lengths most tunings w rate) ≡ true
     go left = zeros-below (scaled most (ratio rate)) tunings some
     go right =
         zeros-below (λ base. beside most (spread (ratio rate)) (scaled most (ratio rate) base)) tunings (λ i l. beside-some most (spread (ratio rate)) _ h (some i l))
@@ -98,21 +98,21 @@ lines-some most tunings side rate h t k = go side
 -- ---- every line, as the code finds them
 
 -- at a rate that is a whole number and fits
-pub lengths-at : (n : ℕ) {rate : Float} → rateFits (float_of n) ≡ true → rate ≡ float_of n → lengthsAt (float_of n) ≡ lengthsFor rate
+pub lengths-at : (n : ℕ) {rate : Float} → rate_fits (float_of n) ≡ true → rate ≡ float_of n → lengths_at (float_of n) ≡ lengths_for rate
 lengths-at n h e = rw (e, h)
 
 -- at any rate that fits
-pub lengths-are : (rate : Float) {n : Lengths} → rateFits rate ≡ true → n ≡ lengthsFor rate → n ≡ lengthsAt rate
+pub lengths-are : (rate : Float) {n : Lengths} → rate_fits rate ≡ true → n ≡ lengths_for rate → n ≡ lengths_at rate
 lengths-are rate h e = rw h at e
 
 -- they have room in the tank
-pub roomy : {n : Lengths} (rate : Float) → n ≡ lengthsAt rate → Roomy n
+pub roomy : {n : Lengths} (rate : Float) → n ≡ lengths_at rate → Roomy n
 roomy rate e = subst Roomy (sym e) (record { combs = combs; allpasses = allpasses })
   where
-    combs : (side : Side) → Capped combMost (sided (lengthsAt rate).comb_l (lengthsAt rate).comb_r side)
-    combs left = lines-most combMost combTunings left rate
-    combs right = lines-most combMost combTunings right rate
+    combs : (side : Side) → Capped comb_most (sided (lengths_at rate).comb_l (lengths_at rate).comb_r side)
+    combs left = lines-most comb_most comb_tunings left rate
+    combs right = lines-most comb_most comb_tunings right rate
 
-    allpasses : (side : Side) → Capped allpassMost (sided (lengthsAt rate).allpass_l (lengthsAt rate).allpass_r side)
-    allpasses left = lines-most allpassMost allpassTunings left rate
-    allpasses right = lines-most allpassMost allpassTunings right rate
+    allpasses : (side : Side) → Capped allpass_most (sided (lengths_at rate).allpass_l (lengths_at rate).allpass_r side)
+    allpasses left = lines-most allpass_most allpass_tunings left rate
+    allpasses right = lines-most allpass_most allpass_tunings right rate

@@ -5,41 +5,41 @@ use Rattle.std.specs.Prelude.{ℕ, List, slice_index_or, slice_set, Float}
 use Rattle.std.specs.Float.{nan, binary64}
 use Rattle.std.specs.Float.Ieee.{add, sub, mul, neg}
 use Rattle.float64.specs.Number.{float_of, half}
-use Rattle.common.specs.Line.{nextPlace}
+use Rattle.common.specs.Line.{next_place}
 use Rattle.reverb.specs.declared.filters.Combed.{Combed}
 use Rattle.reverb.specs.declared.filters.Passed.{Passed}
 
 -- ---- the comb, which answers what its place held
 
 -- the damping store after a step: answer × (1 − damping) + store × damping
-unfoldable pub combStore : Float → Float → Float → Float
-combStore held store damping = add binary64 (mul binary64 held (sub binary64 (float_of 1) damping)) (mul binary64 store damping)
+unfoldable pub comb_store : Float → Float → Float → Float
+comb_store held store damping = add binary64 (mul binary64 held (sub binary64 (float_of 1) damping)) (mul binary64 store damping)
 
 -- what the place gets: input + the new store × feedback
-unfoldable pub combFed : Float → Float → Float → Float
-combFed input store feedback = add binary64 input (mul binary64 store feedback)
+unfoldable pub comb_fed : Float → Float → Float → Float
+comb_fed input store feedback = add binary64 input (mul binary64 store feedback)
 
 -- a step at the position pos of a line, whose place there held so much: what it answers, the next store and the next position
 unfoldable pub combed : Float → ℕ → ℕ → Float → Float → Combed
-combed held n pos store damping = record { output = held; filter_state = combStore held store damping; pos = nextPlace n pos }
+combed held n pos store damping = record { output = held; filter_state = comb_store held store damping; pos = next_place n pos }
 
 -- and the places that it leaves, of which the one at p is its own
-unfoldable pub combLine : List Float → ℕ → Float → Float → Float → Float → List Float
-combLine m p store input damping feedback = slice_set m p (combFed input (combStore (slice_index_or m p nan) store damping) feedback)
+unfoldable pub comb_line : List Float → ℕ → Float → Float → Float → Float → List Float
+comb_line m p store input damping feedback = slice_set m p (comb_fed input (comb_store (slice_index_or m p nan) store damping) feedback)
 
 -- ---- the all-pass
 
 -- −input + what its place held
-unfoldable pub passOutput : Float → Float → Float
-passOutput input held = add binary64 (neg input) held
+unfoldable pub pass_output : Float → Float → Float
+pass_output input held = add binary64 (neg input) held
 
 -- what the place gets: input + what it held × 0.5
-unfoldable pub passFed : Float → Float → Float
-passFed input held = add binary64 input (mul binary64 held half)
+unfoldable pub pass_fed : Float → Float → Float
+pass_fed input held = add binary64 input (mul binary64 held half)
 
 -- a step, as of a comb
 unfoldable pub passed : Float → ℕ → ℕ → Float → Passed
-passed held n pos input = record { output = passOutput input held; pos = nextPlace n pos }
+passed held n pos input = record { output = pass_output input held; pos = next_place n pos }
 
-unfoldable pub passLine : List Float → ℕ → Float → List Float
-passLine m p input = slice_set m p (passFed input (slice_index_or m p nan))
+unfoldable pub pass_line : List Float → ℕ → Float → List Float
+pass_line m p input = slice_set m p (pass_fed input (slice_index_or m p nan))

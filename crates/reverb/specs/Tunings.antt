@@ -2,7 +2,7 @@
 use Rattle.std.specs.Prelude.{ℕ, ◌+◌, ◌-◌, ◌≤◌, min, max, Bool, true, cond, ◌&&◌, List, [], ◌∷◌, map, replicate, nat_le, slice_index, Float}
 use Rattle.std.specs.Float.{binary64}
 use Rattle.std.specs.Float.Ieee.{mul, div}
-use Rattle.float64.specs.Number.{float_of, rateFits, wholePart, roundHalfAway}
+use Rattle.float64.specs.Number.{float_of, rate_fits, whole_part, round_half_away}
 use Rattle.reverb.specs.declared.tunings.Lengths.{Lengths}
 
 pub data Side : Type 0 where
@@ -16,40 +16,40 @@ sided l r right = r
 
 -- ---- the limits: the places that a line has in the tank, and the longest line, which leaves one of them over
 
-abbrev pub combSize : ℕ
-combSize = 4096
+abbrev pub comb_size : ℕ
+comb_size = 4096
 
-abbrev pub combMost : ℕ
-combMost = combSize - 1
+abbrev pub comb_most : ℕ
+comb_most = comb_size - 1
 
-abbrev pub allpassSize : ℕ
-allpassSize = 1500
+abbrev pub allpass_size : ℕ
+allpass_size = 1500
 
-abbrev pub allpassMost : ℕ
-allpassMost = allpassSize - 1
+abbrev pub allpass_most : ℕ
+allpass_most = allpass_size - 1
 
 -- the predelay's line is all its places
-abbrev pub predelaySize : ℕ
-predelaySize = 9600
+abbrev pub predelay_size : ℕ
+predelay_size = 9600
 
 -- ---- lengths at 44,100, from 225 to 1617
 
-abbrev pub combTunings : List ℕ
-combTunings = 1116 ∷ 1188 ∷ 1277 ∷ 1356 ∷ 1422 ∷ 1491 ∷ 1557 ∷ 1617 ∷ []
+abbrev pub comb_tunings : List ℕ
+comb_tunings = 1116 ∷ 1188 ∷ 1277 ∷ 1356 ∷ 1422 ∷ 1491 ∷ 1557 ∷ 1617 ∷ []
 
-abbrev pub allpassTunings : List ℕ
-allpassTunings = 556 ∷ 441 ∷ 341 ∷ 225 ∷ []
+abbrev pub allpass_tunings : List ℕ
+allpass_tunings = 556 ∷ 441 ∷ 341 ∷ 225 ∷ []
 
-abbrev pub leastTuning : ℕ
-leastTuning = 225
+abbrev pub least_tuning : ℕ
+least_tuning = 225
 
-abbrev pub mostTuning : ℕ
-mostTuning = 1617
+abbrev pub most_tuning : ℕ
+most_tuning = 1617
 
 -- whether tunings lie between these, where `whole_part_small` serves
 unfoldable pub tuned : List ℕ → Bool
 tuned [] = true
-tuned (base ∷ bases) = nat_le leastTuning base && (nat_le base mostTuning && tuned bases)
+tuned (base ∷ bases) = nat_le least_tuning base && (nat_le base most_tuning && tuned bases)
 
 -- ---- lengths at a rate
 
@@ -59,46 +59,46 @@ ratio rate = div binary64 rate (float_of 44100)
 
 -- base × ratio cut to its whole part, at most `most`
 unfoldable pub scaled : ℕ → Float → ℕ → ℕ
-scaled most r base = min (wholePart (mul binary64 (float_of base) r)) most
+scaled most r base = min (whole_part (mul binary64 (float_of base) r)) most
 
 -- 23 × ratio, rounded half away from zero, at least 1
 unfoldable pub spread : Float → ℕ
-spread r = max (roundHalfAway (mul binary64 (float_of 23) r)) 1
+spread r = max (round_half_away (mul binary64 (float_of 23) r)) 1
 
 -- a left length plus the spread, under the same cap
 unfoldable pub beside : ℕ → ℕ → ℕ → ℕ
 beside most wide n = min (n + wide) most
 
 -- the lengths of the lines that have these tunings, at most `most`
-abbrev pub lineLengths : ℕ → List ℕ → Side → Float → List ℕ
-lineLengths most tunings left rate = map (scaled most (ratio rate)) tunings
-lineLengths most tunings right rate = map (λ base. beside most (spread (ratio rate)) (scaled most (ratio rate) base)) tunings
+abbrev pub line_lengths : ℕ → List ℕ → Side → Float → List ℕ
+line_lengths most tunings left rate = map (scaled most (ratio rate)) tunings
+line_lengths most tunings right rate = map (λ base. beside most (spread (ratio rate)) (scaled most (ratio rate) base)) tunings
 
-abbrev pub combLengths : Side → Float → List ℕ
-combLengths side rate = lineLengths combMost combTunings side rate
+abbrev pub comb_lengths : Side → Float → List ℕ
+comb_lengths side rate = line_lengths comb_most comb_tunings side rate
 
-abbrev pub allpassLengths : Side → Float → List ℕ
-allpassLengths side rate = lineLengths allpassMost allpassTunings side rate
+abbrev pub allpass_lengths : Side → Float → List ℕ
+allpass_lengths side rate = line_lengths allpass_most allpass_tunings side rate
 
 -- ---- as the code hands them on
 
-abbrev pub lengthsAt : Float → Lengths
-lengthsAt rate =
+abbrev pub lengths_at : Float → Lengths
+lengths_at rate =
     record {
-      comb_l = combLengths left rate;
-      comb_r = combLengths right rate;
-      allpass_l = allpassLengths left rate;
-      allpass_r = allpassLengths right rate;
+      comb_l = comb_lengths left rate;
+      comb_r = comb_lengths right rate;
+      allpass_l = allpass_lengths left rate;
+      allpass_r = allpass_lengths right rate;
     }
 
 -- at a refused rate
-abbrev pub noLengths : Lengths
-noLengths =
+abbrev pub no_lengths : Lengths
+no_lengths =
     record { comb_l = replicate 8 0; comb_r = replicate 8 0; allpass_l = replicate 4 0; allpass_r = replicate 4 0 }
 
 -- as the code finds them: none at a refused rate
-abbrev pub lengthsFor : Float → Lengths
-lengthsFor rate = cond (rateFits rate) (lengthsAt rate) noLengths
+abbrev pub lengths_for : Float → Lengths
+lengths_for rate = cond (rate_fits rate) (lengths_at rate) no_lengths
 
 -- no length of these is more than `most`
 abbrev pub Capped : ℕ → List ℕ → Type 0
@@ -106,5 +106,5 @@ Capped most lengths = (i : ℕ) → slice_index lengths i ≤ most
 
 -- every line has room in the tank
 pub record Roomy (n : Lengths) : Type 0 where
-  pub combs : (side : Side) → Capped combMost (sided n.comb_l n.comb_r side)
-  pub allpasses : (side : Side) → Capped allpassMost (sided n.allpass_l n.allpass_r side)
+  pub combs : (side : Side) → Capped comb_most (sided n.comb_l n.comb_r side)
+  pub allpasses : (side : Side) → Capped allpass_most (sided n.allpass_l n.allpass_r side)

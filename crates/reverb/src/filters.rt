@@ -2,10 +2,10 @@
 ghost use Rattle.std.specs.Prelude.{◌≡◌, ◌+◌, ◌<◌, ◌≤◌};
 ghost use Rattle.std.proofs.Math.ListN as ListN;
 ghost use Rattle.std.specs.Float.{nan};
-ghost use Rattle.reverb.specs.Tunings.{combSize, allpassSize, predelaySize};
-ghost use Rattle.reverb.specs.Freeverb.{combed, combLine, passed, passLine};
+ghost use Rattle.reverb.specs.Tunings.{comb_size, allpass_size, predelay_size};
+ghost use Rattle.reverb.specs.Freeverb.{combed, comb_line, passed, pass_line};
 ghost use Rattle.reverb.specs.Tank.{delayed};
-ghost use Rattle.reverb.specs.Reverb.{delaySamples};
+ghost use Rattle.reverb.specs.Reverb.{delay_samples};
 
 use crate::Reverb;
 
@@ -37,7 +37,7 @@ fn process_comb(
     requires pos_lt_n { pos < n }
     requires n_bound { n ≤ ListN.length line.old }
     ensures value { result ≡ combed (ListN.get_or line.old pos nan) n pos filter_state damping }
-    ensures line_after { line.new ≡ combLine line.old pos filter_state input damping feedback }
+    ensures line_after { line.new ≡ comb_line line.old pos filter_state input damping feedback }
 {
     let w = pos as usize;
     let output = line[w];
@@ -62,10 +62,10 @@ pub fn comb_at(
     damping: f64,
 ) -> Combed
     requires pos_lt_n { pos < n }
-    requires n_le_comb_size { n ≤ combSize }
-    requires comb_size_bound { o + combSize ≤ ListN.length mem.old }
+    requires n_le_comb_size { n ≤ comb_size }
+    requires comb_size_bound { o + comb_size ≤ ListN.length mem.old }
     ensures value { result ≡ combed (ListN.get_or mem.old (o + pos) nan) n pos filter_state damping }
-    ensures mem_after { mem.new ≡ combLine mem.old (o + pos) filter_state input damping feedback }
+    ensures mem_after { mem.new ≡ comb_line mem.old (o + pos) filter_state input damping feedback }
 {
     let e = o + Reverb::MAX_COMB_SIZE;
     process_comb(
@@ -84,7 +84,7 @@ fn process_allpass(line: &mut [f64], pos: u64, input: f64, n: u64) -> Passed
     requires pos_lt_n { pos < n }
     requires n_bound { n ≤ ListN.length line.old }
     ensures value { result ≡ passed (ListN.get_or line.old pos nan) n pos input }
-    ensures line_after { line.new ≡ passLine line.old pos input }
+    ensures line_after { line.new ≡ pass_line line.old pos input }
 {
     let w = pos as usize;
     let buffered = line[w];
@@ -98,10 +98,10 @@ fn process_allpass(line: &mut [f64], pos: u64, input: f64, n: u64) -> Passed
 // The all-pass whose part of the tank starts at place o.
 pub fn allpass_at(mem: &mut [f64], o: usize, pos: u64, input: f64, n: u64) -> Passed
     requires pos_lt_n { pos < n }
-    requires n_le_allpass_size { n ≤ allpassSize }
-    requires allpass_size_bound { o + allpassSize ≤ ListN.length mem.old }
+    requires n_le_allpass_size { n ≤ allpass_size }
+    requires allpass_size_bound { o + allpass_size ≤ ListN.length mem.old }
     ensures value { result ≡ passed (ListN.get_or mem.old (o + pos) nan) n pos input }
-    ensures mem_after { mem.new ≡ passLine mem.old (o + pos) input }
+    ensures mem_after { mem.new ≡ pass_line mem.old (o + pos) input }
 {
     let e = o + Reverb::MAX_ALLPASS_SIZE;
     process_allpass(&mut mem[o..e], pos, input, n)
@@ -109,7 +109,7 @@ pub fn allpass_at(mem: &mut [f64], o: usize, pos: u64, input: f64, n: u64) -> Pa
 
 // The predelay's delay in samples, from 0 to the cap: below 1 it is none, from 1 on `whole_part_small` serves, which takes fewer steps than `whole_part`.
 pub fn predelay_samples(control: f64, rate: f64) -> u64
-    ensures { result ≡ delaySamples control rate }
+    ensures { result ≡ delay_samples control rate }
 {
     let samples = float64::at_most(control * 0.1 * rate, Reverb::MAX_PREDELAY_SAMPLES);
     if samples >= 1.0 {
@@ -120,9 +120,9 @@ pub fn predelay_samples(control: f64, rate: f64) -> u64
 
 // The predelay on its part of the tank: it writes first, so that a delay of 0 passes the audio itself.
 fn process_predelay(line: &mut [f64], pos: u64, samples: u64, input: f64) -> f64
-    requires line_value { ListN.length line.old ≡ predelaySize }
-    requires pos_lt_predelay_size { pos < predelaySize }
-    requires samples_lt_predelay_size { samples < predelaySize }
+    requires line_value { ListN.length line.old ≡ predelay_size }
+    requires pos_lt_predelay_size { pos < predelay_size }
+    requires samples_lt_predelay_size { samples < predelay_size }
     ensures value { result ≡ delayed 0 pos samples input line.old }
     ensures line_after { line.new ≡ ListN.set line.old pos input }
 {
@@ -142,9 +142,9 @@ fn process_predelay(line: &mut [f64], pos: u64, samples: u64, input: f64) -> f64
 
 // The predelay whose part of the tank starts at place o.
 pub fn predelay_at(mem: &mut [f64], o: usize, pos: u64, samples: u64, input: f64) -> f64
-    requires pos_lt_predelay_size { pos < predelaySize }
-    requires samples_lt_predelay_size { samples < predelaySize }
-    requires predelay_size_bound { o + predelaySize ≤ ListN.length mem.old }
+    requires pos_lt_predelay_size { pos < predelay_size }
+    requires samples_lt_predelay_size { samples < predelay_size }
+    requires predelay_size_bound { o + predelay_size ≤ ListN.length mem.old }
     ensures value { result ≡ delayed o pos samples input mem.old }
     ensures mem_after { mem.new ≡ ListN.set mem.old (o + pos) input }
 {

@@ -1,14 +1,14 @@
 // The reverb: a predelay, and on each side eight combs in parallel and four all-passes in series, in one lent tank. The state goes in and out
 // by value, but for `tick_in_place` of tick.rt.
 ghost use Rattle.std.specs.Prelude.{◌≡◌, if◌then◌else◌};
-ghost use Rattle.float64.specs.Number.{rateFits};
-ghost use Rattle.port.specs.Answer.{number_of, outcomeReply, silenceReply};
-ghost use Rattle.effect.specs.Run.{retune, reset, ask, ifNone, startNumber, number_in};
+ghost use Rattle.float64.specs.Number.{rate_fits};
+ghost use Rattle.port.specs.Answer.{number_of, outcome_reply, silence_reply};
+ghost use Rattle.effect.specs.Run.{retune, reset, ask, if_none, start_number, number_in};
 ghost use Rattle.effect.specs.Contract.{Does, Starts};
-ghost use Rattle.effect.specs.Needed.{placesNeeded};
-ghost use Rattle.reverb.specs.Tunings.{lengthsFor};
-ghost use Rattle.reverb.specs.Tank.{tankSize};
-ghost use Rattle.reverb.specs.Reverb.{reverb, fresh, stateFits};
+ghost use Rattle.effect.specs.Needed.{places_needed};
+ghost use Rattle.reverb.specs.Tunings.{lengths_for};
+ghost use Rattle.reverb.specs.Tank.{tank_size};
+ghost use Rattle.reverb.specs.Reverb.{reverb, fresh, state_fits};
 
 mod filters;
 mod tank;
@@ -82,7 +82,7 @@ impl Reverb {
 
     // The places of the tank; 0 at a refused rate.
     fn tank_size(rate: f64) -> u64
-        ensures { result ≡ (if rateFits rate then tankSize else 0) }
+        ensures { result ≡ (if rate_fits rate then tank_size else 0) }
     {
         if float64::rate_fits(rate) {
             Reverb::PLACES
@@ -93,7 +93,7 @@ impl Reverb {
 
     // The places that a start needs, the same at every rate; 2^64 - 1 for a rate that is refused.
     pub fn places_needed(rate: f64) -> u64
-        ensures { result ≡ placesNeeded reverb rate }
+        ensures { result ≡ places_needed reverb rate }
     {
         effect::places_or_none(Reverb::tank_size(rate))
     }
@@ -116,7 +116,7 @@ impl Reverb {
 
     // Causes 1 and 3: a rate that is refused, and memory that is too short.
     fn rate_refusal(rate: f64, places: usize) -> Outcome
-        ensures { number_of result ≡ startNumber reverb rate places }
+        ensures { number_of result ≡ start_number reverb rate places }
     {
         effect::check_rate(Reverb::tank_size(rate), places)
     }
@@ -124,7 +124,7 @@ impl Reverb {
     // What a retune or a reset returns, by the outcome of its tests: the fresh state at the rate, or the one that was there. The
     // fresh one is made here, as a state is large, and two of them by value would be copied.
     fn settled(outcome: Outcome, rate: f64, kept: Reverb) -> Cleared
-        ensures { (result.state ≡ ifNone (number_of outcome) (fresh rate) kept) × (result.outcome ≡ outcome) }
+        ensures { (result.state ≡ if_none (number_of outcome) (fresh rate) kept) × (result.outcome ≡ outcome) }
     {
         if let Outcome::Accepted = outcome {
             return Cleared {
@@ -140,7 +140,7 @@ impl Reverb {
 
     // Start: a clearing at the rate.
     pub fn new(sample_rate: f64, mem: &mut [f64]) -> Cleared
-        ensures { Starts reverb sample_rate mem.old result.state mem.new (outcomeReply result.outcome) }
+        ensures { Starts reverb sample_rate mem.old result.state mem.new (outcome_reply result.outcome) }
     {
         let outcome = Reverb::rate_refusal(sample_rate, mem.len());
         effect::clear(outcome, mem);
@@ -157,8 +157,8 @@ impl Reverb {
 
     // The state test, by every line's length. The stores may hold any float.
     fn state_fits(self, n: Lengths) -> bool
-        requires { n ≡ lengthsFor self.sample_rate }
-        ensures { result ≡ stateFits self }
+        requires { n ≡ lengths_for self.sample_rate }
+        ensures { result ≡ state_fits self }
     {
         let w0 = self.comb_pos_l;
         let w1 = self.comb_pos_r;
@@ -169,7 +169,7 @@ impl Reverb {
 
     // Causes 4 and 3: a state that fails its test, and memory that is too short.
     fn refusal(self, n: Lengths, places: usize) -> Outcome
-        requires { n ≡ lengthsFor self.sample_rate }
+        requires { n ≡ lengths_for self.sample_rate }
         ensures { number_of result ≡ number_in reverb reset places self }
     {
         effect::check_state(
@@ -181,7 +181,7 @@ impl Reverb {
     // Retune: a clearing at another rate.
     pub fn set_sample_rate(self, sample_rate: f64, mem: &mut [f64]) -> Cleared
         ensures { Does reverb (retune sample_rate) self mem.old result.state mem.new
-            (outcomeReply result.outcome) }
+            (outcome_reply result.outcome) }
     {
         let n = tunings::scaled_lengths(self.sample_rate);
         let others = Reverb::rate_refusal(sample_rate, mem.len());
@@ -192,7 +192,7 @@ impl Reverb {
 
     // Reset: a clearing at the rate in force.
     pub fn reset(self, mem: &mut [f64]) -> Cleared
-        ensures { Does reverb reset self mem.old result.state mem.new (outcomeReply result.outcome) }
+        ensures { Does reverb reset self mem.old result.state mem.new (outcome_reply result.outcome) }
     {
         let n = tunings::scaled_lengths(self.sample_rate);
         let outcome = self.refusal(n, mem.len());
@@ -202,7 +202,7 @@ impl Reverb {
 
     // Silent? Whether every place in use is +0 or -0.
     pub fn silent(self, mem: &[f64]) -> Silence
-        ensures { Does reverb ask self mem.now self mem.now (silenceReply result) }
+        ensures { Does reverb ask self mem.now self mem.now (silence_reply result) }
     {
         let n = tunings::scaled_lengths(self.sample_rate);
         let outcome = self.refusal(n, mem.len());

@@ -1,8 +1,8 @@
-// The tank: eight left combs, eight right, four left all-passes, four right, and the predelay, in one lentAt memory; a step of its lines, and their tests.
+// The tank: eight left combs, eight right, four left all-passes, four right, and the predelay, in one lent_at memory; a step of its lines, and their tests.
 ghost use Rattle.std.specs.Prelude.{◌≡◌, ◌+◌, ◌*◌, ◌<◌, ◌≤◌};
 ghost use Rattle.std.proofs.Math.ListN as ListN;
-ghost use Rattle.reverb.specs.Tunings.{combMost, allpassMost, Capped, Roomy, sided};
-ghost use Rattle.reverb.specs.Tank.{tankSize, combLines, allpassLines, all_below, positionsFit, InLines, CombsStep, AllpassesStep, linesZero, silence};
+ghost use Rattle.reverb.specs.Tunings.{comb_most, allpass_most, Capped, Roomy, sided};
+ghost use Rattle.reverb.specs.Tank.{tank_size, comb_lines, allpass_lines, all_below, positions_fit, InLines, CombsStep, AllpassesStep, lines_zero, silence};
 
 use crate::Reverb;
 use crate::filters::{allpass_at, comb_at};
@@ -38,7 +38,7 @@ pub fn positions_fit(
     predelay: u64,
     n: Lengths,
 ) -> bool
-    ensures { result ≡ positionsFit comb_l.now comb_r.now
+    ensures { result ≡ positions_fit comb_l.now comb_r.now
         allpass_l.now allpass_r.now predelay n }
 {
     let n0 = n.comb_l;
@@ -63,11 +63,11 @@ pub fn combs(
     feedback: f64,
     damping: f64,
 ) -> Sides
-    requires in_lines { InLines 8 combMost (combLines pos_l.old pos_r.old n) }
+    requires in_lines { InLines 8 comb_most (comb_lines pos_l.old pos_r.old n) }
     requires filter_state_l_value { ListN.length filter_state_l.old ≡ 8 }
     requires filter_state_r_value { ListN.length filter_state_r.old ≡ 8 }
-    requires tank_size_bound { tankSize ≤ ListN.length mem.old }
-    ensures { CombsStep input damping feedback (combLines pos_l.old pos_r.old n)
+    requires tank_size_bound { tank_size ≤ ListN.length mem.old }
+    ensures { CombsStep input damping feedback (comb_lines pos_l.old pos_r.old n)
         (sided filter_state_l.old filter_state_r.old) mem.old
         (sided pos_l.new pos_r.new) (sided filter_state_l.new filter_state_r.new)
         mem.new result }
@@ -107,9 +107,9 @@ pub fn allpasses(
     input_l: f64,
     input_r: f64,
 ) -> Sides
-    requires in_lines { InLines 4 allpassMost (allpassLines pos_l.old pos_r.old n) }
-    requires tank_size_bound { tankSize ≤ ListN.length mem.old }
-    ensures { AllpassesStep (sided input_l input_r) (allpassLines pos_l.old pos_r.old n)
+    requires in_lines { InLines 4 allpass_most (allpass_lines pos_l.old pos_r.old n) }
+    requires tank_size_bound { tank_size ≤ ListN.length mem.old }
+    ensures { AllpassesStep (sided input_l input_r) (allpass_lines pos_l.old pos_r.old n)
         mem.old (sided pos_l.new pos_r.new) mem.new result }
 {
     let mut output_l = input_l;
@@ -138,7 +138,7 @@ pub fn allpasses(
 fn lines_zero(mem: &[f64], o: usize, apart: usize, lengths: &[u16]) -> bool
     requires apart_bound { o + ListN.length lengths.now * apart ≤ ListN.length mem.now }
     requires capped { Capped apart lengths.now }
-    ensures { result ≡ linesZero o apart lengths.now mem.now }
+    ensures { result ≡ lines_zero o apart lengths.now mem.now }
 {
     let mut at = o;
     let mut i: usize = 0;
@@ -156,7 +156,7 @@ fn lines_zero(mem: &[f64], o: usize, apart: usize, lengths: &[u16]) -> bool
 // Whether every place in use is +0 or -0.
 pub fn all_silent(n: Lengths, mem: &[f64]) -> bool
     requires roomy { Roomy n }
-    requires tank_size_bound { tankSize ≤ ListN.length mem.now }
+    requires tank_size_bound { tank_size ≤ ListN.length mem.now }
     ensures { result ≡ silence n mem.now }
 {
     let n0 = n.comb_l;

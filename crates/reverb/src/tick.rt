@@ -2,12 +2,12 @@
 ghost use Rattle.std.specs.Prelude.{◌≡◌, ◌≤◌, true};
 ghost use Rattle.std.proofs.Math.ListN as ListN;
 ghost use Rattle.float64.specs.Number.{is_number};
-ghost use Rattle.port.specs.Answer.{answerReply};
+ghost use Rattle.port.specs.Answer.{answer_reply};
 ghost use Rattle.effect.specs.Run.{tick};
-ghost use Rattle.effect.specs.Contract.{Does, lent_at, fromTo};
-ghost use Rattle.reverb.specs.Tunings.{lengthsAt};
-ghost use Rattle.reverb.specs.Tank.{tankSize};
-ghost use Rattle.reverb.specs.Reverb.{reverb, tickOf, controlsOf, state_of, stateFits, Advances};
+ghost use Rattle.effect.specs.Contract.{Does, lent_at, from_to};
+ghost use Rattle.reverb.specs.Tunings.{lengths_at};
+ghost use Rattle.reverb.specs.Tank.{tank_size};
+ghost use Rattle.reverb.specs.Reverb.{reverb, tick_of, controls_of, state_of, state_fits, Advances};
 
 use crate::filters::{predelay_at, predelay_samples};
 use crate::tank::{allpasses, combs, positions_fit};
@@ -27,7 +27,7 @@ pub struct Controls {
 
 // The tick's ports taken apart: the number of each, or its default.
 pub fn controls_of(audio: Port, size: Port, damping: Port, mix: Port, predelay: Port) -> Controls
-    ensures { result ≡ controlsOf (tickOf audio size damping mix predelay) }
+    ensures { result ≡ controls_of (tick_of audio size damping mix predelay) }
 {
     let audio = if let Port::Set(x) = audio { x } else { 0.0 };
     let size = if let Port::Set(x) = size { x } else { 0.5 };
@@ -57,14 +57,14 @@ pub fn advance(
     mem: &mut [f64],
     c: Controls,
 ) -> Answer
-    requires n_value { n ≡ lengthsAt rate }
-    requires rate_value { stateFits (state_of comb_pos_l.old comb_pos_r.old comb_filter_state_l.old comb_filter_state_r.old
+    requires n_value { n ≡ lengths_at rate }
+    requires rate_value { state_fits (state_of comb_pos_l.old comb_pos_r.old comb_filter_state_l.old comb_filter_state_r.old
         allpass_pos_l.old allpass_pos_r.old predelay_pos.old rate) ≡ true }
-    requires tank_size_bound { tankSize ≤ ListN.length mem.old }
+    requires tank_size_bound { tank_size ≤ ListN.length mem.old }
     requires predelay_value { is_number c.predelay ≡ true }
-    ensures { fromTo (λ k. state_of (lent_at comb_pos_l k) (lent_at comb_pos_r k) (lent_at comb_filter_state_l k)
+    ensures { from_to (λ k. state_of (lent_at comb_pos_l k) (lent_at comb_pos_r k) (lent_at comb_filter_state_l k)
         (lent_at comb_filter_state_r k) (lent_at allpass_pos_l k) (lent_at allpass_pos_r k) (lent_at predelay_pos k) rate)
-        (λ s s'. Advances c s mem.old s' mem.new (answerReply result)) }
+        (λ s s'. Advances c s mem.old s' mem.new (answer_reply result)) }
 {
     let input = common::sanitize_audio(c.audio);
     let feedback = 0.28 + float64::clamp(c.size, 0.0, 1.0) * 0.7;
@@ -112,9 +112,9 @@ impl Reverb {
         mix: Port,
         predelay: Port,
     ) -> Answer
-        ensures { fromTo (λ k. state_of (lent_at comb_pos_l k) (lent_at comb_pos_r k) (lent_at comb_filter_state_l k)
+        ensures { from_to (λ k. state_of (lent_at comb_pos_l k) (lent_at comb_pos_r k) (lent_at comb_filter_state_l k)
             (lent_at comb_filter_state_r k) (lent_at allpass_pos_l k) (lent_at allpass_pos_r k) (lent_at predelay_pos k) rate)
-            (λ s s'. Does reverb (tick (tickOf audio size damping mix predelay)) s mem.old s' mem.new (answerReply result)) }
+            (λ s s'. Does reverb (tick (tick_of audio size damping mix predelay)) s mem.old s' mem.new (answer_reply result)) }
     {
         let n = lengths_at(rate);
         let fits = positions_fit(
@@ -167,8 +167,8 @@ impl Reverb {
         mix: Port,
         predelay: Port,
     ) -> Ticked
-        ensures { Does reverb (tick (tickOf audio size damping mix predelay)) self mem.old
-            result.state mem.new (answerReply result.answer) }
+        ensures { Does reverb (tick (tick_of audio size damping mix predelay)) self mem.old
+            result.state mem.new (answer_reply result.answer) }
     {
         let mut comb_pos_l = self.comb_pos_l;
         let mut comb_pos_r = self.comb_pos_r;

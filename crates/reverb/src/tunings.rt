@@ -2,7 +2,7 @@
 ghost use Rattle.std.specs.Prelude.{◌≡◌, ◌≤◌, min, true, map};
 ghost use Rattle.std.proofs.Math.ListN as ListN;
 ghost use Rattle.float64.specs.Number.{float_of, fraction, in_range};
-ghost use Rattle.reverb.specs.Tunings.{combMost, leastTuning, mostTuning, scaled, spread, beside, lengthsFor, tuned};
+ghost use Rattle.reverb.specs.Tunings.{comb_most, least_tuning, most_tuning, scaled, spread, beside, lengths_for, tuned};
 
 use crate::Reverb;
 
@@ -20,8 +20,8 @@ pub struct Lengths {
 
 // A tuning scaled to the rate: its whole part, at most `most`. Lengths are worked out in 32 bits, four at a time.
 fn scaled(base: u32, ratio: f64, most: u32) -> u32
-    requires least_tuning_le_base { leastTuning ≤ base }
-    requires base_le_most_tuning { base ≤ mostTuning }
+    requires least_tuning_le_base { least_tuning ≤ base }
+    requires base_le_most_tuning { base ≤ most_tuning }
     requires float_of_value { in_range ratio (fraction 1 8) (float_of 5) ≡ true }
     ensures { result ≡ scaled most ratio base }
 {
@@ -31,7 +31,7 @@ fn scaled(base: u32, ratio: f64, most: u32) -> u32
 
 // The spread: at least 1. No length is more than a comb's, so that a spread beyond that is as good as that.
 fn stereo_spread(ratio: f64) -> u32
-    ensures { result ≡ min (spread ratio) combMost }
+    ensures { result ≡ min (spread ratio) comb_most }
 {
     let n = float64::round_half_away(Reverb::STEREO_SPREAD * ratio);
     if n < 1 {
@@ -46,8 +46,8 @@ fn stereo_spread(ratio: f64) -> u32
 
 // A left length plus the spread, at most `most`.
 fn beside(n: u32, wide: u32, most: u32) -> u32
-    requires n_le_comb_most { n ≤ combMost }
-    requires wide_le_comb_most { wide ≤ combMost }
+    requires n_le_comb_most { n ≤ comb_most }
+    requires wide_le_comb_most { wide ≤ comb_most }
     ensures { result ≡ beside most wide n }
 {
     let sum = n + wide;
@@ -58,8 +58,8 @@ fn beside(n: u32, wide: u32, most: u32) -> u32
 fn scale(tunings: &[u32], ratio: f64, wide: u32, most: u16, left: &mut [u16], right: &mut [u16])
     requires tunings_value { tuned tunings.now ≡ true }
     requires float_of_value { in_range ratio (fraction 1 8) (float_of 5) ≡ true }
-    requires wide_le_comb_most { wide ≤ combMost }
-    requires most_le_comb_most { most ≤ combMost }
+    requires wide_le_comb_most { wide ≤ comb_most }
+    requires most_le_comb_most { most ≤ comb_most }
     requires left_value { ListN.length left.old ≡ ListN.length tunings.now }
     requires right_value { ListN.length right.old ≡ ListN.length tunings.now }
     ensures left_after { left.new ≡ map (scaled most ratio) tunings.now }
@@ -76,7 +76,7 @@ fn scale(tunings: &[u32], ratio: f64, wide: u32, most: u16, left: &mut [u16], ri
 
 // Every line's length, worked out. A refused rate gives 0 for each, so that no position fits.
 pub fn scaled_lengths(rate: f64) -> Lengths
-    ensures { result ≡ lengthsFor rate }
+    ensures { result ≡ lengths_for rate }
 {
     let mut comb_l: [u16; 8] = [0; 8];
     let mut comb_r: [u16; 8] = [0; 8];
@@ -120,7 +120,7 @@ pub fn scaled_lengths(rate: f64) -> Lengths
 
 // Every line's length, for a tick. The usual rates have theirs in a table: to work them out takes half as long as the tick itself.
 pub fn lengths_at(rate: f64) -> Lengths
-    ensures { result ≡ lengthsFor rate }
+    ensures { result ≡ lengths_for rate }
 {
     if rate == 48000.0 {
         return Lengths {

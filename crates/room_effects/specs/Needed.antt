@@ -1,9 +1,9 @@
 -- How many places an effect needs, by its number: 1 delay, 2 chorus, 3 flanger, 4 vibrato, 5 tremolo, 6 reverb. Only the delay's count reads the maximum.
 -- Another number, and a rate that is refused, give 2 ^ 64 − 1. Definitions only. Assumes nothing.
 use Rattle.std.specs.Prelude.{ℕ, false, cond, eqb, Float}
-use Rattle.float64.specs.Number.{plusZero}
-use Rattle.effect.specs.Needed.{noPlaces, placesNeeded}
-use Rattle.delay_line.specs.DelayLine.{delayLine, handing, startSettings}
+use Rattle.float64.specs.Number.{plus_zero}
+use Rattle.effect.specs.Needed.{no_places, places_needed}
+use Rattle.delay_line.specs.DelayLine.{delay_line, handing, start_settings}
 use Rattle.chorus.specs.Chorus.{chorus}
 use Rattle.flanger.specs.Flanger.{flanger}
 use Rattle.vibrato.specs.Vibrato.{vibrato}
@@ -11,15 +11,15 @@ use Rattle.tremolo.specs.Tremolo.{tremolo}
 use Rattle.reverb.specs.Reverb.{reverb}
 
 -- the delay's, with a coefficient and a mode that have no part in it
-abbrev pub delayNeeds : Float → Float → ℕ
-delayNeeds rate maximum = placesNeeded delayLine (startSettings (handing rate plusZero maximum false))
+abbrev pub delay_needs : Float → Float → ℕ
+delay_needs rate maximum = places_needed delay_line (start_settings (handing rate plus_zero maximum false))
 
-unfoldable pub neededBy : ℕ → Float → Float → ℕ
-neededBy effect rate maximum =
-    cond (eqb effect 1) (delayNeeds rate maximum)
-    (cond (eqb effect 2) (placesNeeded chorus rate)
-    (cond (eqb effect 3) (placesNeeded flanger rate)
-    (cond (eqb effect 4) (placesNeeded vibrato rate)
-    (cond (eqb effect 5) (placesNeeded tremolo rate)
-    (cond (eqb effect 6) (placesNeeded reverb rate)
-    noPlaces)))))
+unfoldable pub needed_by : ℕ → Float → Float → ℕ
+needed_by effect rate maximum =
+    cond (eqb effect 1) (delay_needs rate maximum)
+    (cond (eqb effect 2) (places_needed chorus rate)
+    (cond (eqb effect 3) (places_needed flanger rate)
+    (cond (eqb effect 4) (places_needed vibrato rate)
+    (cond (eqb effect 5) (places_needed tremolo rate)
+    (cond (eqb effect 6) (places_needed reverb rate)
+    no_places)))))

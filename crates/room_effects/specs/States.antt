@@ -2,31 +2,31 @@
 -- Definitions only. Assumes nothing.
 use Rattle.std.specs.Prelude.{ℕ, ◌≡◌, Bool, not, cond, List, eqb, get_or, Float}
 use Rattle.std.specs.Float.{nan}
-use Rattle.effect.specs.Run.{ifNone}
+use Rattle.effect.specs.Run.{if_none}
 use Rattle.delay_line.specs.declared.DelayLine.{DelayLine}
 use Rattle.delay_line.specs.DelayLine as delay
 use Rattle.chorus.specs.declared.Chorus.{Chorus}
 use Rattle.chorus.specs.Chorus as chorus
 
 -- the chorus, whose three phases are one array
-abbrev pub chorusOf : ℕ → List Float → Float → Chorus
-chorusOf pos phases rate =
+abbrev pub chorus_of : ℕ → List Float → Float → Chorus
+chorus_of pos phases rate =
     chorus.state_of pos (record { phase0 = get_or phases 0 nan; phase1 = get_or phases 1 nan; phase2 = get_or phases 2 nan }) rate
 
 -- ---- a flag in a lent number: 0 is off, any other is on, and 1 is written for it
 
-abbrev pub isOn : ℕ → Bool
-isOn n = not (eqb n 0)
+abbrev pub is_on : ℕ → Bool
+is_on n = not (eqb n 0)
 
 -- the number is one that is written for a flag
 abbrev pub FlagWritten : ℕ → Type 0
-FlagWritten n = n ≡ cond (isOn n) 1 0
+FlagWritten n = n ≡ cond (is_on n) 1 0
 
 -- a call that returns r, and found n, leaves n': one that is written if the call is accepted, and n if it is refused
 abbrev pub FlagLeft : ℕ → ℕ → ℕ → Type 0
-FlagLeft r n n' = n' ≡ ifNone r (cond (isOn n') 1 0) n
+FlagLeft r n n' = n' ≡ if_none r (cond (is_on n') 1 0) n
 
 -- ---- the delay, whose settings are lent one by one
 
-abbrev pub delayOf : ℕ → Float → Bool → Float → Float → Float → Bool → DelayLine
-delayOf pos distance primed rate coefficient maximum linear = delay.state_of pos distance primed (delay.handing rate coefficient maximum linear)
+abbrev pub delay_of : ℕ → Float → Bool → Float → Float → Float → Bool → DelayLine
+delay_of pos distance primed rate coefficient maximum linear = delay.state_of pos distance primed (delay.handing rate coefficient maximum linear)

@@ -1,10 +1,10 @@
 // The chorus's calls.
-ghost use Rattle.effect.specs.Run.{retune, reset, deviceOf};
-ghost use Rattle.effect.specs.Contract.{lent_at, fromTo};
-ghost use Rattle.chorus.specs.Chorus.{chorus, tickOf};
+ghost use Rattle.effect.specs.Run.{retune, reset, device_of};
+ghost use Rattle.effect.specs.Contract.{lent_at, from_to};
+ghost use Rattle.chorus.specs.Chorus.{chorus, tick_of};
 ghost use Rattle.room_effects.specs.Lent.{StartReturns, CallReturns, TickReturns, AskReturns};
-ghost use Rattle.room_effects.specs.States.{chorusOf};
-ghost use Rattle.room_effects.specs.Ports.{portAt};
+ghost use Rattle.room_effects.specs.States.{chorus_of};
+ghost use Rattle.room_effects.specs.Ports.{port_at};
 ghost use Rattle.std.specs.Prelude.{◌≡◌};
 
 use crate::shared::{port_at, put_samples};
@@ -12,7 +12,7 @@ use chorus::Chorus;
 
 // A chorus's state from lent numbers, and back into them.
 fn chorus_of(write_pos: u64, lfo_phases: &[f64; 3], sample_rate: f64) -> Chorus
-    ensures { result ≡ chorusOf write_pos lfo_phases.now sample_rate }
+    ensures { result ≡ chorus_of write_pos lfo_phases.now sample_rate }
 {
     Chorus {
         write_pos,
@@ -24,7 +24,7 @@ fn chorus_of(write_pos: u64, lfo_phases: &[f64; 3], sample_rate: f64) -> Chorus
 }
 
 fn put_chorus(state: Chorus, write_pos: &mut u64, lfo_phases: &mut [f64; 3])
-    ensures { chorusOf write_pos.new lfo_phases.new state.sample_rate ≡ state }
+    ensures { chorus_of write_pos.new lfo_phases.new state.sample_rate ≡ state }
 {
     *write_pos = state.write_pos;
     *lfo_phases = [state.lfo_phase0, state.lfo_phase1, state.lfo_phase2];
@@ -39,7 +39,7 @@ pub extern "C" fn room_raw_chorus_start(
     lfo_phases: &mut [f64; 3],
     sample_rate: &mut f64,
 ) -> u32
-    ensures { StartReturns chorus new_sample_rate memory.old (deviceOf (chorusOf write_pos.new
+    ensures { StartReturns chorus new_sample_rate memory.old (device_of (chorus_of write_pos.new
         lfo_phases.new sample_rate.new) memory.new) result }
 {
     let started = Chorus::new(new_sample_rate, memory);
@@ -58,7 +58,7 @@ pub extern "C" fn room_raw_chorus_retune(
     lfo_phases: &mut [f64; 3],
     sample_rate: &mut f64,
 ) -> u32
-    ensures { fromTo (λ k. deviceOf (chorusOf (lent_at write_pos k) (lent_at lfo_phases k) (lent_at sample_rate k))
+    ensures { from_to (λ k. device_of (chorus_of (lent_at write_pos k) (lent_at lfo_phases k) (lent_at sample_rate k))
         (lent_at memory k))
         (λ u u'. CallReturns chorus (retune new_sample_rate) u u' result) }
 {
@@ -82,7 +82,7 @@ pub extern "C" fn room_raw_chorus_reset(
     lfo_phases: &mut [f64; 3],
     sample_rate: f64,
 ) -> u32
-    ensures { fromTo (λ k. deviceOf (chorusOf (lent_at write_pos k) (lent_at lfo_phases k) sample_rate) (lent_at memory k))
+    ensures { from_to (λ k. device_of (chorus_of (lent_at write_pos k) (lent_at lfo_phases k) sample_rate) (lent_at memory k))
         (λ u u'. CallReturns chorus reset u u' result) }
 {
     let state = chorus_of(*write_pos, lfo_phases, sample_rate);
@@ -113,8 +113,8 @@ pub extern "C" fn room_raw_chorus_tick(
     sine2: f64,
     out: &mut [f64; 3],
 ) -> u32
-    ensures { fromTo (λ k. deviceOf (chorusOf (lent_at write_pos k) (lent_at lfo_phases k) sample_rate) (lent_at memory k))
-        (λ u u'. TickReturns chorus 3 (tickOf (portAt set 1 audio) (portAt set 2 depth) (portAt set 4 mix) frequency sine0 sine1
+    ensures { from_to (λ k. device_of (chorus_of (lent_at write_pos k) (lent_at lfo_phases k) sample_rate) (lent_at memory k))
+        (λ u u'. TickReturns chorus 3 (tick_of (port_at set 1 audio) (port_at set 2 depth) (port_at set 4 mix) frequency sine0 sine1
         sine2) u u' out.new result) }
 {
     let state = chorus_of(*write_pos, lfo_phases, sample_rate);
@@ -146,7 +146,7 @@ pub extern "C" fn room_raw_chorus_silent(
     memory: &[f64],
     out: &mut u32,
 ) -> u32
-    ensures { AskReturns chorus (deviceOf (chorusOf write_pos lfo_phases.now sample_rate)
+    ensures { AskReturns chorus (device_of (chorus_of write_pos lfo_phases.now sample_rate)
         memory.now) out.new result }
 {
     let state = chorus_of(write_pos, lfo_phases, sample_rate);

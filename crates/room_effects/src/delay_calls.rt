@@ -1,11 +1,11 @@
 // The delay's calls. A flag crosses as a number: 0 is off, any other is on, and what is written is 0 or 1.
 ghost use Rattle.std.specs.Prelude.{◌≡◌, cond, [], ◌∷◌};
-ghost use Rattle.effect.specs.Run.{retune, reset, deviceOf};
-ghost use Rattle.effect.specs.Contract.{lent_at, fromTo};
-ghost use Rattle.delay_line.specs.DelayLine.{delayLine, handing, retuning, tickOf};
+ghost use Rattle.effect.specs.Run.{retune, reset, device_of};
+ghost use Rattle.effect.specs.Contract.{lent_at, from_to};
+ghost use Rattle.delay_line.specs.DelayLine.{delay_line, handing, retuning, tick_of};
 ghost use Rattle.room_effects.specs.Lent.{StartReturns, CallReturns, TickReturns, AskReturns};
-ghost use Rattle.room_effects.specs.States.{isOn, FlagWritten, FlagLeft, delayOf};
-ghost use Rattle.room_effects.specs.Ports.{portAt};
+ghost use Rattle.room_effects.specs.States.{is_on, FlagWritten, FlagLeft, delay_of};
+ghost use Rattle.room_effects.specs.Ports.{port_at};
 
 use crate::shared::port_at;
 use delay_line::DelayLine;
@@ -26,8 +26,8 @@ fn delay_of(
     max_delay_secs: f64,
     linear_time: u32,
 ) -> DelayLine
-    ensures { result ≡ delayOf write_pos smoothed_delay (isOn delay_primed) sample_rate delay_smooth_coef max_delay_secs
-        (isOn linear_time) }
+    ensures { result ≡ delay_of write_pos smoothed_delay (is_on delay_primed) sample_rate delay_smooth_coef max_delay_secs
+        (is_on linear_time) }
 {
     DelayLine {
         write_pos,
@@ -56,10 +56,10 @@ pub extern "C" fn room_raw_delay_start(
     max_delay_secs: &mut f64,
     linear_time: &mut u32,
 ) -> u32
-    ensures { StartReturns delayLine (handing new_sample_rate new_delay_smooth_coef new_max_delay_secs
-        (isOn new_linear_time)) memory.old (deviceOf (delayOf write_pos.new
-        smoothed_delay.new (isOn delay_primed.new) sample_rate.new
-        delay_smooth_coef.new max_delay_secs.new (isOn linear_time.new))
+    ensures { StartReturns delay_line (handing new_sample_rate new_delay_smooth_coef new_max_delay_secs
+        (is_on new_linear_time)) memory.old (device_of (delay_of write_pos.new
+        smoothed_delay.new (is_on delay_primed.new) sample_rate.new
+        delay_smooth_coef.new max_delay_secs.new (is_on linear_time.new))
         memory.new) result × FlagWritten delay_primed.new × FlagWritten linear_time.new }
 {
     let started = DelayLine::with_max_delay(
@@ -93,10 +93,10 @@ pub extern "C" fn room_raw_delay_retune(
     max_delay_secs: f64,
     linear_time: u32,
 ) -> u32
-    ensures { fromTo (λ k. deviceOf (delayOf (lent_at write_pos k) (lent_at smoothed_delay k) (isOn (lent_at delay_primed k))
-        (lent_at sample_rate k) (lent_at delay_smooth_coef k) max_delay_secs (isOn linear_time)) (lent_at memory k))
-        (λ u u'. CallReturns delayLine (retune (retuning new_sample_rate new_delay_smooth_coef)) u u' result)
-        × fromTo (lent_at delay_primed) (FlagLeft result) }
+    ensures { from_to (λ k. device_of (delay_of (lent_at write_pos k) (lent_at smoothed_delay k) (is_on (lent_at delay_primed k))
+        (lent_at sample_rate k) (lent_at delay_smooth_coef k) max_delay_secs (is_on linear_time)) (lent_at memory k))
+        (λ u u'. CallReturns delay_line (retune (retuning new_sample_rate new_delay_smooth_coef)) u u' result)
+        × from_to (lent_at delay_primed) (FlagLeft result) }
 {
     let state = delay_of(
         *write_pos,
@@ -132,10 +132,10 @@ pub extern "C" fn room_raw_delay_reset(
     max_delay_secs: f64,
     linear_time: u32,
 ) -> u32
-    ensures { fromTo (λ k. deviceOf (delayOf (lent_at write_pos k) (lent_at smoothed_delay k) (isOn (lent_at delay_primed k))
-        sample_rate delay_smooth_coef max_delay_secs (isOn linear_time)) (lent_at memory k))
-        (λ u u'. CallReturns delayLine reset u u' result)
-        × fromTo (lent_at delay_primed) (FlagLeft result) }
+    ensures { from_to (λ k. device_of (delay_of (lent_at write_pos k) (lent_at smoothed_delay k) (is_on (lent_at delay_primed k))
+        sample_rate delay_smooth_coef max_delay_secs (is_on linear_time)) (lent_at memory k))
+        (λ u u'. CallReturns delay_line reset u u' result)
+        × from_to (lent_at delay_primed) (FlagLeft result) }
 {
     let state = delay_of(
         *write_pos,
@@ -177,10 +177,10 @@ pub extern "C" fn room_raw_delay_tick(
     milliseconds: f64,
     out: &mut f64,
 ) -> u32
-    ensures { fromTo (λ k. deviceOf (delayOf (lent_at write_pos k) (lent_at smoothed_delay k) (isOn (lent_at delay_primed k))
-        sample_rate delay_smooth_coef max_delay_secs (isOn linear_time)) (lent_at memory k))
-        (λ u u'. TickReturns delayLine 1 (tickOf (portAt set 1 audio) (portAt set 2 time) (portAt set 4 feedback)
-        (portAt set 8 mix) milliseconds) u u' (out.new ∷ []) result) × fromTo (lent_at delay_primed) (FlagLeft result) }
+    ensures { from_to (λ k. device_of (delay_of (lent_at write_pos k) (lent_at smoothed_delay k) (is_on (lent_at delay_primed k))
+        sample_rate delay_smooth_coef max_delay_secs (is_on linear_time)) (lent_at memory k))
+        (λ u u'. TickReturns delay_line 1 (tick_of (port_at set 1 audio) (port_at set 2 time) (port_at set 4 feedback)
+        (port_at set 8 mix) milliseconds) u u' (out.new ∷ []) result) × from_to (lent_at delay_primed) (FlagLeft result) }
 {
     let state = delay_of(
         *write_pos,
@@ -223,8 +223,8 @@ pub extern "C" fn room_raw_delay_silent(
     memory: &[f64],
     out: &mut u32,
 ) -> u32
-    ensures { AskReturns delayLine (deviceOf (delayOf write_pos smoothed_delay (isOn delay_primed) sample_rate
-        delay_smooth_coef max_delay_secs (isOn linear_time)) memory.now) out.new result }
+    ensures { AskReturns delay_line (device_of (delay_of write_pos smoothed_delay (is_on delay_primed) sample_rate
+        delay_smooth_coef max_delay_secs (is_on linear_time)) memory.now) out.new result }
 {
     let state = delay_of(
         write_pos,

@@ -1,9 +1,9 @@
 // The flanger's calls.
-ghost use Rattle.effect.specs.Run.{retune, reset, deviceOf};
-ghost use Rattle.effect.specs.Contract.{lent_at, fromTo};
-ghost use Rattle.flanger.specs.Flanger.{flanger, tickOf, state_of};
+ghost use Rattle.effect.specs.Run.{retune, reset, device_of};
+ghost use Rattle.effect.specs.Contract.{lent_at, from_to};
+ghost use Rattle.flanger.specs.Flanger.{flanger, tick_of, state_of};
 ghost use Rattle.room_effects.specs.Lent.{StartReturns, CallReturns, TickReturns, AskReturns};
-ghost use Rattle.room_effects.specs.Ports.{portAt};
+ghost use Rattle.room_effects.specs.Ports.{port_at};
 
 use crate::shared::{port_at, put_samples};
 use flanger::Flanger;
@@ -17,7 +17,7 @@ pub extern "C" fn room_raw_flanger_start(
     lfo_phase: &mut f64,
     sample_rate: &mut f64,
 ) -> u32
-    ensures { StartReturns flanger new_sample_rate memory.old (deviceOf (state_of write_pos.new
+    ensures { StartReturns flanger new_sample_rate memory.old (device_of (state_of write_pos.new
         lfo_phase.new sample_rate.new) memory.new) result }
 {
     let started = Flanger::new(new_sample_rate, memory);
@@ -36,7 +36,7 @@ pub extern "C" fn room_raw_flanger_retune(
     lfo_phase: &mut f64,
     sample_rate: &mut f64,
 ) -> u32
-    ensures { fromTo (λ k. deviceOf (state_of (lent_at write_pos k) (lent_at lfo_phase k) (lent_at sample_rate k))
+    ensures { from_to (λ k. device_of (state_of (lent_at write_pos k) (lent_at lfo_phase k) (lent_at sample_rate k))
         (lent_at memory k))
         (λ u u'. CallReturns flanger (retune new_sample_rate) u u' result) }
 {
@@ -64,7 +64,7 @@ pub extern "C" fn room_raw_flanger_reset(
     lfo_phase: &mut f64,
     sample_rate: f64,
 ) -> u32
-    ensures { fromTo (λ k. deviceOf (state_of (lent_at write_pos k) (lent_at lfo_phase k) sample_rate) (lent_at memory k))
+    ensures { from_to (λ k. device_of (state_of (lent_at write_pos k) (lent_at lfo_phase k) sample_rate) (lent_at memory k))
         (λ u u'. CallReturns flanger reset u u' result) }
 {
     let state = Flanger {
@@ -100,9 +100,9 @@ pub extern "C" fn room_raw_flanger_tick(
     sine1: f64,
     out: &mut [f64; 3],
 ) -> u32
-    ensures { fromTo (λ k. deviceOf (state_of (lent_at write_pos k) (lent_at lfo_phase k) sample_rate) (lent_at memory k))
-        (λ u u'. TickReturns flanger 3 (tickOf (portAt set 1 audio) (portAt set 2 depth) (portAt set 4 feedback)
-        (portAt set 8 mix) frequency sine0 sine1) u u' out.new result) }
+    ensures { from_to (λ k. device_of (state_of (lent_at write_pos k) (lent_at lfo_phase k) sample_rate) (lent_at memory k))
+        (λ u u'. TickReturns flanger 3 (tick_of (port_at set 1 audio) (port_at set 2 depth) (port_at set 4 feedback)
+        (port_at set 8 mix) frequency sine0 sine1) u u' out.new result) }
 {
     let state = Flanger {
         write_pos: *write_pos,
@@ -138,7 +138,7 @@ pub extern "C" fn room_raw_flanger_silent(
     memory: &[f64],
     out: &mut u32,
 ) -> u32
-    ensures { AskReturns flanger (deviceOf (state_of write_pos lfo_phase sample_rate) memory.now)
+    ensures { AskReturns flanger (device_of (state_of write_pos lfo_phase sample_rate) memory.now)
         out.new result }
 {
     let state = Flanger {

@@ -1,6 +1,6 @@
 // What a controller asks at power-up.
 ghost use Rattle.std.specs.Prelude.{◌≡◌};
-ghost use Rattle.room_effects.specs.Needed.{neededBy};
+ghost use Rattle.room_effects.specs.Needed.{needed_by};
 
 use chorus::Chorus;
 use delay_line::DelayLine;
@@ -13,7 +13,7 @@ use vibrato::Vibrato;
 // rate that is refused.
 #[unsafe(no_mangle)]
 pub extern "C" fn room_places_needed(effect: u32, rate: f64, maximum: f64) -> u64
-    ensures { result ≡ neededBy effect rate maximum }
+    ensures { result ≡ needed_by effect rate maximum }
 {
     if effect == 1 {
         return DelayLine::places_needed(rate, maximum);

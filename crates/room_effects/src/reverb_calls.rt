@@ -1,10 +1,10 @@
 // The reverb's calls. Its state crosses as lent arrays: the combs' and all-passes' positions, the combs' damping stores; and the predelay's position.
 ghost use Rattle.std.specs.Prelude.{◌≡◌};
-ghost use Rattle.effect.specs.Run.{retune, reset, deviceOf};
-ghost use Rattle.effect.specs.Contract.{lent_at, fromTo};
-ghost use Rattle.reverb.specs.Reverb.{reverb, tickOf, state_of};
+ghost use Rattle.effect.specs.Run.{retune, reset, device_of};
+ghost use Rattle.effect.specs.Contract.{lent_at, from_to};
+ghost use Rattle.reverb.specs.Reverb.{reverb, tick_of, state_of};
 ghost use Rattle.room_effects.specs.Lent.{StartReturns, CallReturns, TickReturns, AskReturns};
-ghost use Rattle.room_effects.specs.Ports.{portAt};
+ghost use Rattle.room_effects.specs.Ports.{port_at};
 
 use crate::shared::port_at;
 use reverb::Reverb;
@@ -53,7 +53,7 @@ pub extern "C" fn room_raw_reverb_start(
     predelay_pos: &mut u64,
     sample_rate: &mut f64,
 ) -> u32
-    ensures { StartReturns reverb new_sample_rate memory.old (deviceOf (state_of comb_pos_l.new
+    ensures { StartReturns reverb new_sample_rate memory.old (device_of (state_of comb_pos_l.new
         comb_pos_r.new comb_filter_state_l.new comb_filter_state_r.new
         allpass_pos_l.new allpass_pos_r.new predelay_pos.new sample_rate.new)
         memory.new) result }
@@ -87,7 +87,7 @@ pub extern "C" fn room_raw_reverb_retune(
     predelay_pos: &mut u64,
     sample_rate: &mut f64,
 ) -> u32
-    ensures { fromTo (λ k. deviceOf (state_of (lent_at comb_pos_l k) (lent_at comb_pos_r k) (lent_at comb_filter_state_l k)
+    ensures { from_to (λ k. device_of (state_of (lent_at comb_pos_l k) (lent_at comb_pos_r k) (lent_at comb_filter_state_l k)
         (lent_at comb_filter_state_r k) (lent_at allpass_pos_l k) (lent_at allpass_pos_r k) (lent_at predelay_pos k)
         (lent_at sample_rate k)) (lent_at memory k))
         (λ u u'. CallReturns reverb (retune new_sample_rate) u u' result) }
@@ -134,7 +134,7 @@ pub extern "C" fn room_raw_reverb_reset(
     predelay_pos: &mut u64,
     sample_rate: f64,
 ) -> u32
-    ensures { fromTo (λ k. deviceOf (state_of (lent_at comb_pos_l k) (lent_at comb_pos_r k) (lent_at comb_filter_state_l k)
+    ensures { from_to (λ k. device_of (state_of (lent_at comb_pos_l k) (lent_at comb_pos_r k) (lent_at comb_filter_state_l k)
         (lent_at comb_filter_state_r k) (lent_at allpass_pos_l k) (lent_at allpass_pos_r k) (lent_at predelay_pos k) sample_rate)
         (lent_at memory k))
         (λ u u'. CallReturns reverb reset u u' result) }
@@ -189,11 +189,11 @@ pub extern "C" fn room_raw_reverb_tick(
     predelay: f64,
     out: &mut [f64; 2],
 ) -> u32
-    ensures { fromTo (λ k. deviceOf (state_of (lent_at comb_pos_l k) (lent_at comb_pos_r k) (lent_at comb_filter_state_l k)
+    ensures { from_to (λ k. device_of (state_of (lent_at comb_pos_l k) (lent_at comb_pos_r k) (lent_at comb_filter_state_l k)
         (lent_at comb_filter_state_r k) (lent_at allpass_pos_l k) (lent_at allpass_pos_r k) (lent_at predelay_pos k) sample_rate)
         (lent_at memory k))
-        (λ u u'. TickReturns reverb 2 (tickOf (portAt set 1 audio) (portAt set 2 size) (portAt set 4 damping) (portAt set 8 mix)
-        (portAt set 16 predelay)) u u' out.new result) }
+        (λ u u'. TickReturns reverb 2 (tick_of (port_at set 1 audio) (port_at set 2 size) (port_at set 4 damping) (port_at set 8 mix)
+        (port_at set 16 predelay)) u u' out.new result) }
 {
     let answer = Reverb::tick_in_place(
         comb_pos_l,
@@ -228,7 +228,7 @@ pub extern "C" fn room_raw_reverb_silent(
     memory: &[f64],
     out: &mut u32,
 ) -> u32
-    ensures { AskReturns reverb (deviceOf (state_of comb_pos_l.now comb_pos_r.now
+    ensures { AskReturns reverb (device_of (state_of comb_pos_l.now comb_pos_r.now
         comb_filter_state_l.now comb_filter_state_r.now allpass_pos_l.now
         allpass_pos_r.now predelay_pos sample_rate) memory.now) out.new result }
 {

@@ -1,9 +1,9 @@
 // The tremolo's calls.
-ghost use Rattle.effect.specs.Run.{reset, deviceOf};
-ghost use Rattle.effect.specs.Contract.{lent_at, fromTo};
-ghost use Rattle.tremolo.specs.Tremolo.{tremolo, tickOf, state_of};
+ghost use Rattle.effect.specs.Run.{reset, device_of};
+ghost use Rattle.effect.specs.Contract.{lent_at, from_to};
+ghost use Rattle.tremolo.specs.Tremolo.{tremolo, tick_of, state_of};
 ghost use Rattle.room_effects.specs.Lent.{StartReturns, CallReturns, TickReturns, AskReturns};
-ghost use Rattle.room_effects.specs.Ports.{portAt};
+ghost use Rattle.room_effects.specs.Ports.{port_at};
 ghost use Rattle.std.specs.Prelude.{[], ◌∷◌};
 
 use crate::shared::port_at;
@@ -16,7 +16,7 @@ pub extern "C" fn room_raw_tremolo_start(
     lfo_phase: &mut f64,
     sample_rate: &mut f64,
 ) -> u32
-    ensures { StartReturns tremolo new_sample_rate [] (deviceOf (state_of lfo_phase.new
+    ensures { StartReturns tremolo new_sample_rate [] (device_of (state_of lfo_phase.new
         sample_rate.new) []) result }
 {
     let started = Tremolo::new(new_sample_rate);
@@ -28,7 +28,7 @@ pub extern "C" fn room_raw_tremolo_start(
 
 #[unsafe(no_mangle)]
 pub extern "C" fn room_raw_tremolo_reset(lfo_phase: &mut f64, sample_rate: f64) -> u32
-    ensures { fromTo (λ k. deviceOf (state_of (lent_at lfo_phase k) sample_rate) [])
+    ensures { from_to (λ k. device_of (state_of (lent_at lfo_phase k) sample_rate) [])
         (λ u u'. CallReturns tremolo reset u u' result) }
 {
     let state = Tremolo {
@@ -58,8 +58,8 @@ pub extern "C" fn room_raw_tremolo_tick(
     sine: f64,
     out: &mut f64,
 ) -> u32
-    ensures { fromTo (λ k. deviceOf (state_of (lent_at lfo_phase k) sample_rate) [])
-        (λ u u'. TickReturns tremolo 1 (tickOf (portAt set 1 audio) (portAt set 2 depth) (portAt set 4 shape) frequency sine) u
+    ensures { from_to (λ k. device_of (state_of (lent_at lfo_phase k) sample_rate) [])
+        (λ u u'. TickReturns tremolo 1 (tick_of (port_at set 1 audio) (port_at set 2 depth) (port_at set 4 shape) frequency sine) u
         u' (out.new ∷ []) result) }
 {
     let state = Tremolo {
@@ -85,7 +85,7 @@ pub extern "C" fn room_raw_tremolo_tick(
 
 #[unsafe(no_mangle)]
 pub extern "C" fn room_raw_tremolo_silent(lfo_phase: f64, sample_rate: f64, out: &mut u32) -> u32
-    ensures { AskReturns tremolo (deviceOf (state_of lfo_phase sample_rate) []) out.new result }
+    ensures { AskReturns tremolo (device_of (state_of lfo_phase sample_rate) []) out.new result }
 {
     let state = Tremolo {
         lfo_phase,

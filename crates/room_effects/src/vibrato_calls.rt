@@ -1,9 +1,9 @@
 // The vibrato's calls.
-ghost use Rattle.effect.specs.Run.{retune, reset, deviceOf};
-ghost use Rattle.effect.specs.Contract.{lent_at, fromTo};
-ghost use Rattle.vibrato.specs.Vibrato.{vibrato, tickOf, state_of};
+ghost use Rattle.effect.specs.Run.{retune, reset, device_of};
+ghost use Rattle.effect.specs.Contract.{lent_at, from_to};
+ghost use Rattle.vibrato.specs.Vibrato.{vibrato, tick_of, state_of};
 ghost use Rattle.room_effects.specs.Lent.{StartReturns, CallReturns, TickReturns, AskReturns};
-ghost use Rattle.room_effects.specs.Ports.{portAt};
+ghost use Rattle.room_effects.specs.Ports.{port_at};
 ghost use Rattle.std.specs.Prelude.{[], ◌∷◌};
 
 use crate::shared::port_at;
@@ -18,7 +18,7 @@ pub extern "C" fn room_raw_vibrato_start(
     lfo_phase: &mut f64,
     sample_rate: &mut f64,
 ) -> u32
-    ensures { StartReturns vibrato new_sample_rate memory.old (deviceOf (state_of write_pos.new
+    ensures { StartReturns vibrato new_sample_rate memory.old (device_of (state_of write_pos.new
         lfo_phase.new sample_rate.new) memory.new) result }
 {
     let started = Vibrato::new(new_sample_rate, memory);
@@ -37,7 +37,7 @@ pub extern "C" fn room_raw_vibrato_retune(
     lfo_phase: &mut f64,
     sample_rate: &mut f64,
 ) -> u32
-    ensures { fromTo (λ k. deviceOf (state_of (lent_at write_pos k) (lent_at lfo_phase k) (lent_at sample_rate k))
+    ensures { from_to (λ k. device_of (state_of (lent_at write_pos k) (lent_at lfo_phase k) (lent_at sample_rate k))
         (lent_at memory k))
         (λ u u'. CallReturns vibrato (retune new_sample_rate) u u' result) }
 {
@@ -65,7 +65,7 @@ pub extern "C" fn room_raw_vibrato_reset(
     lfo_phase: &mut f64,
     sample_rate: f64,
 ) -> u32
-    ensures { fromTo (λ k. deviceOf (state_of (lent_at write_pos k) (lent_at lfo_phase k) sample_rate) (lent_at memory k))
+    ensures { from_to (λ k. device_of (state_of (lent_at write_pos k) (lent_at lfo_phase k) sample_rate) (lent_at memory k))
         (λ u u'. CallReturns vibrato reset u u' result) }
 {
     let state = Vibrato {
@@ -99,8 +99,8 @@ pub extern "C" fn room_raw_vibrato_tick(
     sine: f64,
     out: &mut f64,
 ) -> u32
-    ensures { fromTo (λ k. deviceOf (state_of (lent_at write_pos k) (lent_at lfo_phase k) sample_rate) (lent_at memory k))
-        (λ u u'. TickReturns vibrato 1 (tickOf (portAt set 1 audio) (portAt set 2 depth) (portAt set 4 mix) frequency sine) u u'
+    ensures { from_to (λ k. device_of (state_of (lent_at write_pos k) (lent_at lfo_phase k) sample_rate) (lent_at memory k))
+        (λ u u'. TickReturns vibrato 1 (tick_of (port_at set 1 audio) (port_at set 2 depth) (port_at set 4 mix) frequency sine) u u'
         (out.new ∷ []) result) }
 {
     let state = Vibrato {
@@ -135,7 +135,7 @@ pub extern "C" fn room_raw_vibrato_silent(
     memory: &[f64],
     out: &mut u32,
 ) -> u32
-    ensures { AskReturns vibrato (deviceOf (state_of write_pos lfo_phase sample_rate) memory.now)
+    ensures { AskReturns vibrato (device_of (state_of write_pos lfo_phase sample_rate) memory.now)
         out.new result }
 {
     let state = Vibrato {

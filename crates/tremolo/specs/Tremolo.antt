@@ -3,10 +3,10 @@
 use Rattle.std.specs.Prelude.{ℕ, ◌<◌, Bool, true, ◌&&◌, ◌||◌, cond, List, [], ◌∷◌, Float}
 use Rattle.std.specs.Float.{binary64}
 use Rattle.std.specs.Float.Ieee.{add, sub, mul, div}
-use Rattle.float64.specs.Number.{plusZero, float_of, half, rateFits, phaseFits, frequencyFits, sineFits, clampOf, absolute}
+use Rattle.float64.specs.Number.{plus_zero, float_of, half, rate_fits, phase_fits, frequency_fits, sine_fits, clamp_of, absolute}
 use Rattle.port.specs.declared.Port.{Port}
-use Rattle.port.specs.Port.{valueOr, isNanSet}
-use Rattle.common.specs.Signal.{advanced, causeNumber}
+use Rattle.port.specs.Port.{value_or, is_nan_set}
+use Rattle.common.specs.Signal.{advanced, cause_number}
 use Rattle.effect.specs.Effect.{Effect}
 use Rattle.tremolo.specs.declared.Tremolo.{Tremolo}
 
@@ -18,37 +18,37 @@ pub record Tick : Type 0 where
   pub frequency : Float
   pub sine : Float
 
-abbrev pub tickOf : Port → Port → Port → Float → Float → Tick
-tickOf audio depth shape frequency sine = record { audio = audio; depth = depth; shape = shape; frequency = frequency; sine = sine }
+abbrev pub tick_of : Port → Port → Port → Float → Float → Tick
+tick_of audio depth shape frequency sine = record { audio = audio; depth = depth; shape = shape; frequency = frequency; sine = sine }
 
 abbrev pub state_of : Float → Float → Tremolo
 state_of phase rate = record { lfo_phase = phase; sample_rate = rate }
 
 -- the state after a start and a reset, and the one that a refused start gives
 abbrev pub fresh : Float → Tremolo
-fresh rate = state_of plusZero rate
+fresh rate = state_of plus_zero rate
 
 abbrev pub blank : Tremolo
-blank = fresh plusZero
+blank = fresh plus_zero
 
 -- the state test, cause 4
-unfoldable pub stateFits : Tremolo → Bool
-stateFits s = rateFits s.sample_rate && phaseFits s.lfo_phase
+unfoldable pub state_fits : Tremolo → Bool
+state_fits s = rate_fits s.sample_rate && phase_fits s.lfo_phase
 
 -- causes 5 and 6
-unfoldable pub tickNumber : Tick → ℕ
-tickNumber t = causeNumber (isNanSet t.depth || isNanSet t.shape) (frequencyFits t.frequency && sineFits t.sine)
+unfoldable pub tick_number : Tick → ℕ
+tick_number t = cause_number (is_nan_set t.depth || is_nan_set t.shape) (frequency_fits t.frequency && sine_fits t.sine)
 
 -- ---- an accepted tick
 
 abbrev pub input : Tick → Float
-input t = valueOr t.audio plusZero
+input t = value_or t.audio plus_zero
 
 abbrev pub depth : Tick → Float
-depth t = clampOf (valueOr t.depth half) plusZero (float_of 1)
+depth t = clamp_of (value_or t.depth half) plus_zero (float_of 1)
 
 abbrev pub shape : Tick → Float
-shape t = clampOf (valueOr t.shape plusZero) plusZero (float_of 1)
+shape t = clamp_of (value_or t.shape plus_zero) plus_zero (float_of 1)
 
 -- 1 − 4 × |phase − 0.5|
 unfoldable pub triangle : Float → Float
@@ -80,14 +80,14 @@ tremolo =
       Start = Float;
       Retune = ⊥;
       Tick = Tick;
-      stateFits = stateFits;
+      state_fits = state_fits;
       settings = λ s. s.sample_rate;
-      startSettings = λ rate. rate;
-      retuneSettings = λ none rate. rate;
-      settingsNumber = λ rate. cond (rateFits rate) 0 1;
+      start_settings = λ rate. rate;
+      retune_settings = λ none rate. rate;
+      settings_number = λ rate. cond (rate_fits rate) 0 1;
       places = λ rate. 0;
       InUse = λ rate p. p < 0;
-      tickNumber = λ t rate. tickNumber t;
+      tick_number = λ t rate. tick_number t;
       blank = blank;
       fresh = fresh;
       retuned = λ rate s. fresh rate;

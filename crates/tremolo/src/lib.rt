@@ -1,10 +1,10 @@
 // The tremolo: the audio's amplitude swept by a sine or a triangle. The state goes in and out by value; no memory is lent.
 ghost use Rattle.std.specs.Prelude.{◌≡◌, []};
-ghost use Rattle.port.specs.Answer.{outcomeReply, answerReply, silenceReply};
+ghost use Rattle.port.specs.Answer.{outcome_reply, answer_reply, silence_reply};
 ghost use Rattle.effect.specs.Run.{tick, reset, ask};
 ghost use Rattle.effect.specs.Contract.{Does, Starts};
-ghost use Rattle.effect.specs.Needed.{placesNeeded};
-ghost use Rattle.tremolo.specs.Tremolo.{tremolo, tickOf, stateFits, triangle, lfo, modulated};
+ghost use Rattle.effect.specs.Needed.{places_needed};
+ghost use Rattle.tremolo.specs.Tremolo.{tremolo, tick_of, state_fits, triangle, lfo, modulated};
 
 use port::{Answer, Outcome, Port, Refusal, Silence};
 
@@ -31,7 +31,7 @@ pub struct Ticked {
 impl Tremolo {
     // Start: phase 0 at the rate.
     pub fn new(sample_rate: f64) -> Cleared
-        ensures { Starts tremolo sample_rate [] result.state [] (outcomeReply result.outcome) }
+        ensures { Starts tremolo sample_rate [] result.state [] (outcome_reply result.outcome) }
     {
         if !float64::rate_fits(sample_rate) {
             return Cleared {
@@ -53,7 +53,7 @@ impl Tremolo {
 
     // The places that a start needs at the rate: none; 2^64 - 1 for a rate that is refused.
     pub fn places_needed(rate: f64) -> u64
-        ensures { result ≡ placesNeeded tremolo rate }
+        ensures { result ≡ places_needed tremolo rate }
     {
         if !float64::rate_fits(rate) {
             return 0xffff_ffff_ffff_ffff;
@@ -63,14 +63,14 @@ impl Tremolo {
 
     // The state test.
     fn state_fits(self) -> bool
-        ensures { result ≡ stateFits self }
+        ensures { result ≡ state_fits self }
     {
         float64::rate_fits(self.sample_rate) && float64::phase_fits(self.lfo_phase)
     }
 
     // Reset: phase 0 again.
     pub fn reset(self) -> Cleared
-        ensures { Does tremolo reset self [] result.state [] (outcomeReply result.outcome) }
+        ensures { Does tremolo reset self [] result.state [] (outcome_reply result.outcome) }
     {
         if !self.state_fits() {
             return Cleared {
@@ -89,7 +89,7 @@ impl Tremolo {
 
     // Silent? Always, as it has no line.
     pub fn silent(self) -> Silence
-        ensures { Does tremolo ask self [] self [] (silenceReply result) }
+        ensures { Does tremolo ask self [] self [] (silence_reply result) }
     {
         if !self.state_fits() {
             return Silence::Refused(Refusal::State);
@@ -120,7 +120,7 @@ impl Tremolo {
 
     // One sample. Frequency and sine are the host's curve numbers, the sine at the state's phase.
     pub fn tick(self, audio: Port, depth: Port, shape: Port, frequency: f64, sine: f64) -> Ticked
-        ensures { Does tremolo (tick (tickOf audio depth shape frequency sine)) self [] result.state [] (answerReply result.answer) }
+        ensures { Does tremolo (tick (tick_of audio depth shape frequency sine)) self [] result.state [] (answer_reply result.answer) }
     {
         if !self.state_fits() {
             return Ticked {

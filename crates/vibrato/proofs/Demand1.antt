@@ -4,7 +4,7 @@ use mathlib.Core.Path.{◌≡◌, refl}
 use mathlib.Core.Bool.{true, false}
 use lib.Ieee.{Float, le, lt, of_int}
 use lib.Ieee as Ieee
-use Rattle.float64.specs.Number.{plusZero, rateFits, phaseFits, in_range, inUnit}
+use Rattle.float64.specs.Number.{plus_zero, rate_fits, phase_fits, in_range, in_unit}
 use Rattle.common.proofs.Phases.{phase-stays}
 use Rattle.common.proofs.Ring.{next-lt}
 use Rattle.effect.proofs.Table.{none_1}
@@ -12,24 +12,24 @@ use Rattle.effect.proofs.Laws.{Laws, Below}
 use Rattle.effect.specs.Demand1.{Demand1}
 use Rattle.effect.proofs.Demand1.{demand-1}
 use Rattle.vibrato.specs.declared.Vibrato.{Vibrato}
-use Rattle.vibrato.specs.Vibrato.{Tick, vibrato, stateFits, fresh, blank, lineLength, tickNumber, next, writes}
+use Rattle.vibrato.specs.Vibrato.{Tick, vibrato, state_fits, fresh, blank, line_length, tick_number, next, writes}
 use Rattle.vibrato.proofs.Laws.{fits-parts, fit, length-fits, tick-fits}
 
 -- ---- the laws
 
-blank-refused : stateFits blank ≡ false
-unfolding stateFits in_range le of_int Ieee.fits
+blank-refused : state_fits blank ≡ false
+unfolding state_fits in_range le of_int Ieee.fits
 blank-refused = refl
 
-zero-phase : phaseFits plusZero ≡ true
-unfolding inUnit le lt of_int Ieee.fits
+zero-phase : phase_fits plus_zero ≡ true
+unfolding in_unit le lt of_int Ieee.fits
 zero-phase = refl
 
 -- a clearing leaves a state that passes
-fresh-fits : (rate : Float) → rateFits rate ≡ true → stateFits (fresh rate) ≡ true
+fresh-fits : (rate : Float) → rate_fits rate ≡ true → state_fits (fresh rate) ≡ true
 fresh-fits rate h = fit (fresh rate) (record { rate = h; inside = omega (arith, (length-fits rate h).0); phase = zero-phase })
 
-next_fits : (t : Tick) (s : Vibrato) → stateFits s ≡ true → tickNumber t ≡ 0 → stateFits (next t s) ≡ true
+next_fits : (t : Tick) (s : Vibrato) → state_fits s ≡ true → tick_number t ≡ 0 → state_fits (next t s) ≡ true
 unfolding next
 next_fits t s e n =
     let f = fits-parts s e in
@@ -37,11 +37,11 @@ next_fits t s e n =
     fit (next t s)
     (record {
       rate = f.rate;
-      inside = next-lt (lineLength rate) s.write_pos f.inside;
+      inside = next-lt (line_length rate) s.write_pos f.inside;
       phase = phase-stays s.lfo_phase t.frequency rate f.phase (tick-fits t n).frequency f.rate;
     })
 
-inside : (t : Tick) (s : Vibrato) → stateFits s ≡ true → Below (lineLength s.sample_rate) (writes t s)
+inside : (t : Tick) (s : Vibrato) → state_fits s ≡ true → Below (line_length s.sample_rate) (writes t s)
 unfolding writes
 inside t s e = let f = (fits-parts s e).inside in (omega arith, tt)
 
@@ -53,9 +53,9 @@ laws =
       fresh-settings = λ k. refl;
       retuned-settings = λ k s. refl;
       next-settings = λ t s m. refl;
-      start_fits = λ k e. fresh-fits k (none_1 (rateFits k) e);
+      start_fits = λ k e. fresh-fits k (none_1 (rate_fits k) e);
       reset-fits = λ s f. fresh-fits s.sample_rate (fits-parts s f).rate;
-      retuned-fits = λ k s e f. fresh-fits k (none_1 (rateFits k) e);
+      retuned-fits = λ k s e f. fresh-fits k (none_1 (rate_fits k) e);
       next_fits = λ t s m e r n. next_fits t s e n;
       used = λ k p h. h;
       inside = λ t s m e. inside t s e;

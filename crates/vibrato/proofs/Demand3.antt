@@ -9,8 +9,8 @@ use lib.Ieee.{Float, binary64, div, is_nan, round}
 use lib.Ieee as Ieee
 use Rattle.float64.specs.Number.{half, is_number}
 use Rattle.common.specs.Signal.{blended, advanced}
-use Rattle.common.specs.Line.{newestFirst}
-use Rattle.common.proofs.Ring.{readLine}
+use Rattle.common.specs.Line.{newest_first}
+use Rattle.common.proofs.Ring.{read_line}
 use Rattle.common.proofs.Sweep.{control-in}
 use Rattle.float64.proofs.Parts.{parts-of}
 use Rattle.effect.specs.Run.{Run}
@@ -19,16 +19,16 @@ use Rattle.effect.proofs.LineLaws.{LineLaws}
 use Rattle.effect.proofs.Lines.{read_of}
 use Rattle.effect.proofs.Demand3.{demand-3}
 use Rattle.vibrato.specs.declared.Vibrato.{Vibrato}
-use Rattle.vibrato.specs.Vibrato.{Tick, vibrato, lines, stateFits, lineLength, tickNumber, input, depth, mix, distance, delayed, next, writes, samples}
+use Rattle.vibrato.specs.Vibrato.{Tick, vibrato, lines, state_fits, line_length, tick_number, input, depth, mix, distance, delayed, next, writes, samples}
 use Rattle.vibrato.proofs.Laws.{fits-parts, length-fits, tick-fits, distance-in}
 use Rattle.vibrato.proofs.Demand1.{laws}
 
 -- what a tick at the rate answers where the line, read newest to oldest, is l
 abbrev heard : Tick → Float → List Float → List Float
-heard t rate l = blended (input t) (readLine l (distance rate (depth t) t.sine)) (mix t) ∷ []
+heard t rate l = blended (input t) (read_line l (distance rate (depth t) t.sine)) (mix t) ∷ []
 
-plays : (t : Tick) (s : Vibrato) (m l : List Float) → stateFits s ≡ true → tickNumber t ≡ 0
-    → newestFirst (0 * lineLength s.sample_rate) (lineLength s.sample_rate) s.write_pos m ≡ l
+plays : (t : Tick) (s : Vibrato) (m l : List Float) → state_fits s ≡ true → tick_number t ≡ 0
+    → newest_first (0 * line_length s.sample_rate) (line_length s.sample_rate) s.write_pos m ≡ l
     → samples t s m ≡ heard t s.sample_rate l
 unfolding samples delayed is_number Ieee.fits is_nan round
 plays t s m l f n e =
@@ -36,16 +36,16 @@ plays t s m l f n e =
     let h = (fits-parts s f).rate in
     let k = tick-fits t n in
     let some = length-fits rate h in
-    let d = parts-of (lineLength rate - 1) (omega arith) (distance-in rate (depth t) t.sine h (control-in t.depth half k.depth refl) k.sine) in
+    let d = parts-of (line_length rate - 1) (omega arith) (distance-in rate (depth t) t.sine h (control-in t.depth half k.depth refl) k.sine) in
     ap (λ (x : Float). blended (input t) x (mix t) ∷ [])
-    (read_of 0 0 (lineLength rate) s.write_pos m l (distance rate (depth t) t.sine) (zero-mul (lineLength rate)) e d.at_least (omega (arith, d.at-most)))
+    (read_of 0 0 (line_length rate) s.write_pos m l (distance rate (depth t) t.sine) (zero-mul (line_length rate)) e d.at_least (omega (arith, d.at-most)))
 
 pub line-laws : LineLaws vibrato lines
 unfolding next writes
 line-laws =
     record {
       some = omega arith;
-      fills = λ k. sym (one-mul (lineLength k));
+      fills = λ k. sym (one-mul (line_length k));
       inside = λ s e. (fits-parts s e).inside;
       stores = λ t s m. refl;
       next-position = λ t s m. refl;

@@ -2,15 +2,15 @@
 ghost use Rattle.std.specs.Prelude.{◌≡◌, true, cond, ◌<◌, length};
 ghost use Rattle.std.specs.Float.{binary64};
 ghost use Rattle.std.specs.Float.Ieee.{div};
-ghost use Rattle.float64.specs.Number.{rateFits};
+ghost use Rattle.float64.specs.Number.{rate_fits};
 ghost use Rattle.port.specs.declared.Port.TheVariants.{Set};
-ghost use Rattle.port.specs.Answer.{number_of, outcomeReply, answerReply, silenceReply};
+ghost use Rattle.port.specs.Answer.{number_of, outcome_reply, answer_reply, silence_reply};
 ghost use Rattle.common.specs.Signal.{advanced};
-ghost use Rattle.common.specs.Line.{nextPlace};
-ghost use Rattle.effect.specs.Run.{tick, retune, reset, ask, ifNone, startNumber, number_in};
+ghost use Rattle.common.specs.Line.{next_place};
+ghost use Rattle.effect.specs.Run.{tick, retune, reset, ask, if_none, start_number, number_in};
 ghost use Rattle.effect.specs.Contract.{Does, Starts};
-ghost use Rattle.effect.specs.Needed.{placesNeeded};
-ghost use Rattle.vibrato.specs.Vibrato.{vibrato, tickOf, lineLength, fresh, stateFits, distance};
+ghost use Rattle.effect.specs.Needed.{places_needed};
+ghost use Rattle.vibrato.specs.Vibrato.{vibrato, tick_of, line_length, fresh, state_fits, distance};
 
 use port::{Answer, Outcome, Port, Silence};
 
@@ -40,14 +40,14 @@ impl Vibrato {
 
     // The places of the line; 0 at a refused rate.
     fn line_length(rate: f64) -> u64
-        ensures { result ≡ cond (rateFits rate) (lineLength rate) 0 }
+        ensures { result ≡ cond (rate_fits rate) (line_length rate) 0 }
     {
         common::line_length(rate, Vibrato::MAX_DELAY_MS)
     }
 
     // The places that a start needs at the rate; 2^64 - 1 for a rate that is refused.
     pub fn places_needed(rate: f64) -> u64
-        ensures { result ≡ placesNeeded vibrato rate }
+        ensures { result ≡ places_needed vibrato rate }
     {
         effect::places_or_none(Vibrato::line_length(rate))
     }
@@ -65,14 +65,14 @@ impl Vibrato {
 
     // Causes 1 and 3: a rate that is refused, and memory that is too short for it.
     fn rate_refusal(rate: f64, places: usize) -> Outcome
-        ensures { number_of result ≡ startNumber vibrato rate places }
+        ensures { number_of result ≡ start_number vibrato rate places }
     {
         effect::check_rate(Vibrato::line_length(rate), places)
     }
 
     // What a start, a retune or a reset returns, by the outcome of its tests: the state `next`, or `kept`.
     fn settled(outcome: Outcome, next: Vibrato, kept: Vibrato) -> Cleared
-        ensures { (result.state ≡ ifNone (number_of outcome) next kept) × (result.outcome ≡ outcome) }
+        ensures { (result.state ≡ if_none (number_of outcome) next kept) × (result.outcome ≡ outcome) }
     {
         if let Outcome::Accepted = outcome {
             return Cleared {
@@ -88,7 +88,7 @@ impl Vibrato {
 
     // Start: phase 0, at the rate.
     pub fn new(sample_rate: f64, mem: &mut [f64]) -> Cleared
-        ensures { Starts vibrato sample_rate mem.old result.state mem.new (outcomeReply result.outcome) }
+        ensures { Starts vibrato sample_rate mem.old result.state mem.new (outcome_reply result.outcome) }
     {
         let outcome = Vibrato::rate_refusal(sample_rate, mem.len());
         effect::clear(outcome, mem);
@@ -97,15 +97,15 @@ impl Vibrato {
 
     // The state test, where n is the length of the line.
     fn state_fits(self, n: u64) -> bool
-        requires { n ≡ cond (rateFits self.sample_rate) (lineLength self.sample_rate) 0 }
-        ensures { result ≡ stateFits self }
+        requires { n ≡ cond (rate_fits self.sample_rate) (line_length self.sample_rate) 0 }
+        ensures { result ≡ state_fits self }
     {
         self.write_pos < n && float64::phase_fits(self.lfo_phase)
     }
 
     // Causes 4 and 3: a state that fails its test, and memory that is too short for it.
     fn refusal(self, n: u64, places: usize) -> Outcome
-        requires { n ≡ cond (rateFits self.sample_rate) (lineLength self.sample_rate) 0 }
+        requires { n ≡ cond (rate_fits self.sample_rate) (line_length self.sample_rate) 0 }
         ensures { number_of result ≡ number_in vibrato reset places self }
     {
         effect::check_state(self.state_fits(n), effect::check_memory(n, places))
@@ -114,7 +114,7 @@ impl Vibrato {
     // Retune: a clearing at another rate. The phase goes to 0 too.
     pub fn set_sample_rate(self, sample_rate: f64, mem: &mut [f64]) -> Cleared
         ensures { Does vibrato (retune sample_rate) self mem.old result.state mem.new
-            (outcomeReply result.outcome) }
+            (outcome_reply result.outcome) }
     {
         let n = Vibrato::line_length(self.sample_rate);
         let others = Vibrato::rate_refusal(sample_rate, mem.len());
@@ -125,7 +125,7 @@ impl Vibrato {
 
     // Reset: a clearing at the rate in force, with phase 0 again.
     pub fn reset(self, mem: &mut [f64]) -> Cleared
-        ensures { Does vibrato reset self mem.old result.state mem.new (outcomeReply result.outcome) }
+        ensures { Does vibrato reset self mem.old result.state mem.new (outcome_reply result.outcome) }
     {
         let n = Vibrato::line_length(self.sample_rate);
         let outcome = self.refusal(n, mem.len());
@@ -135,7 +135,7 @@ impl Vibrato {
 
     // Silent? Whether every place of the line is +0 or -0.
     pub fn silent(self, mem: &[f64]) -> Silence
-        ensures { Does vibrato ask self mem.now self mem.now (silenceReply result) }
+        ensures { Does vibrato ask self mem.now self mem.now (silence_reply result) }
     {
         let n = Vibrato::line_length(self.sample_rate);
         let outcome = self.refusal(n, mem.len());
@@ -144,8 +144,8 @@ impl Vibrato {
 
     // (10 + sine x (depth x 10 x 0.9)) x rate / 1000, clamped to 1 to n - 1, n the length of the line.
     fn distance(n: u64, rate: f64, depth: f64, sine: f64) -> f64
-        requires rate_value { rateFits rate ≡ true }
-        requires n_value { n ≡ lineLength rate }
+        requires rate_value { rate_fits rate ≡ true }
+        requires n_value { n ≡ line_length rate }
         ensures { result ≡ distance rate depth sine }
     {
         let base = Vibrato::MAX_DELAY_MS * 0.5;
@@ -157,7 +157,7 @@ impl Vibrato {
     // The state after a tick.
     fn next(self, n: u64, frequency: f64) -> Vibrato
         requires { self.write_pos < n }
-        ensures write_pos_value { result.write_pos ≡ nextPlace n self.write_pos }
+        ensures write_pos_value { result.write_pos ≡ next_place n self.write_pos }
         ensures lfo_phase_value { result.lfo_phase ≡ advanced self.lfo_phase (div binary64 frequency self.sample_rate) }
         ensures sample_rate_value { result.sample_rate ≡ self.sample_rate }
     {
@@ -181,10 +181,10 @@ impl Vibrato {
         frequency: f64,
         sine: f64,
     ) -> Ticked
-        requires n_value { n ≡ lineLength self.sample_rate }
-        requires self_value { number_in vibrato (tick (tickOf (Set audio) (Set depth) (Set mix) frequency sine)) (length mem.old) self ≡ 0 }
-        ensures { Does vibrato (tick (tickOf (Set audio) (Set depth) (Set mix) frequency sine)) self mem.old result.state
-            mem.new (answerReply result.answer) }
+        requires n_value { n ≡ line_length self.sample_rate }
+        requires self_value { number_in vibrato (tick (tick_of (Set audio) (Set depth) (Set mix) frequency sine)) (length mem.old) self ≡ 0 }
+        ensures { Does vibrato (tick (tick_of (Set audio) (Set depth) (Set mix) frequency sine)) self mem.old result.state
+            mem.new (answer_reply result.answer) }
     {
         let state = self.next(n, frequency);
         let amount = float64::clamp(depth, 0.0, 1.0);
@@ -210,8 +210,8 @@ impl Vibrato {
         frequency: f64,
         sine: f64,
     ) -> Ticked
-        ensures { Does vibrato (tick (tickOf audio depth mix frequency sine)) self mem.old result.state mem.new
-            (answerReply result.answer) }
+        ensures { Does vibrato (tick (tick_of audio depth mix frequency sine)) self mem.old result.state mem.new
+            (answer_reply result.answer) }
     {
         let n = Vibrato::line_length(self.sample_rate);
         let refusal = self.refusal(n, mem.len());

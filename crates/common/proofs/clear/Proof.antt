@@ -5,13 +5,13 @@ use Prim.Native.Nat.{◌≤◌, ◌-◌}
 use native.Mathlib.Omega.{arith}
 use lib.ListN.{length, replicate, drop, length-set}
 use borrow.Author.Rules.{rules}
-use Rattle.float64.specs.Number.{plusZero}
+use Rattle.float64.specs.Number.{plus_zero}
 use Rattle.common.proofs.Fill.{fill_more, fill-all}
 use Rattle.common.proofs.clear.Statement.{statement}
 use Rattle.common.proofs.clear.Tie as tie
 
 abbrev invariant-loop : tie.invariant-loop
-invariant-loop mem₀ i₀ mem i = (i ≤ length mem₀) × (length mem ≡ length mem₀) × (mem ≡ replicate i plusZero ++ drop i mem₀)
+invariant-loop mem₀ i₀ mem i = (i ≤ length mem₀) × (length mem ≡ length mem₀) × (mem ≡ replicate i plus_zero ++ drop i mem₀)
 
 abbrev decreases-loop : tie.decreases-loop
 decreases-loop mem₀ i₀ mem i = length mem₀ - i
@@ -31,7 +31,7 @@ loop-again c =
     let at-loop = c.before in (
       omega arith,
       simp length-set at-loop.loop.invariant.1,
-      rw at-loop.loop.invariant.2 (fill_more at-loop.loop.i plusZero at-loop.before.args.mem.now (omega arith)),
+      rw at-loop.loop.invariant.2 (fill_more at-loop.loop.i plus_zero at-loop.before.args.mem.now (omega arith)),
     )
 
 same_length : tie.Need-same-length invariant-loop decreases-loop
@@ -41,7 +41,7 @@ returns : tie.Need-returns invariant-loop decreases-loop
 returns c =
     let given = c.before.before.args.mem.now in
     let e : c.before.loop.i ≡ length given = omega arith in
-    rw (c.before.loop.invariant.2, e) (fill-all plusZero given)
+    rw (c.before.loop.invariant.2, e) (fill-all plus_zero given)
 
 pub clear_spec : {M : Type 1} → statement M
 clear_spec =

@@ -1,4 +1,4 @@
--- `common::next_place` is `nextPlace`: a comparison for the remainder. Assumes nothing.
+-- `common::next_place` is `next_place`: a comparison for the remainder. Assumes nothing.
 use native.Mathlib.Omega.{arith}
 use mathlib.Core.Path.{sym}
 use borrow.Author.Rules.{rules}

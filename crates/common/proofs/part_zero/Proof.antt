@@ -1,4 +1,4 @@
--- `common::part_zero` is `allZero`: the loop's invariant is that what is left decides, if the places passed are zeros. Assumes nothing.
+-- `common::part_zero` is `all_zero`: the loop's invariant is that what is left decides, if the places passed are zeros. Assumes nothing.
 use Prim.Native.Nat.{suc, ◌-◌, ◌≤◌}
 use native.Mathlib.Omega.{arith}
 use native.Mathlib.Numerals.{add-one}
@@ -9,13 +9,13 @@ use lib.ListN.{length, drop, get_or, drop_of_length-le}
 use lib.Seq.{drop-cons}
 use lib.Ieee.{Float, nan, of_bits}
 use borrow.Author.Rules.{rules}
-use Rattle.common.specs.Line.{allZero}
+use Rattle.common.specs.Line.{all_zero}
 use Rattle.common.proofs.Zeros.{one_more, none_left}
 use Rattle.common.proofs.part_zero.Statement.{statement}
 use Rattle.common.proofs.part_zero.Tie as tie
 
 abbrev invariant-loop : tie.invariant-loop
-invariant-loop part zero₀ i₀ zero i = (i ≤ length part) × (zero && allZero (drop i part) ≡ allZero part)
+invariant-loop part zero₀ i₀ zero i = (i ≤ length part) × (zero && all_zero (drop i part) ≡ all_zero part)
 
 abbrev decreases-loop : tie.decreases-loop
 decreases-loop part zero₀ i₀ zero i = length part - i
@@ -37,14 +37,14 @@ loop-again c =
     let i = at-loop.loop.i in
     let zero = at-loop.loop.zero in (
       omega arith,
-      rw (add-one i) (one_more zero (get_or part i nan) (drop (suc i) part) ∙ ap (λ (l : List Float). zero && allZero l) (sym (drop-cons part i nan (omega arith))) ∙ at-loop.loop.invariant.1),
+      rw (add-one i) (one_more zero (get_or part i nan) (drop (suc i) part) ∙ ap (λ (l : List Float). zero && all_zero l) (sym (drop-cons part i nan (omega arith))) ∙ at-loop.loop.invariant.1),
     )
 
 returns : tie.Need-returns invariant-loop decreases-loop
 returns c =
     let part = c.before.before.args.part.now in
     let zero = c.before.loop.zero in
-    sym (none_left zero) ∙ ap (λ (l : List Float). zero && allZero l) (sym (drop_of_length-le part c.loop-test.false)) ∙ c.before.loop.invariant.1
+    sym (none_left zero) ∙ ap (λ (l : List Float). zero && all_zero l) (sym (drop_of_length-le part c.loop-test.false)) ∙ c.before.loop.invariant.1
 
 pub part-zero-spec : {M : Type 1} → statement M
 part-zero-spec =

@@ -1,11 +1,11 @@
--- `common::read_interpolated` is `readAt` of the line: a distance from 1 to L − 1 has its whole part there, so both places lie in the line. Assumes nothing.
+-- `common::read_interpolated` is `read_at` of the line: a distance from 1 to L − 1 has its whole part there, so both places lie in the line. Assumes nothing.
 use Prim.Native.Nat.{ℕ, ◌+◌, ◌-◌, ◌≤◌, ◌<◌}
 use native.Mathlib.Omega.{arith}
 use mathlib.Core.Path.{◌≡◌, sym, ap, subst, ◌∙◌}
 use lib.ListN.{length}
 use lib.Ieee.{binary64}
 use borrow.Author.Rules.{rules}
-use Rattle.float64.specs.Number.{float_of, wholePart}
+use Rattle.float64.specs.Number.{float_of, whole_part}
 use Rattle.float64.proofs.Interval.{In}
 use Rattle.float64.proofs.Ranges.{range-in}
 use Rattle.float64.proofs.Parts.{Parts, parts-of, whole-ends}
@@ -33,7 +33,7 @@ in-line : (c : tie.After-whole-part-small) → (1 ≤ c.whole-part-small.result)
 in-line c =
     let p = parts c.before.before in
     let e = c.whole-part-small.ensures in
-    (subst (λ (n : ℕ). 1 ≤ n) (sym e) p.at_least, under c.whole-part-small.result (wholePart c.before.before.args.distance) (length c.before.before.args.line.now) e p.at_least p.at-most)
+    (subst (λ (n : ℕ). 1 ≤ n) (sym e) p.at_least, under c.whole-part-small.result (whole_part c.before.before.args.distance) (length c.before.before.args.line.now) e p.at_least p.at-most)
   where
     under : (r d n : ℕ) → r ≡ d → 1 ≤ d → d ≤ n - 1 → r < n
     under r d n e h k = omega arith

@@ -1,4 +1,4 @@
--- `common::tick_causes` is `causeNumber`: the tests in the table's order. Assumes nothing.
+-- `common::tick_causes` is `cause_number`: the tests in the table's order. Assumes nothing.
 use borrow.Author.Tests.{not-true, not-false}
 use Rattle.common.proofs.tick_causes.Statement.{statement}
 use Rattle.common.proofs.tick_causes.Tie as tie

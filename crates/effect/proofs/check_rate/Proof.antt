@@ -1,4 +1,4 @@
--- `effect::check_rate` is `rateNumber`, branch by branch. Assumes nothing.
+-- `effect::check_rate` is `rate_number`, branch by branch. Assumes nothing.
 use mathlib.Core.Path.{◌∙◌}
 use borrow.Author.Rules.{rules}
 use borrow.Author.Tests.{eq-eqb, ne_eqb}

@@ -1,4 +1,4 @@
--- `effect::places_or_none` is `placesOrNone`, branch by branch. Assumes nothing.
+-- `effect::places_or_none` is `places_or_none`, branch by branch. Assumes nothing.
 use borrow.Author.Tests.{ne_eqb}
 use Rattle.effect.proofs.places_or_none.Statement.{statement}
 use Rattle.effect.proofs.places_or_none.Tie as tie

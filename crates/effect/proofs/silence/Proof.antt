@@ -11,8 +11,8 @@ use lib.Ieee.{Float}
 use borrow.Author.Rules.{rules}
 use Rattle.port.specs.Answer.{Reply, refused, number, number_of}
 use Rattle.port.specs.Answer as answer
-use Rattle.common.specs.Line.{allZero}
-use Rattle.effect.specs.Run.{ifNone}
+use Rattle.common.specs.Line.{all_zero}
+use Rattle.effect.specs.Run.{if_none}
 use Rattle.effect.proofs.Outcomes.{if-accepted, if-refused}
 use Rattle.effect.proofs.silence.Statement.{statement}
 use Rattle.effect.proofs.silence.Tie as tie
@@ -35,11 +35,11 @@ slice-aggregate-all-zero c = sym (length-take-le _ _ (omega (arith, c.before.few
 
 -- accepted, with the answer b
 answered : (c : tie.After-all-zero) (b : Bool) → c.all-zero.result ≡ b
-    → (let a = c.before.before.before.before.before.before.args in answer.silent b ≡ ifNone (number_of a.outcome) (answer.silent (allZero (take a.used a.mem.now))) (refused (number_of a.outcome)))
+    → (let a = c.before.before.before.before.before.before.args in answer.silent b ≡ if_none (number_of a.outcome) (answer.silent (all_zero (take a.used a.mem.now))) (refused (number_of a.outcome)))
 answered c b e =
     let size = c.before.before in
     let a = size.before.before.before.before.args in
-    ap answer.silent (sym e ∙ c.all-zero.ensures ∙ ap (λ (n : ℕ). allZero (take n a.mem.now)) size.fewer.ensures ∙ ap allZero (take_min a.used a.mem.now))
+    ap answer.silent (sym e ∙ c.all-zero.ensures ∙ ap (λ (n : ℕ). all_zero (take n a.mem.now)) size.fewer.ensures ∙ ap all_zero (take_min a.used a.mem.now))
     ∙ if-accepted _ _ size.before.enum_told.given.1
 
 returns-2 : tie.Need-returns-2

@@ -1,4 +1,4 @@
--- `float64::in_range` is `inRange`, branch by branch; an f64 fits binary64. Assumes nothing.
+-- `float64::in_range` is `in_range`, branch by branch; an f64 fits binary64. Assumes nothing.
 use Rattle.float64.specs.Number.{in_range}
 use Rattle.float64.proofs.in_range.Statement.{statement}
 use Rattle.float64.proofs.in_range.Tie as tie

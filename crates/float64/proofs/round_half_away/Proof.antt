@@ -1,7 +1,7 @@
--- `float64::round_half_away` is `roundHalfAway`: the laws of `Rounding`, branch by branch. Assumes nothing.
+-- `float64::round_half_away` is `round_half_away`: the laws of `Rounding`, branch by branch. Assumes nothing.
 use Rattle.std.proofs.Common.{◌≡◌, ℕ, ◌+◌, ◌^◌, ◌≤◌, Bool, true, false, T, sym, ap, ◌∙◌, subst, le_trans, le_of_eq, arith, le→leb, rules}
 use lib.Ieee.{Float, binary64, fits, of_bits, of_int, in_float, sub, le, lt}
-use Rattle.float64.specs.Number.{float_of, half, wholePart, fractionPart, roundHalfAway}
+use Rattle.float64.specs.Number.{float_of, half, whole_part, fraction_part, round_half_away}
 use Rattle.float64.proofs.Rounding.{round_whole, whole-small, round_up, round-down}
 use Rattle.float64.proofs.round_half_away.Statement.{statement}
 use Rattle.float64.proofs.round_half_away.Tie as tie
@@ -10,14 +10,14 @@ held : (c : tie.Start) → T (fits binary64 c.args.x)
 held c = subst T (sym c.well-formed.0.1) tt
 
 -- d as the call returns it
-module _ (x : Float) (d : ℕ) (a : T (fits binary64 x)) (e : d ≡ wholePart x) (l : lt x (float_of 4503599627370496) ≡ true) where
-  tested : (b : Bool) → le half (sub binary64 x (float_of d)) ≡ b → le half (fractionPart x) ≡ b
+module _ (x : Float) (d : ℕ) (a : T (fits binary64 x)) (e : d ≡ whole_part x) (l : lt x (float_of 4503599627370496) ≡ true) where
+  tested : (b : Bool) → le half (sub binary64 x (float_of d)) ≡ b → le half (fraction_part x) ≡ b
   tested b k = ap (λ (n : ℕ). le half (sub binary64 x (float_of n))) (sym e) ∙ k
 
-  up : le half (sub binary64 x (float_of d)) ≡ true → d + 1 ≡ roundHalfAway x
+  up : le half (sub binary64 x (float_of d)) ≡ true → d + 1 ≡ round_half_away x
   up k = ap (λ (n : ℕ). n + 1) e ∙ sym (round_up x a l (tested true k))
 
-  down : le half (sub binary64 x (float_of d)) ≡ false → d ≡ roundHalfAway x
+  down : le half (sub binary64 x (float_of d)) ≡ false → d ≡ round_half_away x
   down k = e ∙ sym (round-down x a l (tested false k))
 
 -- below 2 ^ 52 so is what the call returns, and as a float it is exact

@@ -1,7 +1,7 @@
 -- `float64::whole_part`: what is not above 0 has none; else the case of its exponent field, branch by branch. Assumes nothing.
 use Rattle.std.proofs.Common.{ℕ, ◌-◌, ◌*◌, ◌/◌, ◌%◌, ◌^◌, T, sym, ap, ◌∙◌, rules}
 use lib.Ieee.{binary64, fits, to_bits, of_bits, lt}
-use Rattle.float64.specs.Number.{plusZero}
+use Rattle.float64.specs.Number.{plus_zero}
 use Rattle.float64.proofs.Keys.{lt-num-r}
 use Rattle.float64.proofs.Ranges.{yes}
 use Rattle.float64.proofs.Fields.{whole-none, whole-below-one, small, whole_above, whole-held}
@@ -15,12 +15,12 @@ held c = yes c.well-formed.0.1
 abbrev s : tie.Then1 → tie.Start
 s c = c.before
 
-positive : (c : tie.Then1) → T (lt plusZero (s c).args.x)
+positive : (c : tie.Then1) → T (lt plus_zero (s c).args.x)
 unfolding of_bits
 positive c = yes c.if1.true
 
 float-to-bits-bits : tie.Need-float-to-bits-bits
-float-to-bits-bits c = lt-num-r plusZero (s c).args.x (positive c)
+float-to-bits-bits c = lt-num-r plus_zero (s c).args.x (positive c)
 
 returns : tie.Need-returns
 returns c = let t = c.before in sym (whole-below-one (s t).args.x (held (s t)) (positive t) c.if2.true)

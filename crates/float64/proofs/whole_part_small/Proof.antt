@@ -2,7 +2,7 @@
 -- Assumes nothing.
 use Rattle.std.proofs.Common.{ℕ, ◌-◌, ◌/◌, ◌^◌, ◌≤◌, T, ap, ◌∙◌, arith, rules}
 use lib.Ieee.{Float, binary64, fits, to_bits, of_int, le, lt}
-use Rattle.float64.specs.Number.{plusZero, float_of}
+use Rattle.float64.specs.Number.{plus_zero, float_of}
 use Rattle.float64.proofs.Keys.{lt-num-r}
 use Rattle.float64.proofs.Order.{lt-le-lt}
 use Rattle.float64.proofs.Ranges.{yes}
@@ -16,15 +16,15 @@ x c = c.args.x
 held : (c : tie.Start) → T (fits binary64 (x c))
 held c = yes c.well-formed.0.1
 
-positive : (c : tie.Start) → T (lt plusZero (x c))
+positive : (c : tie.Start) → T (lt plus_zero (x c))
 unfolding fits le lt of_int
-positive c = lt-le-lt binary64 plusZero (float_of 1) (x c) tt tt (held c) tt c.requires.0
+positive c = lt-le-lt binary64 plus_zero (float_of 1) (x c) tt tt (held c) tt c.requires.0
 
 field_in : (c : tie.Start) → (1023 ≤ to_bits binary64 (x c) / 2 ^ 52) × (to_bits binary64 (x c) / 2 ^ 52 ≤ 1074)
 field_in c = small-field (x c) (held c) (positive c) c.requires
 
 float-to-bits-bits : tie.Need-float-to-bits-bits
-float-to-bits-bits c = lt-num-r plusZero (x c) (positive c)
+float-to-bits-bits c = lt-num-r plus_zero (x c) (positive c)
 
 sub-result : tie.Need-overflow-sub-result
 sub-result c = omega (arith, field_in c.before)

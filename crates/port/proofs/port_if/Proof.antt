@@ -1,4 +1,4 @@
--- `port::port_if` is `portIf`, case by case. Assumes nothing.
+-- `port::port_if` is `port_if`, case by case. Assumes nothing.
 use Rattle.port.proofs.port_if.Statement.{statement}
 use Rattle.port.proofs.port_if.Tie as tie
 

@@ -8,7 +8,7 @@ use lib.ListN.{length, take}
 use lib.Ieee.{Float, is_nan, of_bits, of_int, round}
 use lib.Ieee as Ieee
 use borrow.Author.Rules.{rules}
-use Rattle.float64.specs.Number.{plusZero, float_of, half, is_number, sineFits, clampOf}
+use Rattle.float64.specs.Number.{plus_zero, float_of, half, is_number, sine_fits, clamp_of}
 use Rattle.float64.proofs.Ranges.{in-number}
 use Rattle.port.specs.declared.Port.TheVariants.{Set}
 use Rattle.common.proofs.Slices.{part_length}
@@ -16,7 +16,7 @@ use Rattle.common.proofs.Sweep.{control-in}
 use Rattle.effect.specs.Run.{tick}
 use Rattle.effect.proofs.Table.{Accepted, accepted, TickAccepted, tick-accepted}
 use Rattle.effect.proofs.Contract.{accepts}
-use Rattle.chorus.specs.Chorus.{chorus, Tick, tickOf}
+use Rattle.chorus.specs.Chorus.{chorus, Tick, tick_of}
 use Rattle.chorus.proofs.Laws.{Fits, fits-parts, length-fits, TickFits, tick-fits, swept, swept-in, voice-is, next-is, stored_is, played-is}
 use Rattle.chorus.proofs.Chorus.advance.Statement.{statement}
 use Rattle.chorus.proofs.Chorus.advance.Tie as tie
@@ -26,14 +26,14 @@ module _ (s : tie.Start) where
   abbrev handed : Tick
   handed =
       let a = s.args in
-      tickOf (Set a.audio) (Set a.depth) (Set a.mix) a.frequency a.sine0 a.sine1 a.sine2
+      tick_of (Set a.audio) (Set a.depth) (Set a.mix) a.frequency a.sine0 a.sine1 a.sine2
 
   -- it is accepted, so that the state passes its test, the memory has the places and the curve numbers are in range
   taken : Accepted chorus (length s.args.mem.now) (tick handed) s.args.self
   taken = accepted chorus (length s.args.mem.now) (tick handed) s.args.self s.pre.1
 
   unit : Fits s.args.self
-  unit = fits-parts s.args.self taken.stateFits
+  unit = fits-parts s.args.self taken.state_fits
 
   row : TickAccepted chorus (length s.args.mem.now) handed s.args.self.sample_rate
   row = tick-accepted chorus (length s.args.mem.now) handed s.args.self.sample_rate taken.number
@@ -56,7 +56,7 @@ module _ (s : tie.Start) where
   part = part_length 0 s.args.n s.args.mem.now s.args.n refl (omega (arith, room))
 
   -- what a voice asks of it
-  asks : {d : Float} (sine : Float) → d ≡ clampOf s.args.depth plusZero (float_of 1) → sineFits sine ≡ true
+  asks : {d : Float} (sine : Float) → d ≡ clamp_of s.args.depth plus_zero (float_of 1) → sine_fits sine ≡ true
       → (s.args.self.write_pos < length (take s.args.n s.args.mem.now))
       × ((2 ≤ length (take s.args.n s.args.mem.now))
       × ((length (take s.args.n s.args.mem.now) ≤ 16777217)

@@ -1,9 +1,9 @@
--- `Chorus::places_needed` is `placesNeeded`: the line has no places at just the rates that are refused. Assumes nothing.
+-- `Chorus::places_needed` is `places_needed`: the line has no places at just the rates that are refused. Assumes nothing.
 use mathlib.Core.Path.{◌∙◌}
 use borrow.Author.Rules.{rules}
-use Rattle.float64.specs.Number.{rateFits}
+use Rattle.float64.specs.Number.{rate_fits}
 use Rattle.effect.proofs.Needed.{places_row}
-use Rattle.chorus.specs.Chorus.{lineLength}
+use Rattle.chorus.specs.Chorus.{line_length}
 use Rattle.chorus.proofs.Laws.{some-places}
 use Rattle.chorus.proofs.Chorus.places_needed.Statement.{statement}
 use Rattle.chorus.proofs.Chorus.places_needed.Tie as tie
@@ -11,7 +11,7 @@ use Rattle.chorus.proofs.Chorus.places_needed.Tie as tie
 returns : tie.Need-returns
 returns c =
     let rate = c.before.before.args.rate in
-    c.places-or-none.ensures ∙ places_row (rateFits rate) (lineLength rate) c.before.line-length.ensures (some-places rate)
+    c.places-or-none.ensures ∙ places_row (rate_fits rate) (line_length rate) c.before.line-length.ensures (some-places rate)
 
 pub places-needed-spec : {M : Type 1} → statement M
 places-needed-spec = tie.close (tie.spec (search rules) (search rules) returns)

@@ -1,4 +1,4 @@
--- `Chorus::state_fits` is `stateFits`, branch by branch: the rate is tested by the length of a line. Assumes nothing.
+-- `Chorus::state_fits` is `state_fits`, branch by branch: the rate is tested by the length of a line. Assumes nothing.
 use mathlib.Core.Path.{sym, ◌∙◌}
 use borrow.Author.Rules.{rules}
 use borrow.Author.Tests.{lt-ltb, le-ltb}

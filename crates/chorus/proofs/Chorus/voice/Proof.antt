@@ -6,7 +6,7 @@ use lib.ListN.{length}
 use lib.Ieee.{Float}
 use Rattle.float64.proofs.Ranges.{in-range}
 use Rattle.float64.proofs.Parts.{clamp-whole-in}
-use Rattle.common.specs.Line.{line_at, readAt}
+use Rattle.common.specs.Line.{line_at, read_at}
 use borrow.Author.Rules.{rules}
 use Rattle.chorus.proofs.Chorus.voice.Statement.{statement}
 use Rattle.chorus.proofs.Chorus.voice.Tie as tie
@@ -20,7 +20,7 @@ read-interpolated-requires c κs =
 returns : tie.Need-returns
 returns c =
     let a = c.before.before.before.args in
-    c.read-interpolated.ensures ∙ ap (λ (x : Float). readAt (line_at 0 (length a.line.now) a.w a.line.now) x) c.before.distance.ensures
+    c.read-interpolated.ensures ∙ ap (λ (x : Float). read_at (line_at 0 (length a.line.now) a.w a.line.now) x) c.before.distance.ensures
 
 pub voice-spec : {M : Type 1} → statement M
 voice-spec = tie.close (tie.spec (search rules) read-interpolated-requires returns)

@@ -10,7 +10,7 @@ use borrow.Author.Rules.{rules}
 use Rattle.port.specs.Answer.{played}
 use Rattle.common.specs.Signal.{blended}
 use Rattle.common.proofs.Slices.{part_length}
-use Rattle.delay_line.specs.DelayLine.{readsAt, nextState}
+use Rattle.delay_line.specs.DelayLine.{reads_at, next_state}
 use Rattle.delay_line.proofs.Laws.{Fits, fits-parts, length-fits, in-line, reads-is, delayed-is}
 use Rattle.delay_line.proofs.DelayLine.advance.Statement.{statement}
 use Rattle.delay_line.proofs.DelayLine.advance.Tie as tie
@@ -36,7 +36,7 @@ module _ (c : tie.After-glided) where
   abbrev start : tie.Start
   start = c.before.before.before
 
-  reads_at : c.glided.result ≡ readsAt start.args.self start.args.samples
+  reads_at : c.glided.result ≡ reads_at start.args.self start.args.samples
   reads_at = reads-is start.args.self start.args.samples start.pre.0 c.before.target-delay.ensures c.glided.ensures
 
 slice-reshare-prefix-read-interpolated : tie.Need-slice-reshare-prefix-read-interpolated
@@ -77,7 +77,7 @@ returns c =
     let m = a.mem.now in
     let x = audio.sanitize-audio.ensures in
     let d = delayed-is a.self a.samples s.pre.0 m (room s) (inside s) (reads_at g) read.read-interpolated.ensures in (
-      c.next.ensures ∙ (λ i. nextState a.n (reads_at g i) a.self),
+      c.next.ensures ∙ (λ i. next_state a.n (reads_at g i) a.self),
       (
         (λ i. played ((mixed.blend.ensures ∙ (λ j. blended (x j) (d j) (wet.clamp2.ensures j))) i ∷ [])),
         (λ i. set m a.self.write_pos (add binary64 (x i) (mul binary64 (d i) (back.clamp.ensures i)))),

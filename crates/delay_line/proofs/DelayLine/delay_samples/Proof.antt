@@ -4,13 +4,13 @@ use lib.Dec.{T}
 use lib.Ieee.{Float, binary64, mul, of_bits, of_int}
 use borrow.Author.Rules.{rules}
 use Rattle.float64.specs.Number.{float_of, is_number}
-use Rattle.delay_line.specs.DelayLine.{samplesOf}
+use Rattle.delay_line.specs.DelayLine.{samples_of}
 use Rattle.delay_line.proofs.Laws.{linear-read, plain-read}
 use Rattle.delay_line.proofs.DelayLine.delay_samples.Statement.{statement}
 use Rattle.delay_line.proofs.DelayLine.delay_samples.Tie as tie
 
 returns : tie.Need-returns
-unfolding samplesOf of_bits of_int
+unfolding samples_of of_bits of_int
 returns c =
     let s = c.before.before.before in
     let a = s.args in
@@ -18,11 +18,11 @@ returns c =
       rw (c.before.before.if1.true, c.before.clamp.ensures),
       λ e.
           rw c.before.before.if1.true
-          (linear-read rate a.time a.self.max_delay_secs (subst T (sym s.well-formed.1.0.1) tt) (sym (ap (λ (y : Float). is_number (samplesOf rate (mul binary64 y (float_of 1000)))) c.before.clamp.ensures) ∙ e)),
+          (linear-read rate a.time a.self.max_delay_secs (subst T (sym s.well-formed.1.0.1) tt) (sym (ap (λ (y : Float). is_number (samples_of rate (mul binary64 y (float_of 1000)))) c.before.clamp.ensures) ∙ e)),
     )
 
 returns-2 : tie.Need-returns-2
-unfolding samplesOf of_bits of_int
+unfolding samples_of of_bits of_int
 returns-2 c =
     let s = c.before.before in
     let a = s.args in

@@ -1,10 +1,10 @@
--- `DelayLine::reset` is the reset of `delayLine`: causes 4 and 3, or a clearing and the fresh state. Assumes nothing.
+-- `DelayLine::reset` is the reset of `delay_line`: causes 4 and 3, or a clearing and the fresh state. Assumes nothing.
 use mathlib.Core.Path.{refl, ◌∙◌}
 use borrow.Author.Rules.{rules}
 use Rattle.port.specs.Answer.{number_of}
-use Rattle.effect.specs.Run.{reset, ifNone}
+use Rattle.effect.specs.Run.{reset, if_none}
 use Rattle.effect.proofs.Contract.{clears}
-use Rattle.delay_line.specs.DelayLine.{delayLine}
+use Rattle.delay_line.specs.DelayLine.{delay_line}
 use Rattle.delay_line.proofs.DelayLine.reset.Statement.{statement}
 use Rattle.delay_line.proofs.DelayLine.reset.Tie as tie
 
@@ -14,8 +14,8 @@ returns c =
     let tested = filled.before.before in
     let a = tested.before.before.before.args in
     let outcome = tested.refusal.result in
-    clears delayLine reset a.self a.mem.now outcome tested.refusal.ensures refl
-    (c.settled.ensures.0 ∙ (λ i. ifNone (number_of outcome) (c.before.cleared.ensures i) a.self))
+    clears delay_line reset a.self a.mem.now outcome tested.refusal.ensures refl
+    (c.settled.ensures.0 ∙ (λ i. if_none (number_of outcome) (c.before.cleared.ensures i) a.self))
     filled.clear.ensures
     c.settled.ensures.1
 

@@ -1,4 +1,4 @@
--- `DelayLine::tick` is the tick of `delayLine`: the ports or their defaults, the delay in samples, where there is a NaN the table in its order, then causes
+-- `DelayLine::tick` is the tick of `delay_line`: the ports or their defaults, the delay in samples, where there is a NaN the table in its order, then causes
 -- 4 and 3, then the tick itself. Assumes nothing.
 use native.Mathlib.Omega.{arith}
 use mathlib.Core.Path.{◌≡◌, refl, sym, ap, ◌∙◌}
@@ -8,8 +8,8 @@ use lib.ListN.{length}
 use lib.Ieee.{of_bits, round}
 use borrow.Author.Rules.{rules}
 use borrow.Author.Tests.{not-false}
-use Rattle.float64.specs.Number.{plusZero, half, is_number}
-use Rattle.port.specs.Port.{valueOr}
+use Rattle.float64.specs.Number.{plus_zero, half, is_number}
+use Rattle.port.specs.Port.{value_or}
 use Rattle.port.specs.Answer.{number, number_of}
 use Rattle.port.proofs.Laws.{value_set, value-unset, number-some}
 use Rattle.common.proofs.Sweep.{neither}
@@ -17,14 +17,14 @@ use Rattle.effect.specs.Run.{tick, reset, number_in}
 use Rattle.effect.proofs.Table.{Accepted, accepted, tick-accepted, enough}
 use Rattle.effect.proofs.Contract.{refuses, accepts, tick-number}
 use Rattle.effect.proofs.Rows.{unit-refused}
-use Rattle.delay_line.specs.DelayLine.{Tick, delayLine, tickOf, settings, tickNumber, delayMs}
-use Rattle.delay_line.proofs.Laws.{fits-parts, size, size_fits, setTick, set-row, set-number, no_nan, tick-fits, samples-number, next-is, stored_is, played-is}
+use Rattle.delay_line.specs.DelayLine.{Tick, delay_line, tick_of, settings, tick_number, delay_ms}
+use Rattle.delay_line.proofs.Laws.{fits-parts, size, size_fits, set_tick, set-row, set-number, no_nan, tick-fits, samples-number, next-is, stored_is, played-is}
 use Rattle.delay_line.proofs.DelayLine.tick.Statement.{statement}
 use Rattle.delay_line.proofs.DelayLine.tick.Tie as tie
 
 -- what the tick is handed
 abbrev handed : tie.Start → Tick
-handed s = let a = s.args in tickOf a.audio a.time a.feedback a.mix a.milliseconds
+handed s = let a = s.args in tick_of a.audio a.time a.feedback a.mix a.milliseconds
 
 -- each port's number, or the default
 module _ (v : tie.At-match4-branch) where
@@ -34,15 +34,15 @@ module _ (v : tie.At-match4-branch) where
   abbrev linear : Bool
   linear = start.args.self.linear_time
 
-  audio-is : v.before.before.before.match.audio ≡ valueOr start.args.audio plusZero
+  audio-is : v.before.before.before.match.audio ≡ value_or start.args.audio plus_zero
   unfolding of_bits
   audio-is =
       elim v.before.before.before.match.came [
-        | inl w ↦ value_set plusZero w.1.given.1 w.3
-        | inr w ↦ value-unset plusZero w.1.given.1 w.2
+        | inl w ↦ value_set plus_zero w.1.given.1 w.3
+        | inr w ↦ value-unset plus_zero w.1.given.1 w.2
       ]
 
-  time-is : v.before.before.match2.time ≡ valueOr start.args.time half
+  time-is : v.before.before.match2.time ≡ value_or start.args.time half
   unfolding of_bits round
   time-is =
       elim v.before.before.match2.came [
@@ -50,15 +50,15 @@ module _ (v : tie.At-match4-branch) where
         | inr w ↦ value-unset half w.1.given.1 w.2
       ]
 
-  feedback-is : v.before.match3.feedback ≡ valueOr start.args.feedback plusZero
+  feedback-is : v.before.match3.feedback ≡ value_or start.args.feedback plus_zero
   unfolding of_bits
   feedback-is =
       elim v.before.match3.came [
-        | inl w ↦ value_set plusZero w.1.given.1 w.3
-        | inr w ↦ value-unset plusZero w.1.given.1 w.2
+        | inl w ↦ value_set plus_zero w.1.given.1 w.3
+        | inr w ↦ value-unset plus_zero w.1.given.1 w.2
       ]
 
-  mix-is : v.match4.mix ≡ valueOr start.args.mix half
+  mix-is : v.match4.mix ≡ value_or start.args.mix half
   unfolding of_bits round
   mix-is =
       elim v.match4.came [
@@ -68,7 +68,7 @@ module _ (v : tie.At-match4-branch) where
 
   -- the tick with these numbers
   abbrev set : Tick
-  set = setTick (handed start) linear time-is feedback-is mix-is
+  set = set_tick (handed start) linear time-is feedback-is mix-is
 
 -- from the numbers to the tests for NaN
 abbrev values : tie.After-is-nan3 → tie.At-match4-branch
@@ -81,7 +81,7 @@ returns c =
     let v = values found.before.before in
     let s = start v in
     let cause = met.met.given.0.0 in
-    refuses delayLine (tick (handed s)) s.args.self s.args.mem.now (number cause)
+    refuses delay_line (tick (handed s)) s.args.self s.args.mem.now (number cause)
     (sym (ap number_of met.met.given.1) ∙ found.nan-refusal.ensures ∙ set-number (handed s) (linear v) (time-is v) (feedback-is v) (mix-is v) (length s.args.mem.now) s.args.self refl)
     (number-some cause)
 
@@ -91,18 +91,18 @@ returns-2 c =
     let found = refusal.before.before in
     let s = start (values found.before.before) in
     let cause = refusal.refusal2.given.0.0 in
-    refuses delayLine (tick (handed s)) s.args.self s.args.mem.now (number cause)
-    (unit-refused delayLine (length s.args.mem.now) s.args.self (handed s) (sym (ap number_of refusal.refusal2.given.1) ∙ found.refusal.ensures) (number-some cause))
+    refuses delay_line (tick (handed s)) s.args.self s.args.mem.now (number cause)
+    (unit-refused delay_line (length s.args.mem.now) s.args.self (handed s) (sym (ap number_of refusal.refusal2.given.1) ∙ found.refusal.ensures) (number-some cause))
     (number-some cause)
 
 -- past the NaN tests causes 5 and 6 do not apply
-row : (c : tie.Joined1) → tickNumber (set (values c.before)) (linear (values c.before)) ≡ 0
+row : (c : tie.Joined1) → tick_number (set (values c.before)) (linear (values c.before)) ≡ 0
 row c =
     elim c.if1.branch [
       | inl w ↦
           (let s = start (values c.before) in
-          let a = accepted delayLine (length s.args.mem.now) (tick (set (values c.before))) s.args.self (sym w.1.ensures ∙ ap number_of w.3.given.1) in
-          (tick-accepted delayLine (length s.args.mem.now) (set (values c.before)) (settings s.args.self) a.number).number)
+          let a = accepted delay_line (length s.args.mem.now) (tick (set (values c.before))) s.args.self (sym w.1.ensures ∙ ap number_of w.3.given.1) in
+          (tick-accepted delay_line (length s.args.mem.now) (set (values c.before)) (settings s.args.self) a.number).number)
       | inr w ↦
           (let third = c.before in
           let second = third.before in
@@ -127,27 +127,27 @@ module _ (c : tie.After-enum-told6) where
   abbrev unit : tie.Start
   unit = start ports
 
-  passed : Accepted delayLine (length unit.args.mem.now) reset unit.args.self
-  passed = accepted delayLine (length unit.args.mem.now) reset unit.args.self (sym c.before.before.refusal.ensures ∙ ap number_of c.enum-told6.given.1)
+  passed : Accepted delay_line (length unit.args.mem.now) reset unit.args.self
+  passed = accepted delay_line (length unit.args.mem.now) reset unit.args.self (sym c.before.before.refusal.ensures ∙ ap number_of c.enum-told6.given.1)
 
   sized : joined.before.before.before.before.line-length.result ≡ size unit.args.self
-  sized = size_fits unit.args.self joined.before.before.before.before.line-length.ensures passed.stateFits
+  sized = size_fits unit.args.self joined.before.before.before.before.line-length.ensures passed.state_fits
 
-  number_is : 0 ≡ number_in delayLine (tick (handed unit)) (length unit.args.mem.now) unit.args.self
+  number_is : 0 ≡ number_in delay_line (tick (handed unit)) (length unit.args.mem.now) unit.args.self
   number_is =
-      tick-number delayLine (length unit.args.mem.now) unit.args.self (handed unit) passed.stateFits (sym passed.number)
+      tick-number delay_line (length unit.args.mem.now) unit.args.self (handed unit) passed.state_fits (sym passed.number)
       (sym (sym (set-row (handed unit) (linear ports) (time-is ports) (feedback-is ports) (mix-is ports)) ∙ row joined))
 
 advance-requires : tie.Need-advance-requires
-unfolding delayMs
+unfolding delay_ms
 advance-requires c κs =
     let told = c.before in
     let s = (unit told).args.self in
-    let stateFits = (passed told).stateFits in
-    let ms = samples-number (set (ports told)) s (fits-parts s stateFits) (tick-fits (set (ports told)) (linear (ports told)) (row (joined told))) in (
+    let state_fits = (passed told).state_fits in
+    let ms = samples-number (set (ports told)) s (fits-parts s state_fits) (tick-fits (set (ports told)) (linear (ports told)) (row (joined told))) in (
       sized told,
       (
-        stateFits,
+        state_fits,
         (
           omega (arith, sized told, enough (size s) _ (passed told).number),
           ap is_number (joined told).before.before.before.before.before.delay-samples.ensures.0 ∙ ms,
@@ -165,7 +165,7 @@ returns-3 c =
     let m = a.mem.now in
     let read = (joined told).before.before.before.before.before.delay-samples.ensures.0 in
     let does = worked.advance.ensures in
-    accepts delayLine (tick t) a.self m (sym (number_is told))
+    accepts delay_line (tick t) a.self m (sym (number_is told))
     (next-is t a.self m (audio-is v) (time-is v) (feedback-is v) (mix-is v) read (sized told) does.0)
     (stored_is t a.self m (audio-is v) (time-is v) (feedback-is v) (mix-is v) read does.1.1)
     (played-is t a.self m (audio-is v) (time-is v) (feedback-is v) (mix-is v) read does.1.0)

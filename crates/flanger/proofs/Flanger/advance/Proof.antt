@@ -8,7 +8,7 @@ use lib.ListN.{length, take, drop, length-set}
 use lib.Ieee.{Float, is_nan, neg, of_bits, of_int, round}
 use lib.Ieee as Ieee
 use borrow.Author.Rules.{rules}
-use Rattle.float64.specs.Number.{plusZero, float_of, half, is_number, in_range, rateFits, sineFits, clampOf}
+use Rattle.float64.specs.Number.{plus_zero, float_of, half, is_number, in_range, rate_fits, sine_fits, clamp_of}
 use Rattle.float64.proofs.Ranges.{in-range}
 use Rattle.port.specs.declared.Port.TheVariants.{Set}
 use Rattle.common.proofs.Slices.{part_length}
@@ -16,7 +16,7 @@ use Rattle.common.proofs.Sweep.{control-in}
 use Rattle.effect.specs.Run.{tick}
 use Rattle.effect.proofs.Table.{Accepted, accepted, TickAccepted, tick-accepted}
 use Rattle.effect.proofs.Contract.{accepts}
-use Rattle.flanger.specs.Flanger.{flanger, Tick, tickOf, lineLength}
+use Rattle.flanger.specs.Flanger.{flanger, Tick, tick_of, line_length}
 use Rattle.flanger.proofs.Laws.{Fits, fits-parts, length-fits, TickFits, tick-fits, tap-is, next-is, stored_is, played-is}
 use Rattle.flanger.proofs.Flanger.advance.Statement.{statement}
 use Rattle.flanger.proofs.Flanger.advance.Tie as tie
@@ -26,14 +26,14 @@ module _ (s : tie.Start) where
   abbrev handed : Tick
   handed =
       let a = s.args in
-      tickOf (Set a.audio) (Set a.depth) (Set a.feedback) (Set a.mix) a.frequency a.sine0 a.sine1
+      tick_of (Set a.audio) (Set a.depth) (Set a.feedback) (Set a.mix) a.frequency a.sine0 a.sine1
 
   -- it is accepted, so that the state passes its test, the memory has the places and the curve numbers are in range
   taken : Accepted flanger (length s.args.mem.now) (tick handed) s.args.self
   taken = accepted flanger (length s.args.mem.now) (tick handed) s.args.self s.pre.1
 
   unit : Fits s.args.self
-  unit = fits-parts s.args.self taken.stateFits
+  unit = fits-parts s.args.self taken.state_fits
 
   row : TickAccepted flanger (length s.args.mem.now) handed s.args.self.sample_rate
   row = tick-accepted flanger (length s.args.mem.now) handed s.args.self.sample_rate taken.number
@@ -51,12 +51,12 @@ module _ (s : tie.Start) where
   room = omega (arith, s.pre.0, row.enough)
 
   -- what a tap asks, of the part of k places from place o on
-  asks : (k o : ℕ) {d : Float} (sine : Float) → k ≡ s.args.n → o + s.args.n ≤ length s.args.mem.now → d ≡ clampOf s.args.depth plusZero (float_of 1) → sineFits sine ≡ true
-      → (rateFits s.args.self.sample_rate ≡ true)
-      × ((length (take k (drop o s.args.mem.now)) ≡ lineLength s.args.self.sample_rate)
+  asks : (k o : ℕ) {d : Float} (sine : Float) → k ≡ s.args.n → o + s.args.n ≤ length s.args.mem.now → d ≡ clamp_of s.args.depth plus_zero (float_of 1) → sine_fits sine ≡ true
+      → (rate_fits s.args.self.sample_rate ≡ true)
+      × ((length (take k (drop o s.args.mem.now)) ≡ line_length s.args.self.sample_rate)
       × ((s.args.self.write_pos < length (take k (drop o s.args.mem.now)))
-      × ((in_range d plusZero (float_of 1) ≡ true)
-      × (sineFits sine ≡ true))))
+      × ((in_range d plus_zero (float_of 1) ≡ true)
+      × (sine_fits sine ≡ true))))
   unfolding is_number Ieee.fits is_nan round
   asks k o sine e h g f =
       let l = part_length o k s.args.mem.now s.args.n e h in

@@ -3,7 +3,7 @@ use mathlib.Core.Path.{◌∙◌}
 use lib.Ieee.{of_bits}
 use borrow.Author.Rules.{rules}
 use Rattle.port.specs.Answer.{number_of}
-use Rattle.effect.specs.Run.{ifNone}
+use Rattle.effect.specs.Run.{if_none}
 use Rattle.effect.proofs.Contract.{starts-clears}
 use Rattle.flanger.specs.Flanger.{flanger}
 use Rattle.flanger.proofs.Flanger.new.Statement.{statement}
@@ -17,7 +17,7 @@ returns c =
     let a = tested.before.before.args in
     let outcome = tested.rate-refusal.result in
     starts-clears flanger a.sample-rate a.mem.now outcome tested.rate-refusal.ensures
-    (c.settled.ensures.0 ∙ (λ i. ifNone (number_of outcome) (c.before.before.cleared.ensures i) (c.before.cleared2.ensures i)))
+    (c.settled.ensures.0 ∙ (λ i. if_none (number_of outcome) (c.before.before.cleared.ensures i) (c.before.cleared2.ensures i)))
     filled.clear.ensures
     c.settled.ensures.1
 

@@ -2,7 +2,7 @@
 use native.Mathlib.Omega.{arith}
 use mathlib.Core.Path.{◌∙◌}
 use borrow.Author.Rules.{rules}
-use Rattle.float64.specs.Number.{rateFits}
+use Rattle.float64.specs.Number.{rate_fits}
 use Rattle.effect.proofs.Needed.{rate-row}
 use Rattle.flanger.specs.Flanger.{places}
 use Rattle.flanger.proofs.Laws.{some-places, short, in_lines}
@@ -15,7 +15,7 @@ mul-check-rate c = omega (arith, short c.before.args.rate c.line-length.ensures)
 returns : tie.Need-returns
 returns c =
     let a = c.before.before.args in
-    c.check-rate.ensures ∙ rate-row (rateFits a.rate) (places a.rate) (in_lines a.rate c.before.line-length.ensures) (some-places a.rate) a.places
+    c.check-rate.ensures ∙ rate-row (rate_fits a.rate) (places a.rate) (in_lines a.rate c.before.line-length.ensures) (some-places a.rate) a.places
 
 pub rate-refusal-spec : {M : Type 1} → statement M
 rate-refusal-spec = tie.close (tie.spec (search rules) mul-check-rate (search rules) returns)

@@ -3,11 +3,11 @@ use Prim.Native.Nat.{ℕ, ◌*◌}
 use native.Mathlib.Omega.{arith}
 use mathlib.Core.Path.{ap, ◌∙◌}
 use borrow.Author.Rules.{rules}
-use Rattle.float64.specs.Number.{rateFits}
+use Rattle.float64.specs.Number.{rate_fits}
 use Rattle.common.proofs.Sweep.{size_is}
-use Rattle.effect.specs.Run.{reset, memoryNumber}
+use Rattle.effect.specs.Run.{reset, memory_number}
 use Rattle.effect.proofs.Contract.{state-row}
-use Rattle.flanger.specs.Flanger.{flanger, lineLength}
+use Rattle.flanger.specs.Flanger.{flanger, line_length}
 use Rattle.flanger.proofs.Laws.{fits-parts, short}
 use Rattle.flanger.proofs.Flanger.refusal.Statement.{statement}
 use Rattle.flanger.proofs.Flanger.refusal.Tie as tie
@@ -22,7 +22,7 @@ returns c =
     let a = s.args in
     let rate = a.self.sample_rate in
     state-row flanger a.places a.self reset memory.before.state-fits.ensures
-    (λ f. memory.check-memory.ensures ∙ ap (λ (n : ℕ). memoryNumber (2 * n) a.places) (size_is (rateFits rate) (lineLength rate) s.requires (fits-parts a.self f).rate))
+    (λ f. memory.check-memory.ensures ∙ ap (λ (n : ℕ). memory_number (2 * n) a.places) (size_is (rate_fits rate) (line_length rate) s.requires (fits-parts a.self f).rate))
     c.check-state.ensures
 
 pub refusal-spec : {M : Type 1} → statement M

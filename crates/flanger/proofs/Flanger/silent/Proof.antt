@@ -4,14 +4,14 @@ use native.Mathlib.Omega.{arith}
 use mathlib.Core.Path.{ap}
 use lib.ListN.{length, take}
 use borrow.Author.Rules.{rules}
-use Rattle.float64.specs.Number.{rateFits}
+use Rattle.float64.specs.Number.{rate_fits}
 use Rattle.port.specs.Answer.{number_of}
-use Rattle.common.specs.Line.{allZero}
+use Rattle.common.specs.Line.{all_zero}
 use Rattle.common.proofs.Sweep.{size_is}
 use Rattle.effect.specs.Run.{ask}
 use Rattle.effect.proofs.Table.{accepted}
 use Rattle.effect.proofs.Contract.{asks}
-use Rattle.flanger.specs.Flanger.{flanger, lineLength}
+use Rattle.flanger.specs.Flanger.{flanger, line_length}
 use Rattle.flanger.proofs.Laws.{fits-parts, short}
 use Rattle.flanger.proofs.Flanger.silent.Statement.{statement}
 use Rattle.flanger.proofs.Flanger.silent.Tie as tie
@@ -27,8 +27,8 @@ returns c =
     let rate = s.sample_rate in
     asks flanger s m (number_of c.before.refusal.result) c.before.refusal.ensures
     (λ z.
-    ap (λ (n : ℕ). allZero (take (2 * n) m))
-    (size_is (rateFits rate) (lineLength rate) c.before.before.line-length.ensures (fits-parts s (accepted flanger (length m) ask s z).stateFits).rate))
+    ap (λ (n : ℕ). all_zero (take (2 * n) m))
+    (size_is (rate_fits rate) (line_length rate) c.before.before.line-length.ensures (fits-parts s (accepted flanger (length m) ask s z).state_fits).rate))
     c.silence.ensures
 
 pub silent-spec : {M : Type 1} → statement M

@@ -5,7 +5,7 @@ use lib.ListN.{length}
 use lib.Ieee.{Float}
 use borrow.Author.Rules.{rules}
 use Rattle.float64.proofs.Ranges.{in-range}
-use Rattle.common.specs.Line.{line_at, readAt}
+use Rattle.common.specs.Line.{line_at, read_at}
 use Rattle.flanger.proofs.Laws.{length-fits, distance-in}
 use Rattle.flanger.proofs.Flanger.tap.Statement.{statement}
 use Rattle.flanger.proofs.Flanger.tap.Tie as tie
@@ -25,7 +25,7 @@ read-interpolated-requires c κs =
 returns : tie.Need-returns
 returns c =
     let a = c.before.before.before.args in
-    c.read-interpolated.ensures ∙ ap (λ (x : Float). readAt (line_at 0 (length a.line.now) a.w a.line.now) x) c.before.distance.ensures
+    c.read-interpolated.ensures ∙ ap (λ (x : Float). read_at (line_at 0 (length a.line.now) a.w a.line.now) x) c.before.distance.ensures
 
 pub tap-spec : {M : Type 1} → statement M
 tap-spec = tie.close (tie.spec (λ c κs. search rules) read-interpolated-requires returns)

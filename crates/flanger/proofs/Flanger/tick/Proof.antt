@@ -7,18 +7,18 @@ use mathlib.Core.Bool.{◌&&◌, ◌||◌}
 use lib.ListN.{length}
 use lib.Ieee.{of_bits, round, fits, is_nan}
 use borrow.Author.Rules.{rules}
-use Rattle.float64.specs.Number.{plusZero, half, is_number, rateFits, frequencyFits, sineFits}
-use Rattle.port.specs.Port.{valueOr}
+use Rattle.float64.specs.Number.{plus_zero, half, is_number, rate_fits, frequency_fits, sine_fits}
+use Rattle.port.specs.Port.{value_or}
 use Rattle.port.specs.Answer.{number, number_of}
 use Rattle.port.proofs.Laws.{value_set, value-unset, nan_is, number-some}
-use Rattle.common.specs.Signal.{causeNumber}
+use Rattle.common.specs.Signal.{cause_number}
 use Rattle.common.proofs.Sweep.{size_is}
 use Rattle.effect.specs.Run.{tick, reset, number_in}
 use Rattle.effect.proofs.Table.{Accepted, accepted}
 use Rattle.effect.proofs.Contract.{refuses, tick-number}
 use Rattle.effect.proofs.Rows.{unit-refused}
-use Rattle.flanger.specs.Flanger.{flanger, Tick, tickOf, lineLength, tickNumber}
-use Rattle.flanger.proofs.Laws.{fits-parts, allSet, set_does}
+use Rattle.flanger.specs.Flanger.{flanger, Tick, tick_of, line_length, tick_number}
+use Rattle.flanger.proofs.Laws.{fits-parts, all_set, set_does}
 use Rattle.flanger.proofs.Flanger.tick.Statement.{statement}
 use Rattle.flanger.proofs.Flanger.tick.Tie as tie
 
@@ -26,7 +26,7 @@ use Rattle.flanger.proofs.Flanger.tick.Tie as tie
 abbrev handed : tie.Start → Tick
 handed s =
     let a = s.args in
-    tickOf a.audio a.depth a.feedback a.mix a.frequency a.sine0 a.sine1
+    tick_of a.audio a.depth a.feedback a.mix a.frequency a.sine0 a.sine1
 
 returns : tie.Need-returns
 returns c =
@@ -43,15 +43,15 @@ module _ (c : tie.At-match5-branch) where
   abbrev start : tie.Start
   start = c.before.before.before.before.before.before.before.before.before
 
-  audio-is : c.before.before.before.match2.audio ≡ valueOr start.args.audio plusZero
+  audio-is : c.before.before.before.match2.audio ≡ value_or start.args.audio plus_zero
   unfolding of_bits
   audio-is =
       elim c.before.before.before.match2.branch [
-        | inl w ↦ value_set plusZero w.1.given.1 w.3
-        | inr w ↦ value-unset plusZero w.1.given.1 w.2
+        | inl w ↦ value_set plus_zero w.1.given.1 w.3
+        | inr w ↦ value-unset plus_zero w.1.given.1 w.2
       ]
 
-  depth_is : c.before.before.match3.depth ≡ valueOr start.args.depth half
+  depth_is : c.before.before.match3.depth ≡ value_or start.args.depth half
   unfolding of_bits round
   depth_is =
       elim c.before.before.match3.branch [
@@ -59,15 +59,15 @@ module _ (c : tie.At-match5-branch) where
         | inr w ↦ value-unset half w.1.given.1 w.2
       ]
 
-  feedback-is : c.before.match4.feedback ≡ valueOr start.args.feedback plusZero
+  feedback-is : c.before.match4.feedback ≡ value_or start.args.feedback plus_zero
   unfolding of_bits
   feedback-is =
       elim c.before.match4.branch [
-        | inl w ↦ value_set plusZero w.1.given.1 w.3
-        | inr w ↦ value-unset plusZero w.1.given.1 w.2
+        | inl w ↦ value_set plus_zero w.1.given.1 w.3
+        | inr w ↦ value-unset plus_zero w.1.given.1 w.2
       ]
 
-  mix-is : c.match5.mix ≡ valueOr start.args.mix half
+  mix-is : c.match5.mix ≡ value_or start.args.mix half
   unfolding of_bits round
   mix-is =
       elim c.match5.branch [
@@ -81,7 +81,7 @@ module _ (c : tie.At-match5-branch) where
 
   -- the tick with these numbers
   abbrev all : Tick
-  all = allSet (handed start) audio-is depth_is feedback-is mix-is
+  all = all_set (handed start) audio-is depth_is feedback-is mix-is
 
 -- the number by the ports
 module _ (c : tie.After-tick-causes) where
@@ -89,28 +89,28 @@ module _ (c : tie.After-tick-causes) where
   values = c.before.before.before.before.before.before.before
 
   curves-are : (c.before.before.before.frequency-fits.result && (c.before.before.sine-fits.result && c.before.sine-fits2.result))
-      ≡ (frequencyFits (start values).args.frequency && (sineFits (start values).args.sine0 && sineFits (start values).args.sine1))
+      ≡ (frequency_fits (start values).args.frequency && (sine_fits (start values).args.sine0 && sine_fits (start values).args.sine1))
   curves-are = λ i. c.before.before.before.frequency-fits.ensures i && (c.before.before.sine-fits.ensures i && c.before.sine-fits2.ensures i)
 
   number_is : (k : ℕ) → number_of c.tick-causes.result ≡ k → k ≡ number_in flanger (tick (handed (start values))) (length (start values).args.mem.now) (start values).args.self
-  unfolding tickNumber is_number fits is_nan round
+  unfolding tick_number is_number fits is_nan round
   number_is k e =
       let a = (start values).args in
       let u = passed values in
       let depth = nan_is a.depth half refl (depth_is values) c.before.before.before.before.before.before.is-nan.ensures in
-      let feedback = nan_is a.feedback plusZero refl (feedback-is values) c.before.before.before.before.before.is-nan2.ensures in
+      let feedback = nan_is a.feedback plus_zero refl (feedback-is values) c.before.before.before.before.before.is-nan2.ensures in
       let mix = nan_is a.mix half refl (mix-is values) c.before.before.before.before.is-nan3.ensures in
-      tick-number flanger (length a.mem.now) a.self (handed (start values)) u.stateFits (sym u.number)
-      (sym e ∙ c.tick-causes.ensures ∙ (λ i. causeNumber (depth i || (feedback i || mix i)) (curves-are i)))
+      tick-number flanger (length a.mem.now) a.self (handed (start values)) u.state_fits (sym u.number)
+      (sym e ∙ c.tick-causes.ensures ∙ (λ i. cause_number (depth i || (feedback i || mix i)) (curves-are i)))
 
   -- and by their numbers
   set-number-is : (k : ℕ) → number_of c.tick-causes.result ≡ k → k ≡ number_in flanger (tick (all values)) (length (start values).args.mem.now) (start values).args.self
-  unfolding tickNumber
+  unfolding tick_number
   set-number-is k e =
       let a = (start values).args in
       let u = passed values in
-      tick-number flanger (length a.mem.now) a.self (all values) u.stateFits (sym u.number)
-      (sym e ∙ c.tick-causes.ensures ∙ (λ i. causeNumber (c.before.before.before.before.before.before.is-nan.ensures i || (c.before.before.before.before.before.is-nan2.ensures i || c.before.before.before.before.is-nan3.ensures i)) (curves-are i)))
+      tick-number flanger (length a.mem.now) a.self (all values) u.state_fits (sym u.number)
+      (sym e ∙ c.tick-causes.ensures ∙ (λ i. cause_number (c.before.before.before.before.before.before.is-nan.ensures i || (c.before.before.before.before.before.is-nan2.ensures i || c.before.before.before.before.is-nan3.ensures i)) (curves-are i)))
 
 returns-2 : tie.Need-returns-2
 returns-2 c =
@@ -128,7 +128,7 @@ advance-requires c κs =
     let v = values causes in
     let s = (start v).args.self in
     let rate = s.sample_rate in (
-      size_is (rateFits rate) (lineLength rate) v.before.before.before.before.before.before.before.line-length.ensures (fits-parts s (passed v).stateFits).rate,
+      size_is (rate_fits rate) (line_length rate) v.before.before.before.before.before.before.before.line-length.ensures (fits-parts s (passed v).state_fits).rate,
       sym (set-number-is causes 0 (ap number_of told.enum-told6.given.1)),
     )
 

@@ -2,14 +2,14 @@
 use mathlib.Core.Path.{sym, ap}
 use lib.Ieee.{of_bits}
 use Rattle.port.specs.declared.Answer.{Answer}
-use Rattle.port.specs.Answer.{answerReply, replySample}
+use Rattle.port.specs.Answer.{answer_reply, reply_sample}
 use borrow.Author.Rules.{rules}
 use Rattle.port.proofs.Answer.first.Statement.{statement}
 use Rattle.port.proofs.Answer.first.Tie as tie
 
 returns-4 : tie.Need-returns-4
 unfolding of_bits
-returns-4 c = sym (ap (λ (a : Answer). replySample 0 (answerReply a)) c.enum_told.given.1)
+returns-4 c = sym (ap (λ (a : Answer). reply_sample 0 (answer_reply a)) c.enum_told.given.1)
 
 pub first_spec : {M : Type 1} → statement M
 first_spec =

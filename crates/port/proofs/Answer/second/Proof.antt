@@ -2,18 +2,18 @@
 use mathlib.Core.Path.{sym, ap}
 use lib.Ieee.{of_bits}
 use Rattle.port.specs.declared.Answer.{Answer}
-use Rattle.port.specs.Answer.{answerReply, replySample}
+use Rattle.port.specs.Answer.{answer_reply, reply_sample}
 use borrow.Author.Rules.{rules}
 use Rattle.port.proofs.Answer.second.Statement.{statement}
 use Rattle.port.proofs.Answer.second.Tie as tie
 
 returns : tie.Need-returns
 unfolding of_bits
-returns c = sym (ap (λ (a : Answer). replySample 1 (answerReply a)) c.enum_told.given.1)
+returns c = sym (ap (λ (a : Answer). reply_sample 1 (answer_reply a)) c.enum_told.given.1)
 
 returns-4 : tie.Need-returns-4
 unfolding of_bits
-returns-4 c = sym (ap (λ (a : Answer). replySample 1 (answerReply a)) c.before.self3.given.1)
+returns-4 c = sym (ap (λ (a : Answer). reply_sample 1 (answer_reply a)) c.before.self3.given.1)
 
 pub second_spec : {M : Type 1} → statement M
 second_spec =

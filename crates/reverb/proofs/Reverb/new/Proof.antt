@@ -2,7 +2,7 @@
 use Rattle.std.proofs.Common.{◌≡◌, refl, ap, ◌∙◌, inl, inr, rules}
 use lib.Ieee.{of_bits}
 use Rattle.port.specs.Answer.{number_of}
-use Rattle.effect.specs.Run.{ifNone}
+use Rattle.effect.specs.Run.{if_none}
 use Rattle.effect.proofs.Outcomes.{if-accepted, if-refused}
 use Rattle.effect.proofs.Contract.{starts-clears}
 use Rattle.reverb.specs.Reverb.{reverb, fresh, blank}
@@ -11,7 +11,7 @@ use Rattle.reverb.proofs.Reverb.new.Tie as tie
 
 -- the fresh state at the rate, or the blank one, which is that at rate +0
 state-is : (c : tie.At-match-branch)
-    → (let tested = c.before.before.before.before.before in fresh c.match.rate ≡ ifNone (number_of tested.rate-refusal.result) (fresh tested.before.before.args.sample-rate) blank)
+    → (let tested = c.before.before.before.before.before in fresh c.match.rate ≡ if_none (number_of tested.rate-refusal.result) (fresh tested.before.before.args.sample-rate) blank)
 unfolding of_bits
 state-is c =
     elim c.match.branch [

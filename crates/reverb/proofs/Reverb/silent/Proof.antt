@@ -8,8 +8,8 @@ use Rattle.effect.specs.Contract.{Does}
 use Rattle.effect.proofs.Table.{Accepted, accepted, enough}
 use Rattle.effect.proofs.Contract.{refuses, accepts}
 use Rattle.reverb.specs.declared.tunings.Lengths.{Lengths}
-use Rattle.reverb.specs.Tunings.{lengthsAt}
-use Rattle.reverb.specs.Tank.{tankSize, silence}
+use Rattle.reverb.specs.Tunings.{lengths_at}
+use Rattle.reverb.specs.Tank.{tank_size, silence}
 use Rattle.reverb.specs.Reverb.{reverb}
 use Rattle.reverb.proofs.Scaling.{lengths-are, roomy}
 use Rattle.reverb.proofs.Laws.{fits-parts}
@@ -34,15 +34,15 @@ module _ (c : tie.After-enum-told) where
   passed = accepted reverb (length start.args.mem.now) ask start.args.self (sym c.before.before.refusal.ensures ∙ ap number_of c.enum_told.given.1)
 
   -- so the lengths are those at its rate
-  long : c.before.before.before.scaled-lengths.result ≡ lengthsAt start.args.self.sample_rate
+  long : c.before.before.before.scaled-lengths.result ≡ lengths_at start.args.self.sample_rate
   long =
       let s = start.args.self in
-      lengths-are s.sample_rate (fits-parts s passed.stateFits).rate c.before.before.before.scaled-lengths.ensures
+      lengths-are s.sample_rate (fits-parts s passed.state_fits).rate c.before.before.before.scaled-lengths.ensures
 
 all-silent-requires : tie.Need-all-silent-requires
 all-silent-requires c κs =
     let s = (start c).args.self in
-    (roomy s.sample_rate (long c), enough tankSize _ (passed c).number)
+    (roomy s.sample_rate (long c), enough tank_size _ (passed c).number)
 
 -- accepted, with the answer b
 answered : (c : tie.After-all-silent) (b : Bool) → c.all-silent.result ≡ b

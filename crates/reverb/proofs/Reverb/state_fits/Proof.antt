@@ -1,4 +1,4 @@
--- `Reverb::state_fits` is `stateFits`. Assumes nothing.
+-- `Reverb::state_fits` is `state_fits`. Assumes nothing.
 use Rattle.std.proofs.Common.{◌∙◌, rules}
 use Rattle.reverb.proofs.Laws.{fits_by}
 use Rattle.reverb.proofs.Reverb.state_fits.Statement.{statement}

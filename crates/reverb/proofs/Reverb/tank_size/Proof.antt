@@ -1,4 +1,4 @@
--- `Reverb::tank_size` is `tankSize` at a rate that is accepted. Assumes nothing.
+-- `Reverb::tank_size` is `tank_size` at a rate that is accepted. Assumes nothing.
 use Rattle.std.proofs.Common.{sym, ◌∙◌, rules}
 use Rattle.reverb.proofs.Reverb.tank_size.Statement.{statement}
 use Rattle.reverb.proofs.Reverb.tank_size.Tie as tie

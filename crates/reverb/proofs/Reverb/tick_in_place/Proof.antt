@@ -3,19 +3,19 @@ use Rattle.std.proofs.Common.{◌≡◌, ℕ, ◌≤◌, Bool, true, false, ◌|
 use lib.Ieee.{round, is_nan}
 use lib.Ieee as Ieee
 use borrow.Author.Tests.{not-true, not-false}
-use Rattle.float64.specs.Number.{plusZero, half, is_number}
+use Rattle.float64.specs.Number.{plus_zero, half, is_number}
 use Rattle.port.specs.Answer.{number, number_of, played}
 use Rattle.port.proofs.Laws.{nan_is, number-some}
-use Rattle.common.specs.Signal.{causeNumber}
+use Rattle.common.specs.Signal.{cause_number}
 use Rattle.common.proofs.Sweep.{no-cause, neither}
 use Rattle.effect.specs.Effect.{laid}
-use Rattle.effect.specs.Run.{tick, memoryNumber, number_in}
+use Rattle.effect.specs.Run.{tick, memory_number, number_in}
 use Rattle.effect.proofs.Table.{enough}
 use Rattle.effect.proofs.Contract.{refuses, accepts, state-refused, tick-memory, tick-number}
 use Rattle.reverb.specs.declared.tick.Controls.{Controls}
 use Rattle.reverb.specs.declared.Reverb.{Reverb}
-use Rattle.reverb.specs.Tank.{tankSize}
-use Rattle.reverb.specs.Reverb.{reverb, Tick, tickOf, controlsOf, state_of, stateFits, tickNumber, next, writes, samples}
+use Rattle.reverb.specs.Tank.{tank_size}
+use Rattle.reverb.specs.Reverb.{reverb, Tick, tick_of, controls_of, state_of, state_fits, tick_number, next, writes, samples}
 use Rattle.reverb.proofs.Scaling.{lengths-are}
 use Rattle.reverb.proofs.Laws.{fits_by, fits-parts}
 use Rattle.reverb.proofs.Reverb.tick_in_place.Statement.{statement}
@@ -25,7 +25,7 @@ use Rattle.reverb.proofs.Reverb.tick_in_place.Tie as tie
 abbrev handed : tie.Start → Tick
 handed s =
     let a = s.args in
-    tickOf a.audio a.size a.damping a.mix a.predelay
+    tick_of a.audio a.size a.damping a.mix a.predelay
 
 -- and what is lent to it, as a state
 abbrev self : tie.Start → Reverb
@@ -38,7 +38,7 @@ module _ (c : tie.After-positions-fit) where
   abbrev tested : tie.Start
   tested = c.before.before.before.before.before.before.before.before
 
-  fits-is : c.positions-fit.result ≡ stateFits (self tested)
+  fits-is : c.positions-fit.result ≡ state_fits (self tested)
   fits-is = c.positions-fit.ensures ∙ fits_by (self tested) c.before.before.before.before.before.before.lengths-at.ensures
 
 returns : tie.Need-returns
@@ -54,7 +54,7 @@ module _ (c : tie.After-check-memory) where
   abbrev begun : tie.Start
   begun = tested c.before.before
 
-  passed : stateFits (self begun) ≡ true
+  passed : state_fits (self begun) ≡ true
   passed = sym (fits-is c.before.before) ∙ not-false _ c.before.if1.false
 
 returns-2 : tie.Need-returns-2
@@ -76,22 +76,22 @@ module _ (c : tie.After-tick-causes) where
   abbrev start : tie.Start
   start = begun memory
 
-  controls-are : c.before.before.before.before.before.controls-of.result ≡ controlsOf (handed start)
+  controls-are : c.before.before.before.before.before.controls-of.result ≡ controls_of (handed start)
   controls-are = c.before.before.before.before.before.controls-of.ensures
 
-  has-places : 0 ≡ memoryNumber tankSize (length start.args.mem.now)
+  has-places : 0 ≡ memory_number tank_size (length start.args.mem.now)
   has-places = sym (ap number_of c.before.before.before.before.before.before.enum_told.given.1) ∙ memory.check-memory.ensures
 
   number_is : (k : ℕ) → number_of c.tick-causes.result ≡ k → k ≡ number_in reverb (tick (handed start)) (length start.args.mem.now) (self start)
-  unfolding tickNumber is_number Ieee.fits is_nan round
+  unfolding tick_number is_number Ieee.fits is_nan round
   number_is k e =
       let a = start.args in
       let size = nan_is a.size half refl (ap (λ (v : Controls). v.size) controls-are) c.before.before.before.before.is-nan.ensures in
       let damping = nan_is a.damping half refl (ap (λ (v : Controls). v.damping) controls-are) c.before.before.before.is-nan2.ensures in
       let mix = nan_is a.mix half refl (ap (λ (v : Controls). v.mix) controls-are) c.before.before.is-nan3.ensures in
-      let predelay = nan_is a.predelay plusZero refl (ap (λ (v : Controls). v.predelay) controls-are) c.before.is-nan4.ensures in
+      let predelay = nan_is a.predelay plus_zero refl (ap (λ (v : Controls). v.predelay) controls-are) c.before.is-nan4.ensures in
       tick-number reverb (length a.mem.now) (self start) (handed start) (passed memory) has-places
-      (sym e ∙ c.tick-causes.ensures ∙ (λ i. causeNumber (size i || (damping i || (mix i || predelay i))) true))
+      (sym e ∙ c.tick-causes.ensures ∙ (λ i. cause_number (size i || (damping i || (mix i || predelay i))) true))
 
   -- without a cause the predelay is a number
   predelay-number : number_of c.tick-causes.result ≡ 0 → is_number c.before.before.before.before.before.controls-of.result.predelay ≡ true
@@ -120,7 +120,7 @@ advance-requires c κs =
     let memory = memory causes in
     let u = self (begun memory) in (
       lengths-are u.sample_rate (fits-parts u (passed memory)).rate memory.before.before.before.before.before.before.before.before.lengths-at.ensures,
-      (passed memory, (enough tankSize _ (sym (has-places causes)), predelay-number causes (ap number_of told.enum-told2.given.1))),
+      (passed memory, (enough tank_size _ (sym (has-places causes)), predelay-number causes (ap number_of told.enum-told2.given.1))),
     )
 
 returns-4 : tie.Need-returns-4

@@ -1,21 +1,21 @@
 -- `filters::allpass_at` is a step of an all-pass on the part of the tank that starts at place o, said of the whole tank. Assumes nothing.
 use Rattle.std.proofs.Common.{◌+◌, ◌-◌, ap, ◌∙◌, arith, rules}
 use lib.Ieee.{Float, nan}
-use Rattle.common.proofs.Slices.{part-getD, part-set}
-use Rattle.reverb.specs.Tunings.{allpassSize}
-use Rattle.reverb.specs.Freeverb.{passed, passLine}
+use Rattle.common.proofs.Slices.{part-get_d, part-set}
+use Rattle.reverb.specs.Tunings.{allpass_size}
+use Rattle.reverb.specs.Freeverb.{passed, pass_line}
 use Rattle.reverb.proofs.filters.allpass_at.Statement.{statement}
 use Rattle.reverb.proofs.filters.allpass_at.Tie as tie
 
 returns : tie.Need-returns
-unfolding passLine
+unfolding pass_line
 returns c =
     let p = c.before.before in
     let s = p.before.before.before in
     let a = s.args in
     let m = a.mem.now in
-    let k = a.o + allpassSize - a.o in
-    let held = part-getD a.o k m a.pos nan (omega (arith, s.requires)) in (
+    let k = a.o + allpass_size - a.o in
+    let held = part-get_d a.o k m a.pos nan (omega (arith, s.requires)) in (
       p.process-allpass.ensures.0 ∙ ap (λ (x : Float). passed x a.n a.pos a.input) held,
       rw (p.process-allpass.ensures.1, held) (part-set a.o k m a.pos _ (omega (arith, s.requires)) (omega (arith, s.requires))),
     )

@@ -1,9 +1,9 @@
--- `filters::predelay_samples` is `delaySamples`, from 1 on and below. Assumes nothing.
+-- `filters::predelay_samples` is `delay_samples`, from 1 on and below. Assumes nothing.
 use Rattle.std.proofs.Common.{T, sym, ap, ◌∙◌, subst, rules}
 use lib.Ieee.{Float, binary64, mul, fits, le, of_bits, of_int, round}
 use lib.Ieee.Fits.{mul-fits}
 use Rattle.float64.specs.Number.{float_of, fraction, Small}
-use Rattle.reverb.specs.Reverb.{delaySamples}
+use Rattle.reverb.specs.Reverb.{delay_samples}
 use Rattle.reverb.proofs.Predelay.{held_small, held_none}
 use Rattle.reverb.proofs.filters.predelay_samples.Statement.{statement}
 use Rattle.reverb.proofs.filters.predelay_samples.Tie as tie
@@ -22,11 +22,11 @@ whole-part-small-requires c κs =
     subst Small (sym a.at-most.ensures) (held_small (samples a.before) (samples-fit a.before) (ap (le (float_of 1)) (sym a.at-most.ensures) ∙ c.if1.true))
 
 returns : tie.Need-returns
-unfolding delaySamples of_bits of_int round
+unfolding delay_samples of_bits of_int round
 returns c = rw (c.whole-part-small.ensures, c.before.before.at-most.ensures)
 
 returns-2 : tie.Need-returns-2
-unfolding delaySamples of_bits of_int round
+unfolding delay_samples of_bits of_int round
 returns-2 c =
     let a = c.before in
     sym (held_none (samples a.before) (samples-fit a.before) (ap (le (float_of 1)) (sym a.at-most.ensures) ∙ c.if1.false))

@@ -1,16 +1,16 @@
 -- `tank::all_silent` is `silence`: the lines of a side, those of the other, and the predelay. Assumes nothing.
 use Rattle.std.proofs.Common.{◌≡◌, Bool, ◌&&◌, length, sym, ◌∙◌, inl, inr, arith, rules}
-use Rattle.reverb.specs.Tunings.{Side, left, right, sided, combSize, allpassSize}
-use Rattle.reverb.specs.Tank.{combStart, allpassStart, linesZero, silence}
+use Rattle.reverb.specs.Tunings.{Side, left, right, sided, comb_size, allpass_size}
+use Rattle.reverb.specs.Tank.{comb_start, allpass_start, lines_zero, silence}
 use Rattle.reverb.proofs.tank.all_silent.Statement.{statement}
 use Rattle.reverb.proofs.tank.all_silent.Tie as tie
 
 -- the tests of a side's lines
 abbrev combs : Side → tie.Start → Bool
-combs side s = linesZero (combStart side 0) combSize (sided s.args.n.comb_l s.args.n.comb_r side) s.args.mem.now
+combs side s = lines_zero (comb_start side 0) comb_size (sided s.args.n.comb_l s.args.n.comb_r side) s.args.mem.now
 
 abbrev allpasses : Side → tie.Start → Bool
-allpasses side s = linesZero (allpassStart side 0) allpassSize (sided s.args.n.allpass_l s.args.n.allpass_r side) s.args.mem.now
+allpasses side s = lines_zero (allpass_start side 0) allpass_size (sided s.args.n.allpass_l s.args.n.allpass_r side) s.args.mem.now
 
 -- how many lengths there are
 module _ (s : tie.Start) where

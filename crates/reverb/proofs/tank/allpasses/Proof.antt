@@ -4,36 +4,36 @@ use Rattle.common.specs.Line.{table}
 use Rattle.common.proofs.Tables.{tabled, tabled-none, tabled-more, tabled-next, tabled-all}
 use Rattle.effect.specs.Effect.{laid}
 use Rattle.reverb.specs.declared.filters.Passed.{Passed}
-use Rattle.reverb.specs.Tunings.{Side, left, right, sided, allpassMost}
-use Rattle.reverb.specs.Tank.{SidedLines, InLines, tankSize, allpassLines, nextPosition, bySides, allpassesHeld, passedOn, allpassWrite}
+use Rattle.reverb.specs.Tunings.{Side, left, right, sided, allpass_most}
+use Rattle.reverb.specs.Tank.{SidedLines, InLines, tank_size, allpass_lines, next_position, by_sides, allpasses_held, passed_on, allpass_write}
 use Rattle.reverb.proofs.Apart.{lines_long, allpass-asks, allpass-apart, allpass-across, by-sides, first-held, then-held, turned, pass-gives, pass-writes}
 use Rattle.reverb.proofs.tank.allpasses.Statement.{statement}
 use Rattle.reverb.proofs.tank.allpasses.Tie as tie
 
 abbrev invariant-loop : tie.invariant-loop
 invariant-loop pos-l₀ pos-r₀ mem₀ input-l input-r n output-l₀ output-r₀ i₀ pos-l pos-r mem output-l output-r i =
-    let lines = allpassLines pos-l₀ pos-r₀ n in
-    let held = allpassesHeld lines mem₀ in
+    let lines = allpass_lines pos-l₀ pos-r₀ n in
+    let held = allpasses_held lines mem₀ in
     (i ≤ 4) × (length mem ≡ length mem₀)
-    × (mem ≡ laid (bySides (allpassWrite (sided input-l input-r) lines held) i) mem₀)
-    × (pos-l ≡ tabled (nextPosition lines left) i pos-l₀)
-    × (pos-r ≡ tabled (nextPosition lines right) i pos-r₀)
-    × (output-l ≡ passedOn input-l (held left) i)
-    × (output-r ≡ passedOn input-r (held right) i)
+    × (mem ≡ laid (by_sides (allpass_write (sided input-l input-r) lines held) i) mem₀)
+    × (pos-l ≡ tabled (next_position lines left) i pos-l₀)
+    × (pos-r ≡ tabled (next_position lines right) i pos-r₀)
+    × (output-l ≡ passed_on input-l (held left) i)
+    × (output-r ≡ passed_on input-r (held right) i)
 
 abbrev decreases-loop : tie.decreases-loop
 decreases-loop pos-l₀ pos-r₀ mem₀ input-l input-r n output-l₀ output-r₀ i₀ pos-l pos-r mem output-l output-r i = 4 - i
 
 loop-holds : tie.Need-loop-init invariant-loop decreases-loop
-unfolding bySides passedOn
+unfolding by_sides passed_on
 loop-holds c = (omega arith, refl, refl, tabled-none _ _, tabled-none _ _, refl, refl)
 
 -- what is lent, as lines
 module _ (s : tie.Start invariant-loop decreases-loop) where
   abbrev lines : SidedLines
-  lines = let a = s.args in allpassLines a.pos-l.now a.pos-r.now a.t3
+  lines = let a = s.args in allpass_lines a.pos-l.now a.pos-r.now a.t3
 
-  fits : InLines 4 allpassMost lines
+  fits : InLines 4 allpass_most lines
   fits = s.pre.0
 
 -- what a turn reads: no entry of its own is stored yet
@@ -57,7 +57,7 @@ allpass-at-requires c κs =
 cast-allpass-at-2 : tie.Need-overflow-cast-allpass-at-2 invariant-loop decreases-loop
 cast-allpass-at-2 c =
     let t = c.before.before.before.before.before.before.before.before.before in
-    omega (arith, (allpass-asks (fits (start t)) right t.before.loop.i tankSize (at-r t) t.loop-test.true (omega arith)).1.0)
+    omega (arith, (allpass-asks (fits (start t)) right t.before.loop.i tank_size (at-r t) t.loop-test.true (omega arith)).1.0)
 
 allpass-at-requires-2 : tie.Need-allpass-at-requires-2 invariant-loop decreases-loop
 allpass-at-requires-2 c κs =
@@ -67,7 +67,7 @@ allpass-at-requires-2 c κs =
     allpass-asks (fits s) right l.i _ (at-r t) t.loop-test.true (omega (arith, c.before.before.before.before.before.allpass-at.auto.0, l.invariant.1, s.pre.1))
 
 loop-again : tie.Need-loop-preserved invariant-loop decreases-loop
-unfolding allpassWrite
+unfolding allpass_write
 loop-again c =
     let t = c.before.before.before.before.before.before.before.before.before.before.before.before in
     let l = t.before.loop in
@@ -81,7 +81,7 @@ loop-again c =
     let ls = c.before.before.before.before.before.before.before.before.allpass-at in
     let rs = c.before.before.allpass-at2 in
     let x = sided a.input-l a.input-r in
-    let w = allpassWrite x u (allpassesHeld u m) in
+    let w = allpass_write x u (allpasses_held u m) in
     let apart : (v z : Side) (k : ℕ) → k < i → (w i v).place ≢ (w k z).place = λ v z k g. allpass-apart f v z i k g h in
     let across = allpass-across f i h in
     let same-l = first-held w m i apart l.mem l.invariant.2 left in
@@ -107,16 +107,16 @@ returns c =
     let s = c.before.before.before in
     let a = s.args in
     let u = lines s in
-    let h = allpassesHeld u a.mem.now in
+    let h = allpasses_held u a.mem.now in
     let x = sided a.input-l a.input-r in
     let e : l.i ≡ 4 = omega arith in
     record {
       positions =
-          by-sides (λ side. table (nextPosition u side) 4)
-          (rw e at l.invariant.3 ∙ tabled-all (nextPosition u left) 4 a.pos-l.now (lines_long (fits s) left))
-          (rw e at l.invariant.4 ∙ tabled-all (nextPosition u right) 4 a.pos-r.now (lines_long (fits s) right));
+          by-sides (λ side. table (next_position u side) 4)
+          (rw e at l.invariant.3 ∙ tabled-all (next_position u left) 4 a.pos-l.now (lines_long (fits s) left))
+          (rw e at l.invariant.4 ∙ tabled-all (next_position u right) 4 a.pos-r.now (lines_long (fits s) right));
       memory = rw e at l.invariant.2;
-      outputs = by-sides (λ side. passedOn (x side) (h side) 4) (rw e at l.invariant.5) (rw e at l.invariant.6);
+      outputs = by-sides (λ side. passed_on (x side) (h side) 4) (rw e at l.invariant.5) (rw e at l.invariant.6);
     }
 
 pub allpasses-spec : {M : Type 1} → statement M

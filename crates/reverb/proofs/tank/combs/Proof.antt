@@ -5,23 +5,23 @@ use Rattle.common.specs.Line.{table}
 use Rattle.common.proofs.Tables.{tabled, tabled-none, tabled-more, tabled-next, tabled-all}
 use Rattle.effect.specs.Effect.{laid}
 use Rattle.reverb.specs.declared.filters.Combed.{Combed}
-use Rattle.reverb.specs.Tunings.{Side, left, right, sided, combMost}
-use Rattle.reverb.specs.Tank.{SidedLines, InLines, tankSize, combLines, nextPosition, bySides, combsHeld, sum_of, combStored, combWrite}
+use Rattle.reverb.specs.Tunings.{Side, left, right, sided, comb_most}
+use Rattle.reverb.specs.Tank.{SidedLines, InLines, tank_size, comb_lines, next_position, by_sides, combs_held, sum_of, comb_stored, comb_write}
 use Rattle.reverb.proofs.Apart.{lines_long, comb-asks, comb-apart, comb-across, by-sides, first-held, then-held, turned, comb-gives, comb-writes, sum_more}
 use Rattle.reverb.proofs.tank.combs.Statement.{statement}
 use Rattle.reverb.proofs.tank.combs.Tie as tie
 
 abbrev invariant-loop : tie.invariant-loop
 invariant-loop pos-l₀ pos-r₀ filter-state-l₀ filter-state-r₀ mem₀ input feedback damping n sum-l₀ sum-r₀ i₀ pos-l pos-r filter-state-l filter-state-r mem sum-l sum_r i =
-    let lines = combLines pos-l₀ pos-r₀ n in
+    let lines = comb_lines pos-l₀ pos-r₀ n in
     let stores = sided filter-state-l₀ filter-state-r₀ in
-    let held = combsHeld lines mem₀ in
+    let held = combs_held lines mem₀ in
     (i ≤ 8) × (length mem ≡ length mem₀)
-    × (mem ≡ laid (bySides (combWrite input damping feedback lines stores held) i) mem₀)
-    × (pos-l ≡ tabled (nextPosition lines left) i pos-l₀)
-    × (pos-r ≡ tabled (nextPosition lines right) i pos-r₀)
-    × (filter-state-l ≡ tabled (combStored damping stores held left) i filter-state-l₀)
-    × (filter-state-r ≡ tabled (combStored damping stores held right) i filter-state-r₀)
+    × (mem ≡ laid (by_sides (comb_write input damping feedback lines stores held) i) mem₀)
+    × (pos-l ≡ tabled (next_position lines left) i pos-l₀)
+    × (pos-r ≡ tabled (next_position lines right) i pos-r₀)
+    × (filter-state-l ≡ tabled (comb_stored damping stores held left) i filter-state-l₀)
+    × (filter-state-r ≡ tabled (comb_stored damping stores held right) i filter-state-r₀)
     × (sum-l ≡ sum_of (held left) i)
     × (sum_r ≡ sum_of (held right) i)
     × (length filter-state-l ≡ 8) × (length filter-state-r ≡ 8)
@@ -30,18 +30,18 @@ abbrev decreases-loop : tie.decreases-loop
 decreases-loop pos-l₀ pos-r₀ filter-state-l₀ filter-state-r₀ mem₀ input feedback damping n sum-l₀ sum-r₀ i₀ pos-l pos-r filter-state-l filter-state-r mem sum-l sum_r i = 8 - i
 
 loop-holds : tie.Need-loop-init invariant-loop decreases-loop
-unfolding bySides sum_of of_bits
+unfolding by_sides sum_of of_bits
 loop-holds c = let s = c.before.before.before in (omega arith, refl, refl, tabled-none _ _, tabled-none _ _, tabled-none _ _, tabled-none _ _, refl, refl, s.requires.1.0, s.requires.1.1.0)
 
 -- what is lent, as lines and stores
 module _ (s : tie.Start invariant-loop decreases-loop) where
   abbrev lines : SidedLines
-  lines = let a = s.args in combLines a.pos-l.now a.pos-r.now a.t5
+  lines = let a = s.args in comb_lines a.pos-l.now a.pos-r.now a.t5
 
   abbrev stores : Side → List Float
   stores = sided s.args.filter-state-l.now s.args.filter-state-r.now
 
-  fits : InLines 8 combMost lines
+  fits : InLines 8 comb_most lines
   fits = s.pre.0
 
 -- what a turn reads: no entry of its own is stored yet
@@ -77,7 +77,7 @@ slice-write-filter-state-l c = let t = c.before.before.before.before.before.befo
 cast-len-2 : tie.Need-overflow-cast-len-2 invariant-loop decreases-loop
 cast-len-2 c =
     let t = c.before.before.before.before.before.before.before.before.before.before in
-    omega (arith, (comb-asks (fits (start t)) right t.before.loop.i tankSize (at-r t) t.loop-test.true (omega arith)).1.0)
+    omega (arith, (comb-asks (fits (start t)) right t.before.loop.i tank_size (at-r t) t.loop-test.true (omega arith)).1.0)
 
 slice-read-comb-at-2 : tie.Need-slice-read-comb-at-2 invariant-loop decreases-loop
 slice-read-comb-at-2 c = let t = c.before.before.before.before.before.before.before.before.before.before.before.before in omega (arith, t.loop-test.true, t.before.loop.invariant.10)
@@ -93,7 +93,7 @@ slice-write-filter-state-r : tie.Need-slice-write-filter-state-r invariant-loop 
 slice-write-filter-state-r c = let t = c.before.before.before.before.before.before.before.before.before.before.before.before.before.before.before in omega (arith, t.loop-test.true, t.before.loop.invariant.10)
 
 loop-again : tie.Need-loop-preserved invariant-loop decreases-loop
-unfolding combWrite
+unfolding comb_write
 loop-again c =
     let t = c.before.before.before.before.before.before.before.before.before.before.before.before.before.before.before.before in
     let l = t.before.loop in
@@ -107,7 +107,7 @@ loop-again c =
     let f = fits s in
     let ls = c.before.before.before.before.before.before.before.before.before.before.before.comb-at in
     let rs = c.before.before.before.comb-at2 in
-    let w = combWrite a.input a.damping a.feedback u z (combsHeld u m) in
+    let w = comb_write a.input a.damping a.feedback u z (combs_held u m) in
     let apart : (v y : Side) (k : ℕ) → k < i → (w i v).place ≢ (w k y).place = λ v y k g. comb-apart f v y i k g h in
     let across = comb-across f i h in
     let same-l = first-held w m i apart l.mem l.invariant.2 left in
@@ -143,18 +143,18 @@ returns c =
     let s = c.before.before.before.before.before in
     let a = s.args in
     let u = lines s in
-    let h = combsHeld u a.mem.now in
+    let h = combs_held u a.mem.now in
     let d = a.damping in
     let e : l.i ≡ 8 = omega arith in
     record {
       positions =
-          by-sides (λ side. table (nextPosition u side) 8)
-          (rw e at l.invariant.3 ∙ tabled-all (nextPosition u left) 8 a.pos-l.now (lines_long (fits s) left))
-          (rw e at l.invariant.4 ∙ tabled-all (nextPosition u right) 8 a.pos-r.now (lines_long (fits s) right));
+          by-sides (λ side. table (next_position u side) 8)
+          (rw e at l.invariant.3 ∙ tabled-all (next_position u left) 8 a.pos-l.now (lines_long (fits s) left))
+          (rw e at l.invariant.4 ∙ tabled-all (next_position u right) 8 a.pos-r.now (lines_long (fits s) right));
       stores =
-          by-sides (λ side. table (combStored d (stores s) h side) 8)
-          (rw e at l.invariant.5 ∙ tabled-all (combStored d (stores s) h left) 8 (stores s left) s.requires.1.0)
-          (rw e at l.invariant.6 ∙ tabled-all (combStored d (stores s) h right) 8 (stores s right) s.requires.1.1.0);
+          by-sides (λ side. table (comb_stored d (stores s) h side) 8)
+          (rw e at l.invariant.5 ∙ tabled-all (comb_stored d (stores s) h left) 8 (stores s left) s.requires.1.0)
+          (rw e at l.invariant.6 ∙ tabled-all (comb_stored d (stores s) h right) 8 (stores s right) s.requires.1.1.0);
       memory = rw e at l.invariant.2;
       sums = by-sides (λ side. sum_of (h side) 8) (rw e at l.invariant.7) (rw e at l.invariant.8);
     }

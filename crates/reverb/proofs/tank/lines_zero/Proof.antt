@@ -1,15 +1,15 @@
--- `tank::lines_zero` is `linesZero`: the loop's invariant is that the lines passed are zeros. Assumes nothing.
+-- `tank::lines_zero` is `lines_zero`: the loop's invariant is that the lines passed are zeros. Assumes nothing.
 use Rattle.std.proofs.Common.{◌≡◌, ℕ, ◌+◌, ◌-◌, ◌*◌, ◌≤◌, Bool, ◌&&◌, length, get_or, take, drop, sym, refl, ap, ◌∙◌, arith, drop_of_length-le, rules}
 use borrow.Author.Tests.{not-true, not-false}
-use Rattle.common.specs.Line.{allZero}
-use Rattle.reverb.specs.Tank.{linesZero}
+use Rattle.common.specs.Line.{all_zero}
+use Rattle.reverb.specs.Tank.{lines_zero}
 use Rattle.reverb.proofs.Lists.{zero_more, room-more, room-all}
 use Rattle.reverb.proofs.tank.lines_zero.Statement.{statement}
 use Rattle.reverb.proofs.tank.lines_zero.Tie as tie
 
 abbrev invariant-loop : tie.invariant-loop
 invariant-loop mem o apart lengths at₀ i₀ at i =
-    (i ≤ length lengths) × (at + (length lengths - i) * apart ≤ length mem) × (linesZero o apart lengths mem ≡ linesZero at apart (drop i lengths) mem)
+    (i ≤ length lengths) × (at + (length lengths - i) * apart ≤ length mem) × (lines_zero o apart lengths mem ≡ lines_zero at apart (drop i lengths) mem)
 
 abbrev decreases-loop : tie.decreases-loop
 decreases-loop mem o apart lengths at₀ i₀ at i = length lengths - i
@@ -40,21 +40,21 @@ module _ (c : tie.In-loop invariant-loop decreases-loop) where
   line-end : c.before.loop.at + n ≤ length start.args.mem.now
   line-end = omega (arith, next-end, start.pre.1 c.before.loop.i)
 
-  lines_are : linesZero start.args.o start.args.apart start.args.lengths.now start.args.mem.now
-      ≡ allZero (take n (drop c.before.loop.at start.args.mem.now))
-      && linesZero (c.before.loop.at + start.args.apart) start.args.apart (drop (c.before.loop.i + 1) start.args.lengths.now) start.args.mem.now
+  lines_are : lines_zero start.args.o start.args.apart start.args.lengths.now start.args.mem.now
+      ≡ all_zero (take n (drop c.before.loop.at start.args.mem.now))
+      && lines_zero (c.before.loop.at + start.args.apart) start.args.apart (drop (c.before.loop.i + 1) start.args.lengths.now) start.args.mem.now
   lines_are =
       let a = start.args in
       let l = c.before.loop in
       l.invariant.2 ∙ zero_more l.at a.apart a.lengths.now a.mem.now l.i (omega arith)
 
   -- the test of the part that is the line
-  tested : {b : Bool} → b ≡ allZero (take (c.before.loop.at + n - c.before.loop.at) (drop c.before.loop.at start.args.mem.now))
-      → b ≡ allZero (take n (drop c.before.loop.at start.args.mem.now))
+  tested : {b : Bool} → b ≡ all_zero (take (c.before.loop.at + n - c.before.loop.at) (drop c.before.loop.at start.args.mem.now))
+      → b ≡ all_zero (take n (drop c.before.loop.at start.args.mem.now))
   tested e =
       let o = c.before.loop.at in
       let k : o + n - o ≡ n = omega arith in
-      e ∙ ap (λ (j : ℕ). allZero (take j (drop o start.args.mem.now))) k
+      e ∙ ap (λ (j : ℕ). all_zero (take j (drop o start.args.mem.now))) k
 
 cast-end : tie.Need-overflow-cast-end invariant-loop decreases-loop
 cast-end c = omega (arith, c.shared-slice-known3.given c.before.before.loop.i)
@@ -82,7 +82,7 @@ loop-again c =
     (omega arith, next-room here, lines_are here ∙ rw (sym (tested here c.before.all-zero.ensures) ∙ not-false _ c.if1.false))
 
 returns-2 : tie.Need-returns-2 invariant-loop decreases-loop
-unfolding linesZero
+unfolding lines_zero
 returns-2 c =
     let l = c.before.loop in
     let a = c.before.before.before.before.args in

@@ -1,6 +1,6 @@
--- `tank::positions_fit` is `positionsFit`: four tests over lists, and that of the predelay. Assumes nothing.
+-- `tank::positions_fit` is `positions_fit`: four tests over lists, and that of the predelay. Assumes nothing.
 use Rattle.std.proofs.Common.{◌≡◌, ◌&&◌, ltb, length, sym, ◌∙◌, rules}
-use Rattle.reverb.specs.Tunings.{predelaySize}
+use Rattle.reverb.specs.Tunings.{predelay_size}
 use Rattle.reverb.proofs.tank.positions_fit.Statement.{statement}
 use Rattle.reverb.proofs.tank.positions_fit.Tie as tie
 
@@ -36,7 +36,7 @@ returns c =
     let left = right.before.before.before in
     let s = left.before.before.before.before.before.before.before.before.before.before in
     λ i.
-    ltb s.args.predelay predelaySize
+    ltb s.args.predelay predelay_size
     && ((left.before.before.before.all-below.ensures i && left.all-below2.ensures i) && (right.all-below3.ensures i && c.all-below4.ensures i))
 
 pub positions-fit-spec : {M : Type 1} → statement M

@@ -7,9 +7,9 @@ use Rattle.float64.proofs.Clamped.{clamp-in}
 use Rattle.common.specs.Signal.{blended}
 use Rattle.reverb.specs.declared.tunings.Lengths.{Lengths}
 use Rattle.reverb.specs.declared.Reverb.{Reverb}
-use Rattle.reverb.specs.Tunings.{Side, sided, combMost, allpassMost}
-use Rattle.reverb.specs.Tank.{InLines, combLines, allpassLines, predelayStart, delayed}
-use Rattle.reverb.specs.Reverb.{state_of, delaySamples, input, feedback, damping, predelayed}
+use Rattle.reverb.specs.Tunings.{Side, sided, comb_most, allpass_most}
+use Rattle.reverb.specs.Tank.{InLines, comb_lines, allpass_lines, predelay_start, delayed}
+use Rattle.reverb.specs.Reverb.{state_of, delay_samples, input, feedback, damping, predelayed}
 use Rattle.reverb.specs.Reverb as page
 use Rattle.reverb.proofs.Laws.{Fits, fits-parts}
 use Rattle.reverb.proofs.Predelay.{delay-less}
@@ -65,14 +65,14 @@ module _ (p : tie.After-predelay-at) where
   audio-is = p.before.before.before.before.before.before.before.before.sanitize-audio.ensures
 
   first-is : p.predelay-at.last.0 ≡ m1 start.args.c (self start) start.args.mem.now (unit start)
-  first-is = p.predelay-at.ensures.1 ∙ ap (λ (x : Float). set start.args.mem.now (predelayStart + start.args.predelay-pos.now) x) audio-is
+  first-is = p.predelay-at.ensures.1 ∙ ap (λ (x : Float). set start.args.mem.now (predelay_start + start.args.predelay-pos.now) x) audio-is
 
   into-is : p.predelay-at.result ≡ predelayed start.args.c (self start) start.args.mem.now
   unfolding of_bits of_int
   into-is =
       let a = start.args in
-      let samples = p.before.before.before.predelay-samples.ensures ∙ ap (λ (x : Float). delaySamples x a.rate) p.before.before.before.before.clamp4.ensures in
-      p.predelay-at.ensures.0 ∙ (λ i. delayed predelayStart a.predelay-pos.now (samples i) (audio-is i) a.mem.now)
+      let samples = p.before.before.before.predelay-samples.ensures ∙ ap (λ (x : Float). delay_samples x a.rate) p.before.before.before.before.clamp4.ensures in
+      p.predelay-at.ensures.0 ∙ (λ i. delayed predelay_start a.predelay-pos.now (samples i) (audio-is i) a.mem.now)
 
   mixed-is : p.before.before.before.before.before.clamp3.result ≡ page.mix start.args.c
   unfolding of_bits of_int
@@ -94,7 +94,7 @@ combs-requires c κs =
     let p = c.before.before.before.before.before.before.before.before in
     let s = start p in
     let a = s.args in
-    (subst (λ (n : Lengths). InLines 8 combMost (combLines a.comb-pos-l.now a.comb-pos-r.now n)) (sym s.pre.0) (unit s).combs, (c.before.before.combs-arg3.given.0.1, (c.before.combs-arg4.given.0.1, rw (first-is p) (simp length-set s.pre.1.1.0))))
+    (subst (λ (n : Lengths). InLines 8 comb_most (comb_lines a.comb-pos-l.now a.comb-pos-r.now n)) (sym s.pre.0) (unit s).combs, (c.before.before.combs-arg3.given.0.1, (c.before.combs-arg4.given.0.1, rw (first-is p) (simp length-set s.pre.1.1.0))))
 
 allpasses-requires : tie.Need-allpasses-requires
 allpasses-requires c κs =
@@ -102,7 +102,7 @@ allpasses-requires c κs =
     let p = k.before.before.before.before.before.before.before.before.before in
     let s = start p in
     let a = s.args in
-    (subst (λ (n : Lengths). InLines 4 allpassMost (allpassLines a.allpass-pos-l.now a.allpass-pos-r.now n)) (sym s.pre.0) (unit s).allpasses, rw (k.combs.auto.1.1.1.1.1.0, first-is p) (simp length-set s.pre.1.1.0))
+    (subst (λ (n : Lengths). InLines 4 allpass_most (allpass_lines a.allpass-pos-l.now a.allpass-pos-r.now n)) (sym s.pre.0) (unit s).allpasses, rw (k.combs.auto.1.1.1.1.1.0, first-is p) (simp length-set s.pre.1.1.0))
 
 blend-requires : tie.Need-blend-requires
 blend-requires c κs = tt
@@ -116,7 +116,7 @@ same_length c =
     let k = q.before.before.before.before.before.before.before.before in
     let p = k.before.before.before.before.before.before.before.before.before in
     let a = (start p).args in
-    q.allpasses.auto.1.1.1.0 ∙ k.combs.auto.1.1.1.1.1.0 ∙ ap (λ (l : List Float). length l) (first-is p) ∙ length-set a.mem.now (predelayStart + a.predelay-pos.now) (input a.c)
+    q.allpasses.auto.1.1.1.0 ∙ k.combs.auto.1.1.1.1.1.0 ∙ ap (λ (l : List Float). length l) (first-is p) ∙ length-set a.mem.now (predelay_start + a.predelay-pos.now) (input a.c)
 
 returns : tie.Need-returns
 unfolding of_bits round

@@ -1,9 +1,9 @@
--- `tunings::scaled_lengths` is `lengthsAt` at an accepted rate, and all 0 at another. Assumes nothing.
+-- `tunings::scaled_lengths` is `lengths_at` at an accepted rate, and all 0 at another. Assumes nothing.
 use Rattle.std.proofs.Common.{◌≡◌, ℕ, true, map, sym, refl, ap, ◌∙◌, arith, rules}
 use lib.Ieee.{of_bits, of_int}
 use borrow.Author.Tests.{not-true, not-false}
-use Rattle.float64.specs.Number.{rateFits}
-use Rattle.reverb.specs.Tunings.{combMost, allpassMost, combTunings, allpassTunings, ratio, scaled, spread, beside, tuned}
+use Rattle.float64.specs.Number.{rate_fits}
+use Rattle.reverb.specs.Tunings.{comb_most, allpass_most, comb_tunings, allpass_tunings, ratio, scaled, spread, beside, tuned}
 use Rattle.reverb.proofs.Scaling.{ratio-fits, beside-capped}
 use Rattle.reverb.proofs.tunings.scaled_lengths.Statement.{statement}
 use Rattle.reverb.proofs.tunings.scaled_lengths.Tie as tie
@@ -12,7 +12,7 @@ returns : tie.Need-returns
 returns c = rw (sym c.before.rate-fits.ensures ∙ not-true _ c.if1.true)
 
 -- past the test the rate fits
-rate-passed : (c : tie.Else1) → rateFits c.before.before.args.rate ≡ true
+rate-passed : (c : tie.Else1) → rate_fits c.before.before.args.rate ≡ true
 rate-passed c = sym c.before.rate-fits.ensures ∙ not-false _ c.if1.false
 
 scale-requires : tie.Need-scale-requires
@@ -39,9 +39,9 @@ returns-2 c =
     rw (rate-passed p) (λ i.
     record {
       comb_l = combs.0 i;
-      comb_r = (combs.1 ∙ ap (λ (w : ℕ). map (λ base. beside combMost w (scaled combMost r base)) combTunings) wide ∙ (λ j. map (λ base. beside-capped combMost (spread r) (scaled combMost r base) (omega arith) j) combTunings)) i;
+      comb_r = (combs.1 ∙ ap (λ (w : ℕ). map (λ base. beside comb_most w (scaled comb_most r base)) comb_tunings) wide ∙ (λ j. map (λ base. beside-capped comb_most (spread r) (scaled comb_most r base) (omega arith) j) comb_tunings)) i;
       allpass_l = allpasses.0 i;
-      allpass_r = (allpasses.1 ∙ ap (λ (w : ℕ). map (λ base. beside allpassMost w (scaled allpassMost r base)) allpassTunings) wide ∙ (λ j. map (λ base. beside-capped allpassMost (spread r) (scaled allpassMost r base) (omega arith) j) allpassTunings)) i;
+      allpass_r = (allpasses.1 ∙ ap (λ (w : ℕ). map (λ base. beside allpass_most w (scaled allpass_most r base)) allpass_tunings) wide ∙ (λ j. map (λ base. beside-capped allpass_most (spread r) (scaled allpass_most r base) (omega arith) j) allpass_tunings)) i;
     })
 
 pub scaled-lengths-spec : {M : Type 1} → statement M

@@ -1,11 +1,11 @@
 -- `room_raw_delay_reset` is `DelayLine::reset`, its state without the settings written back where it is accepted. Assumes nothing.
 use mathlib.Core.Path.{sym, ◌∙◌}
 use borrow.Author.Rules.{rules}
-use Rattle.effect.specs.Run.{Device, reset, deviceOf}
+use Rattle.effect.specs.Run.{Device, reset, device_of}
 use Rattle.delay_line.specs.declared.DelayLine.{DelayLine}
-use Rattle.delay_line.specs.DelayLine.{delayLine}
+use Rattle.delay_line.specs.DelayLine.{delay_line}
 use Rattle.delay_line.proofs.Demand1.{laws}
-use Rattle.room_effects.specs.States.{isOn, delayOf}
+use Rattle.room_effects.specs.States.{is_on, delay_of}
 use Rattle.room_effects.proofs.Laws.{of-state, on-flag, written, unwritten, stored, kept, reset-settings}
 use Rattle.room_effects.proofs.delay_calls.room_raw_delay_reset.Statement.{statement}
 use Rattle.room_effects.proofs.delay_calls.room_raw_delay_reset.Tie as tie
@@ -14,7 +14,7 @@ use Rattle.room_effects.proofs.delay_calls.room_raw_delay_reset.Tie as tie
 abbrev unit : tie.Start → Device DelayLine
 unit s =
     let a = s.args in
-    deviceOf (delayOf a.write-pos.now a.smoothed-delay.now (isOn a.delay-primed.now) a.sample-rate a.delay-smooth-coef a.max-delay-secs (isOn a.linear-time)) a.memory.now
+    device_of (delay_of a.write-pos.now a.smoothed-delay.now (is_on a.delay-primed.now) a.sample-rate a.delay-smooth-coef a.max-delay-secs (is_on a.linear-time)) a.memory.now
 
 abbrev start : tie.After-reset → tie.Start
 start c = c.before.before.before.before.before.before
@@ -23,8 +23,8 @@ returns : tie.Need-returns
 returns c =
     let inner = c.before.before.before.before in
     let s = start inner in
-    let does = of-state delayLine reset inner.before.before.delay-of.ensures inner.reset.ensures in (
-      kept delayLine reset (unit s) does c.before.number.ensures c.if1.true,
+    let does = of-state delay_line reset inner.before.before.delay-of.ensures inner.reset.ensures in (
+      kept delay_line reset (unit s) does c.before.number.ensures c.if1.true,
       unwritten s.args.delay-primed.now c.if1.true,
     )
 
@@ -34,10 +34,10 @@ returns-2 c =
     let inner = next.before.before.before.before in
     let n = inner.reset.result.state in
     let primed = on-flag n.delay_primed c.flag.ensures in
-    let does = of-state delayLine reset inner.before.before.delay-of.ensures inner.reset.ensures in
-    let settings = reset-settings delayLine laws does in (
-      stored delayLine reset (unit (start inner)) does (sym next.if1.false ∙ next.before.number.ensures)
-          (λ i. delayOf n.write_pos n.smoothed_delay (primed i) (settings i).rate (settings i).coefficient (settings i).maximum (settings i).linear),
+    let does = of-state delay_line reset inner.before.before.delay-of.ensures inner.reset.ensures in
+    let settings = reset-settings delay_line laws does in (
+      stored delay_line reset (unit (start inner)) does (sym next.if1.false ∙ next.before.number.ensures)
+          (λ i. delay_of n.write_pos n.smoothed_delay (primed i) (settings i).rate (settings i).coefficient (settings i).maximum (settings i).linear),
       written n.delay_primed c.flag.ensures,
     )
 

@@ -1,7 +1,7 @@
 -- `room_raw_delay_start` writes the state that `DelayLine::with_max_delay` gives, and returns its number. Assumes nothing.
 use borrow.Author.Rules.{rules}
-use Rattle.delay_line.specs.DelayLine.{delayLine}
-use Rattle.room_effects.specs.States.{delayOf}
+use Rattle.delay_line.specs.DelayLine.{delay_line}
+use Rattle.room_effects.specs.States.{delay_of}
 use Rattle.room_effects.proofs.Laws.{on-flag, written, began}
 use Rattle.room_effects.proofs.delay_calls.room_raw_delay_start.Statement.{statement}
 use Rattle.room_effects.proofs.delay_calls.room_raw_delay_start.Tie as tie
@@ -14,8 +14,8 @@ returns c =
     let linear = c.before.flag2.ensures in
     let primed-on = on-flag s.delay_primed primed in
     let linear-on = on-flag s.linear_time linear in (
-      began delayLine inner.with-max-delay.ensures
-          (λ i. delayOf s.write_pos s.smoothed_delay (primed-on i) s.sample_rate s.delay_smooth_coef s.max_delay_secs (linear-on i))
+      began delay_line inner.with-max-delay.ensures
+          (λ i. delay_of s.write_pos s.smoothed_delay (primed-on i) s.sample_rate s.delay_smooth_coef s.max_delay_secs (linear-on i))
           c.number.ensures,
       written s.delay_primed primed,
       written s.linear_time linear,

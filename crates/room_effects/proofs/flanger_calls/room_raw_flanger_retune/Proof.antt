@@ -1,6 +1,6 @@
 -- `room_raw_flanger_retune` is `Flanger::set_sample_rate`, its state written back where it is accepted. Assumes nothing.
 use mathlib.Core.Path.{refl, ◌∙◌, sym}
-use Rattle.effect.specs.Run.{retune, Device, deviceOf}
+use Rattle.effect.specs.Run.{retune, Device, device_of}
 use Rattle.flanger.specs.declared.Flanger.{Flanger}
 use Rattle.flanger.specs.Flanger.{flanger, state_of}
 use Rattle.room_effects.proofs.Laws.{stored, kept}
@@ -12,7 +12,7 @@ use Rattle.room_effects.proofs.flanger_calls.room_raw_flanger_retune.Tie as tie
 abbrev unit : tie.Start → Device Flanger
 unit s =
     let a = s.args in
-    deviceOf (state_of a.write-pos.now a.lfo-phase.now a.sample-rate.now) a.memory.now
+    device_of (state_of a.write-pos.now a.lfo-phase.now a.sample-rate.now) a.memory.now
 
 returns : tie.Need-returns
 returns c =

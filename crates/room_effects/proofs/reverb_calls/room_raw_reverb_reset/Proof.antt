@@ -2,7 +2,7 @@
 use mathlib.Core.Path.{ap, sym, ◌∙◌}
 use lib.Ieee.{Float}
 use borrow.Author.Rules.{rules}
-use Rattle.effect.specs.Run.{Device, reset, deviceOf}
+use Rattle.effect.specs.Run.{Device, reset, device_of}
 use Rattle.reverb.specs.declared.Reverb.{Reverb}
 use Rattle.reverb.specs.Reverb.{reverb, state_of}
 use Rattle.reverb.proofs.Demand1.{laws}
@@ -14,7 +14,7 @@ use Rattle.room_effects.proofs.reverb_calls.room_raw_reverb_reset.Tie as tie
 abbrev unit : tie.Start → Device Reverb
 unit s =
     let a = s.args in
-    deviceOf (state_of a.comb-pos-l.now a.comb-pos-r.now a.comb-filter-state-l.now a.comb-filter-state-r.now a.allpass-pos-l.now a.allpass-pos-r.now a.predelay-pos.now a.sample-rate) a.memory.now
+    device_of (state_of a.comb-pos-l.now a.comb-pos-r.now a.comb-filter-state-l.now a.comb-filter-state-r.now a.allpass-pos-l.now a.allpass-pos-r.now a.predelay-pos.now a.sample-rate) a.memory.now
 
 -- the call that is made
 abbrev start : tie.After-reset → tie.Start

@@ -1,7 +1,7 @@
 -- `room_raw_reverb_retune` is `Reverb::set_sample_rate`, its state written back where it is accepted. Assumes nothing.
 use mathlib.Core.Path.{sym, ◌∙◌}
 use borrow.Author.Rules.{rules}
-use Rattle.effect.specs.Run.{Device, retune, deviceOf}
+use Rattle.effect.specs.Run.{Device, retune, device_of}
 use Rattle.reverb.specs.declared.Reverb.{Reverb}
 use Rattle.reverb.specs.Reverb.{reverb, state_of}
 use Rattle.room_effects.proofs.Laws.{stored, kept}
@@ -12,7 +12,7 @@ use Rattle.room_effects.proofs.reverb_calls.room_raw_reverb_retune.Tie as tie
 abbrev unit : tie.Start → Device Reverb
 unit s =
     let a = s.args in
-    deviceOf (state_of a.comb-pos-l.now a.comb-pos-r.now a.comb-filter-state-l.now a.comb-filter-state-r.now a.allpass-pos-l.now a.allpass-pos-r.now a.predelay-pos.now a.sample-rate.now) a.memory.now
+    device_of (state_of a.comb-pos-l.now a.comb-pos-r.now a.comb-filter-state-l.now a.comb-filter-state-r.now a.allpass-pos-l.now a.allpass-pos-r.now a.predelay-pos.now a.sample-rate.now) a.memory.now
 
 -- the call that is made
 abbrev start : tie.After-set-sample-rate → tie.Start

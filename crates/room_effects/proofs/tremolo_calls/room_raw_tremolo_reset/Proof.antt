@@ -1,7 +1,7 @@
 -- `room_raw_tremolo_reset` is `Tremolo::reset`, its state without the rate written back where it is accepted. Assumes nothing.
 use mathlib.Core.Path.{ap, sym, ◌∙◌}
 use mathlib.Core.List.{[]}
-use Rattle.effect.specs.Run.{reset, Device, deviceOf}
+use Rattle.effect.specs.Run.{reset, Device, device_of}
 use Rattle.tremolo.specs.declared.Tremolo.{Tremolo}
 use Rattle.tremolo.specs.Tremolo.{tremolo, state_of}
 use Rattle.tremolo.proofs.Demand1.{laws}
@@ -14,7 +14,7 @@ use Rattle.room_effects.proofs.tremolo_calls.room_raw_tremolo_reset.Tie as tie
 abbrev unit : tie.Start → Device Tremolo
 unit s =
     let a = s.args in
-    deviceOf (state_of a.lfo-phase.now a.sample-rate) []
+    device_of (state_of a.lfo-phase.now a.sample-rate) []
 
 returns : tie.Need-returns
 returns c =

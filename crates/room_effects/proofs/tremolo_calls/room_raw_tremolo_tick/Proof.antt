@@ -1,13 +1,13 @@
 -- `room_raw_tremolo_tick` is `Tremolo::tick` with the ports of the mask, its state without the rate written back where it is accepted. Assumes nothing.
 use mathlib.Core.Path.{ap, sym, ◌∙◌}
 use mathlib.Core.List.{[], ◌∷◌}
-use Rattle.port.specs.Answer.{answerReply}
-use Rattle.effect.specs.Run.{tick, Device, deviceOf}
+use Rattle.port.specs.Answer.{answer_reply}
+use Rattle.effect.specs.Run.{tick, Device, device_of}
 use Rattle.effect.specs.Contract.{Does}
 use Rattle.tremolo.specs.declared.Tremolo.{Tremolo}
-use Rattle.tremolo.specs.Tremolo.{tremolo, Tick, tickOf, state_of}
+use Rattle.tremolo.specs.Tremolo.{tremolo, Tick, tick_of, state_of}
 use Rattle.tremolo.proofs.Demand1.{laws}
-use Rattle.room_effects.specs.Ports.{portAt}
+use Rattle.room_effects.specs.Ports.{port_at}
 use Rattle.room_effects.proofs.Laws.{of-tick, stored, kept, tick-settings, played}
 use borrow.Author.Rules.{rules}
 use Rattle.room_effects.proofs.tremolo_calls.room_raw_tremolo_tick.Statement.{statement}
@@ -17,23 +17,23 @@ use Rattle.room_effects.proofs.tremolo_calls.room_raw_tremolo_tick.Tie as tie
 abbrev handed : tie.Start → Tick
 handed s =
     let a = s.args in
-    tickOf (portAt a.set 1 a.audio) (portAt a.set 2 a.depth) (portAt a.set 4 a.shape) a.frequency a.sine
+    tick_of (port_at a.set 1 a.audio) (port_at a.set 2 a.depth) (port_at a.set 4 a.shape) a.frequency a.sine
 
 abbrev unit : tie.Start → Device Tremolo
 unit s =
     let a = s.args in
-    deviceOf (state_of a.lfo-phase.now a.sample-rate) []
+    device_of (state_of a.lfo-phase.now a.sample-rate) []
 
 -- the inner tick, with the ports as the mask has them
 module _ (c : tie.After-tick) where
   abbrev start : tie.Start
   start = c.before.before.before.before
 
-  does : Does tremolo (tick (handed start)) (unit start).state (unit start).memory c.tick.result.state [] (answerReply c.tick.result.answer)
+  does : Does tremolo (tick (handed start)) (unit start).state (unit start).memory c.tick.result.state [] (answer_reply c.tick.result.answer)
   does =
       let a = start.args in
       of-tick tremolo (unit start).state {t₀ = handed start}
-      (λ i. tickOf (c.before.before.before.port-at.ensures i) (c.before.before.port-at2.ensures i) (c.before.port-at3.ensures i) a.frequency a.sine)
+      (λ i. tick_of (c.before.before.before.port-at.ensures i) (c.before.before.port-at2.ensures i) (c.before.port-at3.ensures i) a.frequency a.sine)
       c.tick.ensures
 
 returns : tie.Need-returns

@@ -1,6 +1,6 @@
 -- `room_raw_vibrato_reset` is `Vibrato::reset`, its state without the rate written back where it is accepted. Assumes nothing.
 use mathlib.Core.Path.{ap, sym, ◌∙◌}
-use Rattle.effect.specs.Run.{reset, Device, deviceOf}
+use Rattle.effect.specs.Run.{reset, Device, device_of}
 use Rattle.vibrato.specs.declared.Vibrato.{Vibrato}
 use Rattle.vibrato.specs.Vibrato.{vibrato, state_of}
 use Rattle.vibrato.proofs.Demand1.{laws}
@@ -13,7 +13,7 @@ use Rattle.room_effects.proofs.vibrato_calls.room_raw_vibrato_reset.Tie as tie
 abbrev unit : tie.Start → Device Vibrato
 unit s =
     let a = s.args in
-    deviceOf (state_of a.write-pos.now a.lfo-phase.now a.sample-rate) a.memory.now
+    device_of (state_of a.write-pos.now a.lfo-phase.now a.sample-rate) a.memory.now
 
 returns : tie.Need-returns
 returns c =

@@ -1,6 +1,6 @@
 -- `room_raw_vibrato_retune` is `Vibrato::set_sample_rate`, its state written back where it is accepted. Assumes nothing.
 use mathlib.Core.Path.{refl, ◌∙◌, sym}
-use Rattle.effect.specs.Run.{retune, Device, deviceOf}
+use Rattle.effect.specs.Run.{retune, Device, device_of}
 use Rattle.vibrato.specs.declared.Vibrato.{Vibrato}
 use Rattle.vibrato.specs.Vibrato.{vibrato, state_of}
 use Rattle.room_effects.proofs.Laws.{stored, kept}
@@ -12,7 +12,7 @@ use Rattle.room_effects.proofs.vibrato_calls.room_raw_vibrato_retune.Tie as tie
 abbrev unit : tie.Start → Device Vibrato
 unit s =
     let a = s.args in
-    deviceOf (state_of a.write-pos.now a.lfo-phase.now a.sample-rate.now) a.memory.now
+    device_of (state_of a.write-pos.now a.lfo-phase.now a.sample-rate.now) a.memory.now
 
 returns : tie.Need-returns
 returns c =

@@ -1,4 +1,4 @@
--- `Tremolo::places_needed` is `placesNeeded`: none at every rate that is accepted. Assumes nothing.
+-- `Tremolo::places_needed` is `places_needed`: none at every rate that is accepted. Assumes nothing.
 use mathlib.Core.Path.{sym, ◌∙◌}
 use borrow.Author.Rules.{rules}
 use borrow.Author.Tests.{not-true, not-false}

@@ -15,7 +15,7 @@ use Rattle.common.proofs.Sweep.{control-in}
 use Rattle.effect.specs.Run.{tick}
 use Rattle.effect.proofs.Table.{Accepted, accepted, TickAccepted, tick-accepted}
 use Rattle.effect.proofs.Contract.{accepts}
-use Rattle.vibrato.specs.Vibrato.{vibrato, Tick, tickOf}
+use Rattle.vibrato.specs.Vibrato.{vibrato, Tick, tick_of}
 use Rattle.vibrato.proofs.Laws.{Fits, fits-parts, length-fits, TickFits, tick-fits, distance-in, delayed-is, next-is, stored_is, played-is}
 use Rattle.vibrato.proofs.Vibrato.advance.Statement.{statement}
 use Rattle.vibrato.proofs.Vibrato.advance.Tie as tie
@@ -25,14 +25,14 @@ module _ (s : tie.Start) where
   abbrev handed : Tick
   handed =
       let a = s.args in
-      tickOf (Set a.audio) (Set a.depth) (Set a.mix) a.frequency a.sine
+      tick_of (Set a.audio) (Set a.depth) (Set a.mix) a.frequency a.sine
 
   -- it is accepted, so that the state passes its test, the memory has the places and the curve numbers are in range
   taken : Accepted vibrato (length s.args.mem.now) (tick handed) s.args.self
   taken = accepted vibrato (length s.args.mem.now) (tick handed) s.args.self s.pre.1
 
   unit : Fits s.args.self
-  unit = fits-parts s.args.self taken.stateFits
+  unit = fits-parts s.args.self taken.state_fits
 
   row : TickAccepted vibrato (length s.args.mem.now) handed s.args.self.sample_rate
   row = tick-accepted vibrato (length s.args.mem.now) handed s.args.self.sample_rate taken.number

@@ -2,11 +2,11 @@
 use Prim.Native.Nat.{ℕ}
 use mathlib.Core.Path.{ap, ◌∙◌}
 use borrow.Author.Rules.{rules}
-use Rattle.float64.specs.Number.{rateFits}
+use Rattle.float64.specs.Number.{rate_fits}
 use Rattle.common.proofs.Sweep.{size_is}
-use Rattle.effect.specs.Run.{reset, memoryNumber}
+use Rattle.effect.specs.Run.{reset, memory_number}
 use Rattle.effect.proofs.Contract.{state-row}
-use Rattle.vibrato.specs.Vibrato.{vibrato, lineLength}
+use Rattle.vibrato.specs.Vibrato.{vibrato, line_length}
 use Rattle.vibrato.proofs.Laws.{fits-parts}
 use Rattle.vibrato.proofs.Vibrato.refusal.Statement.{statement}
 use Rattle.vibrato.proofs.Vibrato.refusal.Tie as tie
@@ -18,7 +18,7 @@ returns c =
     let a = s.args in
     let rate = a.self.sample_rate in
     state-row vibrato a.places a.self reset memory.before.state-fits.ensures
-    (λ f. memory.check-memory.ensures ∙ ap (λ (n : ℕ). memoryNumber n a.places) (size_is (rateFits rate) (lineLength rate) s.requires (fits-parts a.self f).rate))
+    (λ f. memory.check-memory.ensures ∙ ap (λ (n : ℕ). memory_number n a.places) (size_is (rate_fits rate) (line_length rate) s.requires (fits-parts a.self f).rate))
     c.check-state.ensures
 
 pub refusal-spec : {M : Type 1} → statement M

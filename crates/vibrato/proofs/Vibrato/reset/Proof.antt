@@ -2,7 +2,7 @@
 use mathlib.Core.Path.{refl, ◌∙◌}
 use borrow.Author.Rules.{rules}
 use Rattle.port.specs.Answer.{number_of}
-use Rattle.effect.specs.Run.{reset, ifNone}
+use Rattle.effect.specs.Run.{reset, if_none}
 use Rattle.effect.proofs.Contract.{clears}
 use Rattle.vibrato.specs.Vibrato.{vibrato}
 use Rattle.vibrato.proofs.Vibrato.reset.Statement.{statement}
@@ -15,7 +15,7 @@ returns c =
     let a = tested.before.before.before.args in
     let outcome = tested.refusal.result in
     clears vibrato reset a.self a.mem.now outcome tested.refusal.ensures refl
-    (c.settled.ensures.0 ∙ (λ i. ifNone (number_of outcome) (c.before.fresh.ensures i) a.self))
+    (c.settled.ensures.0 ∙ (λ i. if_none (number_of outcome) (c.before.fresh.ensures i) a.self))
     filled.clear.ensures
     c.settled.ensures.1
 

@@ -3,7 +3,7 @@ use mathlib.Core.Path.{refl, ◌∙◌}
 use lib.ListN.{length}
 use borrow.Author.Rules.{rules}
 use Rattle.port.specs.Answer.{number_of}
-use Rattle.effect.specs.Run.{retune, ifNone}
+use Rattle.effect.specs.Run.{retune, if_none}
 use Rattle.effect.proofs.Contract.{clears, state-row}
 use Rattle.vibrato.specs.Vibrato.{vibrato}
 use Rattle.vibrato.proofs.Vibrato.set_sample_rate.Statement.{statement}
@@ -19,7 +19,7 @@ returns c =
     clears vibrato (retune a.sample-rate) a.self a.mem.now outcome
     (state-row vibrato (length a.mem.now) a.self (retune a.sample-rate) tested.before.state-fits.ensures (λ f. rest.rate-refusal.ensures) tested.check-state.ensures)
     refl
-    (c.settled.ensures.0 ∙ (λ i. ifNone (number_of outcome) (c.before.fresh.ensures i) a.self))
+    (c.settled.ensures.0 ∙ (λ i. if_none (number_of outcome) (c.before.fresh.ensures i) a.self))
     filled.clear.ensures
     c.settled.ensures.1
 

@@ -3,14 +3,14 @@ use Prim.Native.Nat.{ℕ}
 use mathlib.Core.Path.{ap}
 use lib.ListN.{length, take}
 use borrow.Author.Rules.{rules}
-use Rattle.float64.specs.Number.{rateFits}
+use Rattle.float64.specs.Number.{rate_fits}
 use Rattle.port.specs.Answer.{number_of}
-use Rattle.common.specs.Line.{allZero}
+use Rattle.common.specs.Line.{all_zero}
 use Rattle.common.proofs.Sweep.{size_is}
 use Rattle.effect.specs.Run.{ask}
 use Rattle.effect.proofs.Table.{accepted}
 use Rattle.effect.proofs.Contract.{asks}
-use Rattle.vibrato.specs.Vibrato.{vibrato, lineLength}
+use Rattle.vibrato.specs.Vibrato.{vibrato, line_length}
 use Rattle.vibrato.proofs.Laws.{fits-parts}
 use Rattle.vibrato.proofs.Vibrato.silent.Statement.{statement}
 use Rattle.vibrato.proofs.Vibrato.silent.Tie as tie
@@ -23,8 +23,8 @@ returns c =
     let rate = s.sample_rate in
     asks vibrato s m (number_of c.before.refusal.result) c.before.refusal.ensures
     (λ z.
-    ap (λ (n : ℕ). allZero (take n m))
-    (size_is (rateFits rate) (lineLength rate) c.before.before.line-length.ensures (fits-parts s (accepted vibrato (length m) ask s z).stateFits).rate))
+    ap (λ (n : ℕ). all_zero (take n m))
+    (size_is (rate_fits rate) (line_length rate) c.before.before.line-length.ensures (fits-parts s (accepted vibrato (length m) ask s z).state_fits).rate))
     c.silence.ensures
 
 pub silent-spec : {M : Type 1} → statement M

@@ -7,18 +7,18 @@ use mathlib.Core.Bool.{◌&&◌, ◌||◌}
 use lib.ListN.{length}
 use lib.Ieee.{of_bits, of_int, round, fits, is_nan}
 use borrow.Author.Rules.{rules}
-use Rattle.float64.specs.Number.{plusZero, float_of, half, is_number, rateFits, frequencyFits, sineFits}
-use Rattle.port.specs.Port.{valueOr}
+use Rattle.float64.specs.Number.{plus_zero, float_of, half, is_number, rate_fits, frequency_fits, sine_fits}
+use Rattle.port.specs.Port.{value_or}
 use Rattle.port.specs.Answer.{number, number_of}
 use Rattle.port.proofs.Laws.{value_set, value-unset, nan_is, number-some}
-use Rattle.common.specs.Signal.{causeNumber}
+use Rattle.common.specs.Signal.{cause_number}
 use Rattle.common.proofs.Sweep.{size_is}
 use Rattle.effect.specs.Run.{tick, reset, number_in}
 use Rattle.effect.proofs.Table.{Accepted, accepted}
 use Rattle.effect.proofs.Contract.{refuses, tick-number}
 use Rattle.effect.proofs.Rows.{unit-refused}
-use Rattle.vibrato.specs.Vibrato.{vibrato, Tick, tickOf, lineLength, tickNumber}
-use Rattle.vibrato.proofs.Laws.{fits-parts, allSet, set_does}
+use Rattle.vibrato.specs.Vibrato.{vibrato, Tick, tick_of, line_length, tick_number}
+use Rattle.vibrato.proofs.Laws.{fits-parts, all_set, set_does}
 use Rattle.vibrato.proofs.Vibrato.tick.Statement.{statement}
 use Rattle.vibrato.proofs.Vibrato.tick.Tie as tie
 
@@ -26,7 +26,7 @@ use Rattle.vibrato.proofs.Vibrato.tick.Tie as tie
 abbrev handed : tie.Start → Tick
 handed s =
     let a = s.args in
-    tickOf a.audio a.depth a.mix a.frequency a.sine
+    tick_of a.audio a.depth a.mix a.frequency a.sine
 
 returns : tie.Need-returns
 returns c =
@@ -43,15 +43,15 @@ module _ (c : tie.At-match4-branch) where
   abbrev start : tie.Start
   start = c.before.before.before.before.before.before.before.before
 
-  audio-is : c.before.before.match2.audio ≡ valueOr start.args.audio plusZero
+  audio-is : c.before.before.match2.audio ≡ value_or start.args.audio plus_zero
   unfolding of_bits
   audio-is =
       elim c.before.before.match2.branch [
-        | inl w ↦ value_set plusZero w.1.given.1 w.3
-        | inr w ↦ value-unset plusZero w.1.given.1 w.2
+        | inl w ↦ value_set plus_zero w.1.given.1 w.3
+        | inr w ↦ value-unset plus_zero w.1.given.1 w.2
       ]
 
-  depth_is : c.before.match3.depth ≡ valueOr start.args.depth half
+  depth_is : c.before.match3.depth ≡ value_or start.args.depth half
   unfolding of_bits round
   depth_is =
       elim c.before.match3.branch [
@@ -59,7 +59,7 @@ module _ (c : tie.At-match4-branch) where
         | inr w ↦ value-unset half w.1.given.1 w.2
       ]
 
-  mix-is : c.match4.mix ≡ valueOr start.args.mix (float_of 1)
+  mix-is : c.match4.mix ≡ value_or start.args.mix (float_of 1)
   unfolding of_bits of_int
   mix-is =
       elim c.match4.branch [
@@ -73,34 +73,34 @@ module _ (c : tie.At-match4-branch) where
 
   -- the tick with these numbers
   abbrev all : Tick
-  all = allSet (handed start) audio-is depth_is mix-is
+  all = all_set (handed start) audio-is depth_is mix-is
 
 -- the number by the ports
 module _ (c : tie.After-tick-causes) where
   abbrev values : tie.At-match4-branch
   values = c.before.before.before.before.before
 
-  curves-are : (c.before.before.frequency-fits.result && c.before.sine-fits.result) ≡ (frequencyFits (start values).args.frequency && sineFits (start values).args.sine)
+  curves-are : (c.before.before.frequency-fits.result && c.before.sine-fits.result) ≡ (frequency_fits (start values).args.frequency && sine_fits (start values).args.sine)
   curves-are = λ i. c.before.before.frequency-fits.ensures i && c.before.sine-fits.ensures i
 
   number_is : (k : ℕ) → number_of c.tick-causes.result ≡ k → k ≡ number_in vibrato (tick (handed (start values))) (length (start values).args.mem.now) (start values).args.self
-  unfolding tickNumber is_number fits is_nan of_int round
+  unfolding tick_number is_number fits is_nan of_int round
   number_is k e =
       let a = (start values).args in
       let u = passed values in
       let depth = nan_is a.depth half refl (depth_is values) c.before.before.before.before.is-nan.ensures in
       let mix = nan_is a.mix (float_of 1) refl (mix-is values) c.before.before.before.is-nan2.ensures in
-      tick-number vibrato (length a.mem.now) a.self (handed (start values)) u.stateFits (sym u.number)
-      (sym e ∙ c.tick-causes.ensures ∙ (λ i. causeNumber (depth i || mix i) (curves-are i)))
+      tick-number vibrato (length a.mem.now) a.self (handed (start values)) u.state_fits (sym u.number)
+      (sym e ∙ c.tick-causes.ensures ∙ (λ i. cause_number (depth i || mix i) (curves-are i)))
 
   -- and by their numbers
   set-number-is : (k : ℕ) → number_of c.tick-causes.result ≡ k → k ≡ number_in vibrato (tick (all values)) (length (start values).args.mem.now) (start values).args.self
-  unfolding tickNumber
+  unfolding tick_number
   set-number-is k e =
       let a = (start values).args in
       let u = passed values in
-      tick-number vibrato (length a.mem.now) a.self (all values) u.stateFits (sym u.number)
-      (sym e ∙ c.tick-causes.ensures ∙ (λ i. causeNumber (c.before.before.before.before.is-nan.ensures i || c.before.before.before.is-nan2.ensures i) (curves-are i)))
+      tick-number vibrato (length a.mem.now) a.self (all values) u.state_fits (sym u.number)
+      (sym e ∙ c.tick-causes.ensures ∙ (λ i. cause_number (c.before.before.before.before.is-nan.ensures i || c.before.before.before.is-nan2.ensures i) (curves-are i)))
 
 returns-2 : tie.Need-returns-2
 returns-2 c =
@@ -118,7 +118,7 @@ advance-requires c κs =
     let v = values causes in
     let s = (start v).args.self in
     let rate = s.sample_rate in (
-      size_is (rateFits rate) (lineLength rate) v.before.before.before.before.before.before.line-length.ensures (fits-parts s (passed v).stateFits).rate,
+      size_is (rate_fits rate) (line_length rate) v.before.before.before.before.before.before.line-length.ensures (fits-parts s (passed v).state_fits).rate,
       sym (set-number-is causes 0 (ap number_of told.enum-told5.given.1)),
     )
 
