@@ -47,8 +47,8 @@ module _ (m : ℕ) (e : ℤ) (a : T (fits binary64 (fin false m e))) (l : lt (fi
   high : mag binary64 (fin false m e) ≤ 4503599627370496 * one binary64
   high = le_of_lt (size-of-lt place (of_int-at binary64 4503599627370496 (lit< tt)) (yes l))
 
-  whole_part : (whole_part (fin false m e) ≡ mag binary64 (fin false m e) / one binary64) × (mag binary64 (fin false m e) / one binary64 ≤ 4503599627370496)
-  whole_part = (whole_is 4503599627370496 (lit< tt) high place, whole_le 4503599627370496 (lit< tt) high place)
+  whole-mag : (whole_part (fin false m e) ≡ mag binary64 (fin false m e) / one binary64) × (mag binary64 (fin false m e) / one binary64 ≤ 4503599627370496)
+  whole-mag = (whole_is 4503599627370496 (lit< tt) high place, whole_le 4503599627370496 (lit< tt) high place)
 
   rest : At binary64 (fraction_part (fin false m e)) (cap binary64 + mag binary64 (fin false m e) % one binary64)
   rest = fraction-at 4503599627370496 (lit< tt) high place
@@ -90,7 +90,7 @@ whole-small nan a l = zero-le
 whole-small (inf true) a l = zero-le
 whole-small (inf false) a l = absurd (yes l)
 whole-small (fin true m e) a l = zero-le
-whole-small (fin false m e) a l = let w = whole_part m e a l in le_trans (le_of_eq w.0) w.1
+whole-small (fin false m e) a l = let w = whole-mag m e a l in le_trans (le_of_eq w.0) w.1
 
 pub round_up : (x : Float) → T (fits binary64 x) → lt x (float_of 4503599627370496) ≡ true → le half (fraction_part x) ≡ true → round_half_away x ≡ whole_part x + 1
 unfolding to_unsigned le lt sub of_int
@@ -100,7 +100,7 @@ round_up (inf false) a l h = absurd (yes l)
 round_up (fin true m e) a l h = absurd (negative m e a h)
 round_up (fin false m e) a l h =
     let n = mag binary64 (fin false m e) in
-    let w = whole_part m e a l in
+    let w = whole-mag m e a l in
     let u = half-units in
     let r : one binary64 ≤ 2 * (n % one binary64) = omega (arith, u.1, size-of-le u.2 (rest m e a l) (yes h)) in
     in-units m e a l ∙ more n (one binary64) (one-pos binary64) w.1 r ∙ ap (λ (z : ℕ). z + 1) (sym w.0)
@@ -112,7 +112,7 @@ round-down (inf s) a l h = refl
 round-down (fin true m e) a l h = refl
 round-down (fin false m e) a l h =
     let n = mag binary64 (fin false m e) in
-    let w = whole_part m e a l in
+    let w = whole-mag m e a l in
     let u = half-units in
     let r : 2 * (n % one binary64) < one binary64 = omega (arith, u.1, of-nle u.2 (rest m e a l) (no h)) in
     in-units m e a l ∙ same n (one binary64) (one-pos binary64) w.1 r ∙ sym w.0

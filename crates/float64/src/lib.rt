@@ -1,4 +1,6 @@
 // Helpers on f64 that the Rust has in its library: clamp, whole part, rounding, range tests.
+#![tactic(auto)]
+
 ghost use Rattle.std.specs.Prelude.{◌≡◌, not};
 ghost use Rattle.float64.specs.Number.{float_of, is_number, is_finite, in_range, in_unit, is_plus_zero, rate_fits, coefficient_fits, phase_fits, frequency_fits, sine_fits, clamp_of, at_least, at_most, absolute, whole_part, significand_of, Small, round_half_away};
 
