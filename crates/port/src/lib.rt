@@ -1,17 +1,19 @@
 // What goes into a call and what comes out of it: ports, refusals, answers.
+#![tactic(auto)]
+
 ghost use Rattle.std.specs.Prelude.{◌≡◌};
 ghost use Rattle.port.specs.Port.{port_if};
 ghost use Rattle.port.specs.Answer.{number, outcome_reply, answer_reply, silence_reply, reply_number, reply_sample, reply_silent};
 
 // An input port: it carries a number or is unset.
-#[derive(Drop)]
+#[derive(Clone, Copy)]
 pub enum Port {
     Set(f64),
     Unset,
 }
 
 // Why a call is refused: a case for each cause of the table.
-#[derive(Drop)]
+#[derive(Clone, Copy)]
 pub enum Refusal {
     SampleRate,
     GlideCoefficient,
@@ -22,14 +24,14 @@ pub enum Refusal {
 }
 
 // Whether a call is accepted: what start, retune and reset answer.
-#[derive(Drop)]
+#[derive(Clone, Copy)]
 pub enum Outcome {
     Accepted,
     Refused(Refusal),
 }
 
 // What a tick answers: one sample (delay, vibrato, tremolo), two (reverb: left, right), three (chorus, flanger: mono, left, right), or a refusal.
-#[derive(Drop)]
+#[derive(Clone, Copy)]
 pub enum Answer {
     One(f64),
     Two(f64, f64),
@@ -38,7 +40,7 @@ pub enum Answer {
 }
 
 // What the question "silent?" answers.
-#[derive(Drop)]
+#[derive(Clone, Copy)]
 pub enum Silence {
     Silent,
     Sounding,
