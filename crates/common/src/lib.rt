@@ -1,4 +1,6 @@
 // What the effects share: the input rule, dry/wet, phases, and lines in lent memory.
+#![tactic(auto)]
+
 ghost use Rattle.std.specs.Prelude.{◌≡◌, true, cond, ◌&&◌, ◌-◌, ◌≤◌, ◌<◌, length};
 ghost use Rattle.float64.specs.Number.{float_of, in_range, rate_fits, at_least, at_most};
 ghost use Rattle.port.specs.Answer.{number_of};

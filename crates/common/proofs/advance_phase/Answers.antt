@@ -1,7 +1,5 @@
--- `common::advance_phase` is `advanced`, branch by branch: a sum below 1 is not 1 or more. Assumes nothing.
-use mathlib.Core.Path.{◌≡◌, refl}
-use mathlib.Core.Bool.{Bool, true, false}
-use lib.Dec.{T}
+-- `common::advance_phase`: below 1 the phase is not also 1 or more, as it is a float. Assumes nothing.
+use Rattle.std.proofs.Common.{◌≡◌, refl, Bool, true, false, T}
 use lib.Ieee.{Float, binary64, add, fits, le, lt, of_bits, of_int}
 use lib.Ieee.Fits.{add-fits}
 use Rattle.float64.specs.Number.{float_of}
@@ -9,8 +7,7 @@ use Rattle.float64.proofs.Tests.{clash}
 use Rattle.float64.proofs.Ranges.{yes}
 use Rattle.float64.proofs.Order.{le→not-lt}
 use Rattle.common.specs.Signal.{advanced}
-use Rattle.common.proofs.advance_phase.Statement.{statement}
-use Rattle.common.proofs.advance_phase.Tie as tie
+use Rattle.common.proofs.advance_phase.Goals as goal
 
 below : (x : Float) → T (fits binary64 x) → lt x (float_of 1) ≡ true → le (float_of 1) x ≡ false
 unfolding fits of_int
@@ -20,19 +17,15 @@ below x a h = go (le (float_of 1) x) refl
     go true e = clash h (le→not-lt binary64 (float_of 1) x tt a (yes e))
     go false e = refl
 
-returns : tie.Need-returns
+pub returns-then-next : goal.returns-then-next
 unfolding advanced of_bits of_int
-returns c =
-    let a = c.before.args in
-    rw (below (add binary64 a.phase a.step) (add-fits binary64 a.phase a.step) c.if1.true)
+returns-then-next c =
+    let a = c.args in rw (below (add binary64 a.phase a.step) (add-fits binary64 a.phase a.step) c.if-next.true)
 
-returns-2 : tie.Need-returns-2
+pub returns-then-next-2 : goal.returns-then-next-2
 unfolding advanced of_bits of_int
-returns-2 c = rw c.if2.true
+returns-then-next-2 c = rw c.if-next-2.true
 
-returns-3 : tie.Need-returns-3
+pub returns-else-next-2 : goal.returns-else-next-2
 unfolding advanced of_bits of_int
-returns-3 c = rw c.if2.false
-
-pub advance-phase-spec : {M : Type 1} → statement M
-advance-phase-spec = tie.close (tie.spec returns returns-2 returns-3)
+returns-else-next-2 c = rw c.if-next-2.false
