@@ -73,8 +73,8 @@ module _ (E : Effect) (I : Lines E) (laws : Laws E) (lined : LineLaws E I) where
   after-shows : {n : ℕ} {h : Device E.State} {p : Past E.Settings} (cs : List (CallOf E)) → InRun E n h → Shows E I h p
       → Shows E I (after E cs h) (past_from E I n cs p)
   unfolding after past_from
-  after-shows [] r v = v
-  after-shows (c ∷ cs) r v = after-shows cs (step_in E laws c r) (step-shows c r v)
+  after-shows {n} {h} {p} [] r v = v
+  after-shows {n} {h} {p} (c ∷ cs) r v = after-shows {n = n} {h = step E c h} cs (step_in E laws c r) (step-shows c r v)
 
   start-shows : (x : Run E) → Shows E I (start E x.handed x.memory) (cleared_past E I (E.start_settings x.handed))
   start-shows x =

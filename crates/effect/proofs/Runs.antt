@@ -91,8 +91,8 @@ module _ (E : Effect) (laws : Laws E) where
 
   pub after-in : {n : ℕ} {h : Device E.State} (cs : List (CallOf E)) → InRun E n h → InRun E n (after E cs h)
   unfolding after
-  after-in [] i = i
-  after-in (c ∷ cs) i = after-in cs (step_in c i)
+  after-in {n} {h} [] i = i
+  after-in {n} {h} (c ∷ cs) i = after-in {n = n} {h = step E c h} cs (step_in c i)
 
   pub run_in : (x : Run E) → InRun E (length x.memory) (final E x)
   run_in x = after-in x.calls (start-in x)
@@ -102,8 +102,8 @@ module _ (E : Effect) (laws : Laws E) where
       → ((u : Device E.State) (c : CallOf E) → InRun E n u → P u → P (changed E c u))
       → P (after E cs h)
   unfolding after
-  along P [] i p keep = p
-  along P {h} (c ∷ cs) i p keep = along P cs (step_in c i) (step-cases E P c i p (λ e. keep h c i p)) keep
+  along P {n} {h} [] i p keep = p
+  along P {n} {h} (c ∷ cs) i p keep = along P {n = n} {h = step E c h} cs (step_in c i) (step-cases E P c i p (λ e. keep h c i p)) keep
 
   -- ---- state and memory are those of the trace
 

@@ -1,4 +1,6 @@
 // One machine for all effects: its definitions are in specs/, its theorems in proofs/. The functions are the parts of the calls that all effects share.
+#![tactic(auto)]
+
 ghost use Rattle.std.specs.Prelude.{◌≡◌, cond, min, length, take};
 ghost use Rattle.port.specs.Answer.{silent, refused, number_of, silence_reply};
 ghost use Rattle.common.specs.Line.{zeros, all_zero};
