@@ -15,7 +15,7 @@ use Rattle.float64.proofs.Tests.{both}
 use Rattle.float64.proofs.Interval.{In, point, add-in, mul_in, div-in, scale_in}
 use Rattle.float64.proofs.Ranges.{rate-in, sine-in, in-number}
 use Rattle.float64.proofs.Parts.{clamp-whole-in}
-use Rattle.float64.proofs.Lengths.{samples, length-20}
+use Rattle.float64.proofs.Lengths.{length-20}
 use Rattle.port.specs.declared.Port.TheVariants.{Set}
 use Rattle.port.specs.Port.{value_or, is_nan_set}
 use Rattle.port.specs.Answer.{Reply, played}

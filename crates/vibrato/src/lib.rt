@@ -1,4 +1,6 @@
 // The vibrato: one line in lent memory, read at a swept distance. The state goes in and out by value.
+#![tactic(auto)]
+
 ghost use Rattle.std.specs.Prelude.{◌≡◌, true, cond, ◌<◌, length};
 ghost use Rattle.std.specs.Float.{binary64};
 ghost use Rattle.std.specs.Float.Ieee.{div};
@@ -14,7 +16,7 @@ ghost use Rattle.vibrato.specs.Vibrato.{vibrato, tick_of, line_length, fresh, st
 
 use port::{Answer, Outcome, Port, Silence};
 
-#[derive(Drop)]
+#[derive(Clone, Copy)]
 pub struct Vibrato {
     pub write_pos: u64,
     pub lfo_phase: f64,
@@ -22,14 +24,14 @@ pub struct Vibrato {
 }
 
 // What start, retune and reset return.
-#[derive(Drop)]
+#[derive(Clone, Copy)]
 pub struct Cleared {
     pub state: Vibrato,
     pub outcome: Outcome,
 }
 
 // What a tick returns.
-#[derive(Drop)]
+#[derive(Clone, Copy)]
 pub struct Ticked {
     pub state: Vibrato,
     pub answer: Answer,
