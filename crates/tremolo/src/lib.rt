@@ -1,4 +1,6 @@
 // The tremolo: the audio's amplitude swept by a sine or a triangle. The state goes in and out by value; no memory is lent.
+#![tactic(auto)]
+
 ghost use Rattle.std.specs.Prelude.{◌≡◌, []};
 ghost use Rattle.port.specs.Answer.{outcome_reply, answer_reply, silence_reply};
 ghost use Rattle.effect.specs.Run.{tick, reset, ask};
@@ -8,21 +10,21 @@ ghost use Rattle.tremolo.specs.Tremolo.{tremolo, tick_of, state_fits, triangle, 
 
 use port::{Answer, Outcome, Port, Refusal, Silence};
 
-#[derive(Drop)]
+#[derive(Clone, Copy)]
 pub struct Tremolo {
     pub lfo_phase: f64,
     pub sample_rate: f64,
 }
 
 // What start and reset return.
-#[derive(Drop)]
+#[derive(Clone, Copy)]
 pub struct Cleared {
     pub state: Tremolo,
     pub outcome: Outcome,
 }
 
 // What a tick returns.
-#[derive(Drop)]
+#[derive(Clone, Copy)]
 pub struct Ticked {
     pub state: Tremolo,
     pub answer: Answer,
