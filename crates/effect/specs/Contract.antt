@@ -1,6 +1,6 @@
 -- What the contracts of an effect's calls say: state, memory and answer, each equated with the defined one. Assumes nothing.
 use Rattle.std.specs.Prelude.{◌≡◌, List, Float}
-use Rattle.std.specs.Borrow.{Bor}
+use Rattle.std.specs.Borrow.{MutBor}
 use denote.Triple.Both.{Both}
 use Rattle.port.specs.Answer.{Reply}
 use Rattle.effect.specs.Effect.{Effect}
@@ -24,8 +24,8 @@ pub data Moment : Type 0 where
   entry : Moment
   exit : Moment
 
--- What is lent behind a reference, at a moment. `Both (RefT A) (RefT A)` is what the name of a `&mut` stands for in an `ensures`.
-abbrev pub lent_at : {A : Type 0} → Both (Bor A) (Bor A) → Moment → A
+-- What is lent behind a reference, at a moment. `Both (MutBor A) (MutBor A)` is what the name of a `&mut` stands for in an `ensures`.
+abbrev pub lent_at : {A : Type 0} → Both (MutBor A) (MutBor A) → Moment → A
 lent_at x entry = x.entry.now
 lent_at x exit = x.exit.now
 
