@@ -8,10 +8,10 @@ use mathlib.Core.List.{List}
 use lib.IntN.{negsuc}
 use lib.Dec.{ltb}
 use lib.ListN.{length, take, set}
-use lib.Ieee.{Float, fin, binary64, add, sub, mul, div, neg, le, lt, of_int, round}
+use lib.Ieee.{Float, fin, binary64, add, sub, mul, div, neg, is_nan, le, lt, of_int, round}
 use lib.Ieee as Ieee
 use borrow.Author.Tests.{ltb-true, lt-ltb}
-use Rattle.float64.specs.Number.{plus_zero, float_of, fraction, half, rate_fits, phase_fits, frequency_fits, sine_fits, clamp_of}
+use Rattle.float64.specs.Number.{plus_zero, float_of, fraction, half, is_number, rate_fits, phase_fits, frequency_fits, sine_fits, clamp_of}
 use Rattle.float64.proofs.Tests.{both}
 use Rattle.float64.proofs.Interval.{In, point, add-in, mul_in, div-in, scale_in}
 use Rattle.float64.proofs.Ranges.{rate-in, sine-in, in-number}
@@ -20,13 +20,14 @@ use Rattle.float64.proofs.Lengths.{length-32}
 use Rattle.port.specs.declared.Port.TheVariants.{Set}
 use Rattle.port.specs.Port.{value_or, is_nan_set}
 use Rattle.port.specs.Answer.{Reply, played}
-use Rattle.common.specs.Signal.{sanitized}
+use Rattle.port.proofs.Laws.{nan_is}
+use Rattle.common.specs.Signal.{sanitized, cause_number}
 use Rattle.common.specs.Line.{next_place, line_at, read_at}
 use Rattle.common.proofs.Slices.{part_length}
 use Rattle.common.proofs.Sweep.{neither, no-cause, part-read, size-tests}
 use Rattle.effect.specs.Effect.{laid}
 use Rattle.effect.specs.Lines.{in_each}
-use Rattle.effect.specs.Run.{tick, number_in}
+use Rattle.effect.specs.Run.{tick, first, memory_number, number_in}
 use Rattle.effect.specs.Contract.{Does}
 use Rattle.effect.proofs.Contract.{accepts}
 use Rattle.chorus.specs.declared.Chorus.{Chorus}
@@ -215,12 +216,23 @@ module _ (t : Tick) {x d b : Float} (audio : x ≡ value_or t.audio plus_zero) (
   abbrev pub all_set : Tick
   all_set = tick_of (Set x) (Set d) (Set b) t.frequency t.sine0 t.sine1 t.sine2
 
+  -- the same row of the table is theirs
+  pub set_row : (n : ℕ) (s : Chorus) → number_in chorus (tick all_set) n s ≡ number_in chorus (tick t) n s
+  unfolding tick_number is_number Ieee.fits is_nan round
+  set_row n s = λ i.
+      cond (state_fits s)
+      (first (memory_number (line_length s.sample_rate) n)
+      (cause_number
+      (nan_is t.depth half refl amount refl i || nan_is t.mix half refl wet refl i)
+      (frequency_fits t.frequency && (sine_fits t.sine0 && (sine_fits t.sine1 && sine_fits t.sine2)))))
+      4
+
   pub set_does : {s : Chorus} {m : List Float} {s' : Chorus} {m' : List Float} {a : Reply} → number_in chorus (tick t) (length m) s ≡ 0
-      → number_in chorus (tick all_set) (length m) s ≡ 0
       → Does chorus (tick all_set) s m s' m' a
       → Does chorus (tick t) s m s' m' a
   unfolding next writes page.samples_from voice
-  set_does {s} {m} n k does =
+  set_does {s} {m} n does =
+      let k = set_row (length m) s ∙ n in
       let rate = s.sample_rate in
       let L = line_length rate in
       let w = s.write_pos in

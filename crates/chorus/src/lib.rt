@@ -1,4 +1,6 @@
 // The chorus: one line in lent memory, read by three voices. The state goes in and out by value.
+#![tactic(auto)]
+
 ghost use Rattle.std.specs.Prelude.{◌≡◌, true, cond, ◌-◌, ◌≤◌, ◌<◌, length};
 ghost use Rattle.std.specs.Float.{binary64};
 ghost use Rattle.std.specs.Float.Ieee.{add, mul};
@@ -13,7 +15,7 @@ ghost use Rattle.chorus.specs.Chorus.{chorus, tick_of, line_length, phases_of, n
 
 use port::{Answer, Outcome, Port, Silence};
 
-#[derive(Drop)]
+#[derive(Clone, Copy)]
 pub struct Chorus {
     pub write_pos: u64,
     pub lfo_phase0: f64,
@@ -23,14 +25,14 @@ pub struct Chorus {
 }
 
 // What start, retune and reset return.
-#[derive(Drop)]
+#[derive(Clone, Copy)]
 pub struct Cleared {
     pub state: Chorus,
     pub outcome: Outcome,
 }
 
 // What a tick returns.
-#[derive(Drop)]
+#[derive(Clone, Copy)]
 pub struct Ticked {
     pub state: Chorus,
     pub answer: Answer,

@@ -1,0 +1,10 @@
+-- `Chorus::next`: its three phases, with the voices' factors as the code has them. Assumes nothing.
+use Rattle.std.proofs.Common.{◌∙◌}
+use lib.Ieee.{of_bits, of_int, round}
+use Rattle.chorus.proofs.Laws.{phases-by}
+use Rattle.chorus.proofs.Chorus.next.Goals as goal
+
+pub returns-clause-result_value : goal.returns-clause-result_value
+unfolding of_bits of_int round
+returns-clause-result_value c =
+    (λ i. record { phase0 = c.advance_phase.ensures i; phase1 = c.advance_phase-2.ensures i; phase2 = c.advance_phase-3.ensures i }) ∙ phases-by _ _ _

@@ -1,0 +1,12 @@
+-- `Chorus::rate_refusal`: an accepted rate has a line of some places. Assumes nothing.
+use Rattle.std.proofs.Common.{◌∙◌}
+use Rattle.float64.specs.Number.{rate_fits}
+use Rattle.effect.proofs.Needed.{rate-row}
+use Rattle.chorus.specs.Chorus.{line_length}
+use Rattle.chorus.proofs.Laws.{some-places}
+use Rattle.chorus.proofs.Chorus.rate_refusal.Goals as goal
+
+pub returns : goal.returns
+returns c =
+    let rate = c.args.rate in
+    c.check_rate.ensures ∙ rate-row (rate_fits rate) (line_length rate) c.line_length.ensures (some-places rate) c.args.places
