@@ -2,30 +2,32 @@
 -- steps, also where ports are unset. Assumes nothing.
 use Prim.Native.Nat.{ℕ, ◌+◌, ◌-◌, ◌*◌, ◌≤◌, ◌<◌}
 use native.Mathlib.Omega.{arith}
-use mathlib.Core.Path.{◌≡◌, ap, ◌∙◌}
+use mathlib.Core.Path.{◌≡◌, refl, sym, ap, ◌∙◌}
 use mathlib.Core.Bool.{true, false, ◌&&◌, ◌||◌, cond}
 use mathlib.Core.List.{List, [], ◌∷◌}
-use lib.Dec.{T, ltb}
+use lib.Dec.{ltb}
 use lib.ListN.{length, take, drop, set}
-use lib.Ieee.{Float, binary64, add, mul, div, neg, le, lt, of_int, round}
+use lib.Ieee.{Float, binary64, add, mul, div, neg, le, lt, of_int, is_nan, round}
 use lib.Ieee as Ieee
 use borrow.Author.Tests.{ltb-true, lt-ltb}
-use Rattle.float64.specs.Number.{plus_zero, float_of, fraction, half, in_range, rate_fits, phase_fits, frequency_fits, sine_fits, clamp_of}
+use Rattle.float64.specs.Number.{plus_zero, float_of, fraction, half, is_number, in_range, rate_fits, phase_fits, frequency_fits, sine_fits, clamp_of}
 use Rattle.float64.proofs.Tests.{both}
 use Rattle.float64.proofs.Interval.{In, point, add-in, mul_in, div-in}
-use Rattle.float64.proofs.Ranges.{rate-in, sine-in, range-in, in-number}
+use Rattle.float64.proofs.Ranges.{rate-in, sine-in, range-in, in-range, in-number}
 use Rattle.float64.proofs.Parts.{clamp-whole-in}
-use Rattle.float64.proofs.Lengths.{samples, length-10}
+use Rattle.float64.proofs.Lengths.{length-10}
 use Rattle.port.specs.declared.Port.TheVariants.{Set}
 use Rattle.port.specs.Port.{value_or, is_nan_set}
+use Rattle.port.proofs.Laws.{nan_is}
 use Rattle.port.specs.Answer.{Reply, played}
-use Rattle.common.specs.Signal.{sanitized, blended, advanced}
+use Rattle.common.specs.Signal.{sanitized, blended, advanced, cause_number}
 use Rattle.common.specs.Line.{next_place, line_at, read_at}
-use Rattle.common.proofs.Sweep.{neither, no-cause, part-read, size-most, size-tests, size-times}
+use Rattle.common.proofs.Sweep.{neither, no-cause, control-in, part-read, size_is, size-most, size-tests, size-times}
 use Rattle.effect.specs.Effect.{laid}
-use Rattle.effect.specs.Run.{tick, number_in}
+use Rattle.effect.specs.Run.{tick, reset, number_in}
 use Rattle.effect.specs.Contract.{Does}
-use Rattle.effect.proofs.Contract.{accepts}
+use Rattle.effect.proofs.Table.{accepted, tick-accepted}
+use Rattle.effect.proofs.Contract.{accepts, tick-number}
 use Rattle.flanger.specs.declared.Flanger.{Flanger}
 use Rattle.flanger.specs.Flanger.{Tick, tick_of, flanger, line_length, places, state_fits, tick_number, input, depth, feedback, mix, distance, tap, fed, next, writes}
 use Rattle.flanger.specs.Flanger as page
@@ -70,6 +72,10 @@ module _ (s : Flanger) where
       let b = both w p a.1 in
       record { rate = a.0; inside = ltb-true s.write_pos (line_length s.sample_rate) b.0; phase = b.1 }
 
+  -- where it passes, what `line_length` answers is a line's length
+  pub line_is : {n : ℕ} → n ≡ cond (rate_fits s.sample_rate) (line_length s.sample_rate) 0 → state_fits s ≡ true → n ≡ line_length s.sample_rate
+  line_is e f = size_is (rate_fits s.sample_rate) (line_length s.sample_rate) e (fits-parts f).rate
+
   pub fit : Fits s → state_fits s ≡ true
   unfolding state_fits
   fit f = rw (f.rate, lt-ltb s.write_pos (line_length s.sample_rate) f.inside, f.phase)
@@ -91,6 +97,34 @@ tick-fits t e =
     let a = both (frequency_fits t.frequency) sines v.1 in
     let b = both (sine_fits t.sine0) (sine_fits t.sine1) a.1 in
     record { depth = (neither (is_nan_set t.depth) others v.0).0; frequency = a.0; sine0 = b.0; sine1 = b.1 }
+
+-- ---- accepted ticks
+
+-- n is the length of a line: the state passes its test, the memory has the places, and depth and curve numbers are in range
+pub record Ready (t : Tick) (s : Flanger) (m : List Float) (n : ℕ) : Type 0 where
+  pub state : Fits s
+  pub curves : TickFits t
+  pub short : n ≤ 1930
+  pub inside : s.write_pos < n
+  pub room : n + n ≤ length m
+  pub amount : in_range (depth t) plus_zero (float_of 1) ≡ true
+
+pub ready : {t : Tick} {s : Flanger} {m : List Float} {n : ℕ} → n ≡ line_length s.sample_rate → number_in flanger (tick t) (length m) s ≡ 0
+    → Ready t s m n
+unfolding is_number Ieee.fits is_nan round
+ready {t} {s} {m} {n} e k =
+    let taken = accepted flanger (length m) (tick t) s k in
+    let row = tick-accepted flanger (length m) t s.sample_rate taken.number in
+    let f = fits-parts s taken.state_fits in
+    let curves = tick-fits t row.number in
+    record {
+      state = f;
+      curves = curves;
+      short = omega (arith, (length-fits s.sample_rate f.rate).1);
+      inside = omega (arith, f.inside);
+      room = omega (arith, row.enough);
+      amount = in-range (control-in t.depth half curves.depth refl);
+    }
 
 -- ---- distances
 
@@ -177,17 +211,32 @@ module _ (t : Tick) (s : Flanger) (m : List Float) where
   played_by x d b =
       played (mixed_by x (tap_by 0 t.sine0 d) b ∷ mixed_by x (tap_by 0 t.sine0 d) b ∷ mixed_by x (tap_by 1 t.sine1 d) b ∷ [])
 
+-- past causes 4 and 3 a tick's number is that of causes 5 and 6
+pub tick_row : (t : Tick) (s : Flanger) (m : List Float) {k : ℕ} → 0 ≡ number_in flanger reset (length m) s → k ≡ tick_number t
+    → k ≡ number_in flanger (tick t) (length m) s
+tick_row t s m u e = let a = accepted flanger (length m) reset s (sym u) in tick-number flanger (length m) s t a.state_fits (sym a.number) e
+
 module _ (t : Tick) {x d f b : Float} (audio : x ≡ value_or t.audio plus_zero) (amount : d ≡ value_or t.depth half) (back : f ≡ value_or t.feedback plus_zero) (wet : b ≡ value_or t.mix half) where
   abbrev pub all_set : Tick
   all_set = tick_of (Set x) (Set d) (Set f) (Set b) t.frequency t.sine0 t.sine1
 
-  pub set_does : {s : Flanger} {m : List Float} {s' : Flanger} {m' : List Float} {a : Reply} → number_in flanger (tick t) (length m) s ≡ 0
-      → number_in flanger (tick all_set) (length m) s ≡ 0
+  -- no default is NaN
+  pub set_number : tick_number all_set ≡ tick_number t
+  unfolding tick_number is_number Ieee.fits is_nan round
+  set_number =
+      let depth = nan_is t.depth half refl amount refl in
+      let feedback = nan_is t.feedback plus_zero refl back refl in
+      let mix = nan_is t.mix half refl wet refl in
+      (λ i. cause_number (depth i || (feedback i || mix i)) (frequency_fits t.frequency && (sine_fits t.sine0 && sine_fits t.sine1)))
+
+  pub set_does : {s : Flanger} {m : List Float} {s' : Flanger} {m' : List Float} {a : Reply} → 0 ≡ number_in flanger reset (length m) s
+      → 0 ≡ tick_number all_set
       → Does flanger (tick all_set) s m s' m' a
       → Does flanger (tick t) s m s' m' a
   unfolding next writes fed page.samples tap
-  set_does {s} {m} n k does =
-      accepts flanger (tick t) s m n
+  set_does {s} {m} u e does =
+      let k = sym (tick_row all_set s m u e) in
+      accepts flanger (tick t) s m (sym (tick_row t s m u (e ∙ set_number)))
       (rw k at does.state)
       ((rw k at does.memory) ∙ (λ i. stored_by t s m (audio i) (amount i) (back i)))
       ((rw k at does.answer) ∙ (λ i. played_by t s m (audio i) (amount i) (wet i)))

@@ -1,4 +1,6 @@
 // The flanger: two lines in lent memory, swept by one phase, each fed back into itself. The state goes in and out by value.
+#![tactic(auto)]
+
 ghost use Rattle.std.specs.Prelude.{◌≡◌, true, cond, ◌<◌, length};
 ghost use Rattle.std.specs.Float.{binary64};
 ghost use Rattle.std.specs.Float.Ieee.{div};
@@ -14,7 +16,7 @@ ghost use Rattle.flanger.specs.Flanger.{flanger, tick_of, line_length, cleared, 
 
 use port::{Answer, Outcome, Port, Silence};
 
-#[derive(Drop)]
+#[derive(Clone, Copy)]
 pub struct Flanger {
     pub write_pos: u64,
     pub lfo_phase: f64,
@@ -22,14 +24,14 @@ pub struct Flanger {
 }
 
 // What start, retune and reset return.
-#[derive(Drop)]
+#[derive(Clone, Copy)]
 pub struct Cleared {
     pub state: Flanger,
     pub outcome: Outcome,
 }
 
 // What a tick returns.
-#[derive(Drop)]
+#[derive(Clone, Copy)]
 pub struct Ticked {
     pub state: Flanger,
     pub answer: Answer,
@@ -186,6 +188,7 @@ impl Flanger {
     }
 
     // An accepted tick with all its ports set; n is the length of a line. Each line is read before its own store, which feeds it its own read.
+    #[tactic(auto, using(crate::proofs::Laws::ready))]
     fn advance(
         self,
         n: u64,

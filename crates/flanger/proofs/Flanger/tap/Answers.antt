@@ -1,0 +1,14 @@
+-- `Flanger::tap`: its own distance lies in the line at every accepted rate, depth and sine. Assumes nothing.
+use Rattle.std.proofs.Common.{arith}
+use Rattle.float64.proofs.Ranges.{in-range}
+use Rattle.flanger.proofs.Laws.{length-fits, distance-in}
+use Rattle.flanger.proofs.Flanger.tap.Goals as goal
+
+pub read_interpolated-requires-clause-line_len_bound : goal.read_interpolated-requires-clause-line_len_bound
+read_interpolated-requires-clause-line_len_bound c = omega (arith, (length-fits c.args.rate c.requires.rate_value).1)
+
+pub read_interpolated-requires-clause-line_value : goal.read_interpolated-requires-clause-line_value
+read_interpolated-requires-clause-line_value c =
+    let a = c.args in
+    let r = c.requires in
+    rw (c.distance.ensures, r.line_len) (in-range (distance-in a.rate a.depth a.sine r.rate_value r.float_of_value r.sine_value))
