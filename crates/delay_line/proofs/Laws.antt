@@ -130,8 +130,8 @@ module _ (s : DelayLine) where
   fit f = rw (f.rate, f.maximum, lt-ltb s.write_pos (size s) f.inside, f.coefficient, f.glide)
 
   -- past the test n is the length of the line
-  pub size_fits : {n : ℕ} → n ≡ cond (size_fits s) (size s) 0 → state_fits s ≡ true → n ≡ size s
-  size_fits e h = let f = fits-parts h in size_is (size_fits s) (size s) e (rw (f.rate, f.maximum))
+  pub fits-size : {n : ℕ} → n ≡ cond (size_fits s) (size s) 0 → state_fits s ≡ true → n ≡ size s
+  fits-size e h = let f = fits-parts h in size_is (size_fits s) (size s) e (rw (f.rate, f.maximum))
 
 -- ---- causes 5 and 6
 
@@ -147,12 +147,13 @@ tick-fits t linear e =
     let a = (neither (linear && is_nan_set t.time) others v.0).0 in
     record { time = λ l. rw l at a; milliseconds = λ l. rw l at v.1 }
 
+-- a tick with these numbers: time, feedback, mix and milliseconds
+abbrev pub set_tick : Float → Float → Float → Float → Tick
+set_tick c f b ms = tick_of Unset (Set c) (Set f) (Set b) ms
+
 -- a tick whose ports are set to the numbers that it takes from them has the same row
 module _ (t : Tick) (linear : Bool) {c f b : Float} (time : c ≡ value_or t.time half) (back : f ≡ value_or t.feedback plus_zero) (wet : b ≡ value_or t.mix half) where
-  abbrev pub set_tick : Tick
-  set_tick = tick_of Unset (Set c) (Set f) (Set b) t.milliseconds
-
-  pub set-row : tick_number set_tick linear ≡ tick_number t linear
+  pub set-row : tick_number (set_tick c f b t.milliseconds) linear ≡ tick_number t linear
   unfolding tick_number is_number Ieee.fits is_nan round
   set-row =
       let x = nan_is t.time half refl time refl in
@@ -160,20 +161,21 @@ module _ (t : Tick) (linear : Bool) {c f b : Float} (time : c ≡ value_or t.tim
       let z = nan_is t.mix half refl wet refl in
       λ i. cause_number (linear && x i || (y i || z i)) (linear || is_number t.milliseconds)
 
-  pub set-number : (n : ℕ) (s : DelayLine) → s.linear_time ≡ linear → number_in delay_line (tick set_tick) n s ≡ number_in delay_line (tick t) n s
+  pub set-number : (n : ℕ) (s : DelayLine) → s.linear_time ≡ linear → number_in delay_line (tick (set_tick c f b t.milliseconds)) n s ≡ number_in delay_line (tick t) n s
   unfolding state_fits
   set-number n s e = rw e (ap (λ (k : ℕ). cond (state_fits s) (first (memory_number (size s) n) k) 4) set-row)
 
-  -- none of its numbers is NaN
-  pub no_nan : cond linear (is_number c) (is_number t.milliseconds) ≡ true → is_number f ≡ true → is_number b ≡ true → tick_number set_tick linear ≡ 0
-  unfolding tick_number
-  no_nan x y z = rw (y, z) (go linear (is_number c) (is_number t.milliseconds) x)
-    where
-      go : (l p q : Bool) → cond l p q ≡ true → ◌≡◌ {A = ℕ} (cause_number (l && not p || false) (l || q)) 0
-      go true true q e = refl
-      go true false q e = clash e refl
-      go false p true e = refl
-      go false p false e = clash e refl
+-- none of these numbers is NaN
+pub no_nan : (linear : Bool) (c f b ms : Float) → cond linear (is_number c) (is_number ms) ≡ true → is_number f ≡ true → is_number b ≡ true
+    → tick_number (set_tick c f b ms) linear ≡ 0
+unfolding tick_number
+no_nan linear c f b ms x y z = rw (y, z) (go linear (is_number c) (is_number ms) x)
+  where
+    go : (l p q : Bool) → cond l p q ≡ true → ◌≡◌ {A = ℕ} (cause_number (l && not p || false) (l || q)) 0
+    go true true q e = refl
+    go true false q e = clash e refl
+    go false p true e = refl
+    go false p false e = clash e refl
 
 -- ---- a NaN on the way to a number of samples
 

@@ -1,4 +1,6 @@
 // The delay line: one line in lent memory, fed back into itself, read at a distance that glides to the delay time. The state goes in and out by value.
+#![tactic(auto)]
+
 ghost use Rattle.std.specs.Prelude.{◌≡◌, true, false, cond, ◌&&◌, ◌-◌, ◌≤◌, ◌<◌, [], ◌∷◌, length, set};
 ghost use Rattle.std.specs.Float.{binary64};
 ghost use Rattle.std.specs.Float.Ieee.{add, mul};
@@ -13,7 +15,7 @@ ghost use Rattle.delay_line.specs.DelayLine.{delay_line, handing, start_settings
 
 use port::{Answer, Outcome, Port, Refusal, Silence};
 
-#[derive(Drop)]
+#[derive(Clone, Copy)]
 pub struct DelayLine {
     pub write_pos: u64,
     pub sample_rate: f64,
@@ -25,14 +27,14 @@ pub struct DelayLine {
 }
 
 // What start, retune and reset return.
-#[derive(Drop)]
+#[derive(Clone, Copy)]
 pub struct Cleared {
     pub state: DelayLine,
     pub outcome: Outcome,
 }
 
 // What a tick returns.
-#[derive(Drop)]
+#[derive(Clone, Copy)]
 pub struct Ticked {
     pub state: DelayLine,
     pub answer: Answer,
