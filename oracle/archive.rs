@@ -1,4 +1,4 @@
-//! The build script of the packages that link an archive of ours: target/staticlib/libNAME.a, which `rt staticlib NAME` makes of
+//! The build script of the packages that link an archive of ours: target/staticlib/libNAME.a, which `tools/archive NAME` makes of
 //! the crate that has the package's name.
 
 use std::env;
@@ -14,7 +14,7 @@ fn main() {
     let archive = folder.join(format!("lib{name}.a"));
     assert!(
         archive.is_file(),
-        "{} is missing: run `rt staticlib {name}` first",
+        "{} is missing: run `tools/archive {name}` first",
         archive.display()
     );
     println!("cargo::rerun-if-changed={}", archive.display());
