@@ -47,7 +47,7 @@ def regions(src):
             at = i + 2
             while src.tokens[at].text != "{":
                 if src.tokens[at].text in ("requires", "ensures"):
-                    at = src.match[at + 1]
+                    at = src.match[clause(src, at)]
                 elif src.tokens[at].text in OPEN:
                     at = src.match[at]
                 at += 1
@@ -56,6 +56,13 @@ def regions(src):
             at = next(k for k in range(i, len(src.tokens)) if src.tokens[k].text == "=")
             end = next(k for k in range(at, len(src.tokens)) if src.tokens[k].text == ";" and not inside_brackets(src, at, k))
             yield name, at, end, set()
+
+
+def clause(src, at):
+    """Where the bracket of a clause opens, whose first word stands at this token: its name, if it has one, is between."""
+    while src.tokens[at].text != "{":
+        at += 1
+    return at
 
 
 def inside_brackets(src, first, at):

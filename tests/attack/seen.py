@@ -5,22 +5,24 @@ that they answer and leave: one number. A wrong program that prints another is s
 CRATES = "float64 port common effect tremolo vibrato chorus flanger delay_line reverb".split()
 
 COMMON = """// Made by tests/attack/seen.py.
+#![tactic(auto)]
+
 use chorus::Chorus;
 use delay_line::DelayLine;
 use flanger::Flanger;
-use libc::STDOUT_FILENO;
 use port::Answer;
 use port::Outcome;
 use port::Port;
 use port::Refusal;
 use port::Silence;
 use reverb::Reverb;
+use std::io;
 use tremolo::Tremolo;
 use vibrato::Vibrato;
 
 fn mix(h: u64, x: u64) -> u64 {
     let turned = (h >> 7) | ((h & 127) << 57);
-    std::num::wrapping_add_u64(turned ^ x, 0x9e37_79b9_7f4a_7c15)
+    (turned ^ x).wrapping_add(0x9e37_79b9_7f4a_7c15)
 }
 
 // every NaN counts as one value
@@ -48,7 +50,7 @@ fn special(k: u64) -> f64 {
 }
 
 fn fraction(k: u64) -> f64 {
-    std::num::nearest_u64_to_f64(k * 37 % 1009) / 1009.0
+    (k * 37 % 1009) as f64 / 1009.0
 }
 
 fn port(k: u64) -> Port {
@@ -195,7 +197,7 @@ fn line_calls() -> u64 {
     while w < 9 {
         let mut d: u64 = 0;
         while d < 57 {
-            let distance = 1.0 + std::num::nearest_u64_to_f64(d) * 0.125;
+            let distance = 1.0 + d as f64 * 0.125;
             h = float(h, common::read_interpolated(&mem[3..12], w, distance));
             d += 1;
         }
@@ -550,7 +552,5 @@ def effect(name, kind, fields, start, retune, n, tick):
 def program():
     text = COMMON + MILLISECONDS + "".join(effect(*e) for e in EFFECTS) + SETTINGS + REVERB
     names = ["float64", "port", "common", "line"] + [e[0] for e in EFFECTS] + ["settings", "reverb"]
-    # the interpreter cannot open a file and stops here: it would take longer than the compiled program
-    body = ["let none = os::open_read(b\"none\");", "let mut sum = if none < 0 { 0 } else { 1 };"]
-    body += [f"sum = mix(sum, {n}_calls());" for n in names] + ["io::print_decimal(STDOUT_FILENO, sum);", "io::write_all(STDOUT_FILENO, b\"\\n\");"]
-    return text + "\nfn main() {\n" + "".join(f"    {line}\n" for line in body) + "}\n"
+    body = ["let mut sum = 1;"] + [f"sum = mix(sum, {n}_calls());" for n in names] + ['println!(rt; "{sum}")?;', "Ok(())"]
+    return text + "\nfn main(rt: HostRuntime) -> io::Result<()> {\n" + "".join(f"    {line}\n" for line in body) + "}\n"
