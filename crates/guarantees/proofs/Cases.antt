@@ -13,7 +13,7 @@ use Rattle.delay_line.specs.DelayLine as delay
 use Rattle.reverb.specs.Freeverb.{comb_store, comb_fed, combed, pass_output, pass_fed}
 use Rattle.reverb.specs.Tunings.{ratio, scaled, spread, beside}
 use Rattle.reverb.specs.Reverb.{delay_samples}
-use Rattle.room_effects.specs.Needed.{needed_by}
+use Rattle.needed.specs.Needed.{needed_by}
 use Rattle.guarantees.specs.Starred.{Starred}
 
 pub starred-hold : Starred

@@ -17,7 +17,7 @@ use Rattle.flanger.specs.Flanger.{flanger}
 use Rattle.vibrato.specs.Vibrato.{vibrato}
 use Rattle.tremolo.specs.Tremolo.{tremolo}
 use Rattle.reverb.specs.Reverb.{reverb}
-use Rattle.room_effects.specs.Needed.{needed_by}
+use Rattle.needed.specs.Needed.{needed_by}
 use Rattle.guarantees.specs.PlacesNeeded.{StartNeeds, PlacesNeeded}
 
 -- the delay's count is worked out with coefficient +0, and is the same with every coefficient that is accepted

@@ -11,7 +11,7 @@ use Rattle.flanger.specs.Flanger.{flanger}
 use Rattle.vibrato.specs.Vibrato.{vibrato}
 use Rattle.tremolo.specs.Tremolo.{tremolo}
 use Rattle.reverb.specs.Reverb.{reverb}
-use Rattle.room_effects.specs.Needed.{needed_by}
+use Rattle.needed.specs.Needed.{needed_by}
 
 -- `needed` is what the controller is answered for a start that is handed x
 pub record StartNeeds (E : Effect) (needed : E.Start → ℕ) : Type 0 where

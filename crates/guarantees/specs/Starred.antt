@@ -14,7 +14,7 @@ use Rattle.tremolo.specs.Tremolo as trem
 use Rattle.reverb.specs.Freeverb.{comb_store, comb_fed, combed, pass_output, pass_fed}
 use Rattle.reverb.specs.Tunings.{Side, left, right, predelay_size, ratio, spread, comb_lengths, allpass_lengths}
 use Rattle.reverb.specs.Reverb as rev
-use Rattle.room_effects.specs.Needed.{needed_by}
+use Rattle.needed.specs.Needed.{needed_by}
 
 pub data Case : Type 0 where
   -- an effect's number, a rate and a maximum; the places needed

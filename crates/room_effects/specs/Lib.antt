@@ -1,4 +1,3 @@
 pub mod Ports
 pub mod Lent
 pub mod States
-pub mod Needed

@@ -1,6 +1,6 @@
 // What a controller asks at power-up.
 ghost use Rattle.std.specs.Prelude.{◌≡◌};
-ghost use Rattle.room_effects.specs.Needed.{needed_by};
+ghost use Rattle.needed.specs.Needed.{needed_by};
 
 use chorus::Chorus;
 use delay_line::DelayLine;

@@ -1,7 +1,7 @@
 -- `room_places_needed` is `needed_by`, effect by effect. Assumes nothing.
 use borrow.Author.Rules.{rules}
 use borrow.Author.Tests.{ne_eqb}
-use Rattle.room_effects.specs.Needed.{needed_by}
+use Rattle.needed.specs.Needed.{needed_by}
 use Rattle.room_effects.proofs.places.room_places_needed.Statement.{statement}
 use Rattle.room_effects.proofs.places.room_places_needed.Tie as tie
 
