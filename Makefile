@@ -6,7 +6,7 @@ CFLAGS = -std=c99 -O2 -Wall -Wextra -Wpedantic -Werror
 # What the library is made of: the crates that crates.txt gives it, and of these no wrong programs. Folders are in the list too,
 # so that a file that is taken away counts.
 CRATES := room_effects $(shell sed -n 's/^room_effects staticlib: *//p' crates.txt)
-SOURCES := crates.txt kit.txt $(shell find $(foreach crate,$(CRATES),$(addprefix crates/$(crate)/,src specs proofs)))
+SOURCES := crates.txt kit.txt $(shell find $(wildcard $(foreach crate,$(CRATES),$(addprefix crates/$(crate)/,src specs proofs))))
 
 demo: target/room
 	@mkdir -p target/demo
