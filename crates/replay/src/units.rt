@@ -8,270 +8,291 @@
 // The call is 0 tick, 1 retune (the new rate stands for the mix, the delay's new coefficient for the milliseconds) or 2 reset. A tremolo's record has
 // its own state before the tick; the others are calls of one unit from its start on, which stands before them: 1 delay, 2 chorus, 3 flanger, 4 vibrato
 // or 6 reverb; the rate; the places needed; of a delay also the maximum, the glide coefficient, and 1 for linear mode, else 0.
-ghost use Rattle.std.specs.Prelude.{◌≤◌, ◌<◌};
+ghost use Rattle.std.specs.Prelude.{◌≡◌, ◌≤◌, ◌<◌};
+ghost use Rattle.replay.specs.Files.{start_size, record_size};
 
-use crate::words::{float, holds, word};
+use crate::reverbs;
+use crate::words::Record;
 use chorus::Chorus;
 use delay_line::DelayLine;
 use flanger::Flanger;
-use port::{Answer, Port, port_if};
+use port::{Answer, Outcome, Port, port_if};
+use reverb::Reverb;
 use tremolo::Tremolo;
 use vibrato::Vibrato;
 
-#[derive(Drop)]
+// The calls that are no tick, as word 0 of a record has them.
+const RETUNE: u64 = 1;
+
+const RESET: u64 = 2;
+
+// What a file is of.
+#[derive(Clone, Copy)]
+pub enum Effect {
+    Tremolo,
+    Vibrato,
+    Chorus,
+    Flanger,
+    Delay,
+    Reverb,
+}
+
+impl Effect {
+    // The bytes of the start, before the records.
+    pub fn start_size(self) -> usize
+        ensures value { result ≡ start_size self }
+        ensures fits { result ≤ 128 }
+    {
+        match self {
+            Effect::Tremolo => 0,
+            Effect::Delay => 6 * 8,
+            Effect::Vibrato | Effect::Chorus | Effect::Flanger | Effect::Reverb => 3 * 8,
+        }
+    }
+
+    // The bytes of a record.
+    pub fn record_size(self) -> usize
+        ensures value { result ≡ record_size self }
+        ensures some { 0 < result }
+        ensures fits { result ≤ 128 }
+    {
+        match self {
+            Effect::Vibrato => 10 * 8,
+            Effect::Tremolo | Effect::Delay => 11 * 8,
+            Effect::Flanger => 14 * 8,
+            Effect::Chorus | Effect::Reverb => 16 * 8,
+        }
+    }
+
+    // Places enough for the stored calls.
+    pub fn places(self) -> usize {
+        match self {
+            Effect::Reverb => Reverb::PLACES as usize,
+            _ => 600,
+        }
+    }
+}
+
+// A unit between two calls. Of a tremolo nothing is kept, since each record has the state before its tick.
+#[derive(Clone, Copy)]
 pub enum Unit {
     Tremolo,
     Vibrato(Vibrato),
     Chorus(Chorus),
     Flanger(Flanger),
     Delay(DelayLine),
-}
-
-// A unit after a call, and whether the call left and answered what is stored.
-#[derive(Drop)]
-pub struct Step {
-    pub unit: Unit,
-    pub equal: bool,
+    Reverb(Reverb),
 }
 
 // The port of the weight 1, 2, 4, .. in the mask, with the number in word i.
-pub fn port(b: [u8; 128], set: u64, weight: u64, i: usize) -> Port
-    requires le_weight { 1 ≤ weight }
-    requires i_bound { i < 16 }
+pub fn port(record: &Record, mask: u64, weight: u64, i: usize) -> Port
+    requires weight { 1 ≤ weight }
+    requires word { i < 16 }
 {
-    port_if(set / weight % 2 == 1, float(b, i))
-}
-
-// The delay that a start leaves.
-pub fn started_delay(rate: f64, maximum: f64, coef: f64, linear: bool, mem: &mut [f64]) -> Step {
-    cleared_delay(DelayLine::with_max_delay(rate, maximum, coef, linear, mem))
-}
-
-// The unit of any other effect that a start leaves.
-pub fn started(effect: u64, rate: f64, mem: &mut [f64]) -> Step {
-    if effect == 2 {
-        return cleared_chorus(Chorus::new(rate, mem));
-    }
-    if effect == 3 {
-        return cleared_flanger(Flanger::new(rate, mem));
-    }
-    cleared_vibrato(Vibrato::new(rate, mem))
-}
-
-// Whether the unit after a call is the one stored.
-fn state_matches(unit: Unit, b: [u8; 128]) -> bool {
-    match unit {
-        Unit::Tremolo => true,
-        Unit::Vibrato(v) => (v.write_pos == word(b, 8)) & holds(b, 9, v.lfo_phase),
-        Unit::Chorus(c) => {
-            (c.write_pos == word(b, 12))
-                & holds(b, 13, c.lfo_phase0)
-                & holds(b, 14, c.lfo_phase1)
-                & holds(b, 15, c.lfo_phase2)
-        }
-        Unit::Flanger(f) => (f.write_pos == word(b, 12)) & holds(b, 13, f.lfo_phase),
-        Unit::Delay(d) => {
-            (d.write_pos == word(b, 8))
-                & holds(b, 9, d.smoothed_delay)
-                & (d.delay_primed == (word(b, 10) == 1))
-        }
-    }
+    port_if(mask / weight % 2 == 1, record.float(i))
 }
 
 // Whether a tick was accepted with the samples stored from word i on.
-pub fn one_sample(answer: Answer, b: [u8; 128], i: usize) -> bool
+pub fn is_one_sample(answer: Answer, record: &Record, i: usize) -> bool
     requires { i < 16 }
 {
-    (answer.number() == 0) & holds(b, i, answer.first())
+    answer.number() == 0 && record.holds(i, answer.first())
 }
 
-fn three_samples(answer: Answer, b: [u8; 128], i: usize) -> bool
+fn is_three_samples(answer: Answer, record: &Record, i: usize) -> bool
     requires { i < 14 }
 {
-    one_sample(answer, b, i) & holds(b, i + 1, answer.second()) & holds(b, i + 2, answer.third())
+    is_one_sample(answer, record, i)
+        && record.holds(i + 1, answer.second())
+        && record.holds(i + 2, answer.third())
+}
+
+pub fn is_accepted(outcome: Outcome) -> bool {
+    outcome.number() == 0
 }
 
 // Whether a tremolo's tick gives the stored phase and sample.
-fn tick_tremolo(b: [u8; 128]) -> Step {
+fn tick_tremolo(record: &Record) -> bool {
     let state = Tremolo {
-        lfo_phase: float(b, 1),
-        sample_rate: float(b, 2),
+        lfo_phase: record.float(1),
+        sample_rate: record.float(2),
     };
-    let set = word(b, 3);
+    let mask = record.word(3);
     let ticked = state.tick(
-        port(b, set, 1, 4),
-        port(b, set, 2, 5),
-        port(b, set, 4, 6),
-        float(b, 7),
-        float(b, 8),
+        port(record, mask, 1, 4),
+        port(record, mask, 2, 5),
+        port(record, mask, 4, 6),
+        record.float(7),
+        record.float(8),
     );
-    let answer = ticked.answer;
-    Step {
-        unit: Unit::Tremolo,
-        equal: one_sample(answer, b, 10) & holds(b, 9, ticked.state.lfo_phase),
-    }
+    is_one_sample(ticked.answer, record, 10) && record.holds(9, ticked.state.lfo_phase)
 }
 
-fn tick_vibrato(state: Vibrato, mem: &mut [f64], b: [u8; 128]) -> Step {
-    let set = word(b, 1);
+fn tick_vibrato(state: &mut Vibrato, mem: &mut [f64], record: &Record) -> bool {
+    let mask = record.word(1);
     let ticked = state.tick(
         mem,
-        port(b, set, 1, 2),
-        port(b, set, 2, 3),
-        port(b, set, 4, 4),
-        float(b, 5),
-        float(b, 6),
+        port(record, mask, 1, 2),
+        port(record, mask, 2, 3),
+        port(record, mask, 4, 4),
+        record.float(5),
+        record.float(6),
     );
-    let next = ticked.state;
-    let answer = ticked.answer;
-    Step {
-        unit: Unit::Vibrato(next),
-        equal: one_sample(answer, b, 7),
-    }
+    *state = ticked.state;
+    is_one_sample(ticked.answer, record, 7)
 }
 
-fn tick_chorus(state: Chorus, mem: &mut [f64], b: [u8; 128]) -> Step {
-    let set = word(b, 1);
+fn tick_chorus(state: &mut Chorus, mem: &mut [f64], record: &Record) -> bool {
+    let mask = record.word(1);
     let ticked = state.tick(
         mem,
-        port(b, set, 1, 2),
-        port(b, set, 2, 3),
-        port(b, set, 4, 4),
-        float(b, 5),
-        float(b, 6),
-        float(b, 7),
-        float(b, 8),
+        port(record, mask, 1, 2),
+        port(record, mask, 2, 3),
+        port(record, mask, 4, 4),
+        record.float(5),
+        record.float(6),
+        record.float(7),
+        record.float(8),
     );
-    let next = ticked.state;
-    let answer = ticked.answer;
-    Step {
-        unit: Unit::Chorus(next),
-        equal: three_samples(answer, b, 9),
-    }
+    *state = ticked.state;
+    is_three_samples(ticked.answer, record, 9)
 }
 
-fn tick_flanger(state: Flanger, mem: &mut [f64], b: [u8; 128]) -> Step {
-    let set = word(b, 1);
+fn tick_flanger(state: &mut Flanger, mem: &mut [f64], record: &Record) -> bool {
+    let mask = record.word(1);
     let ticked = state.tick(
         mem,
-        port(b, set, 1, 2),
-        port(b, set, 2, 3),
-        port(b, set, 4, 4),
-        port(b, set, 8, 5),
-        float(b, 6),
-        float(b, 7),
-        float(b, 8),
+        port(record, mask, 1, 2),
+        port(record, mask, 2, 3),
+        port(record, mask, 4, 4),
+        port(record, mask, 8, 5),
+        record.float(6),
+        record.float(7),
+        record.float(8),
     );
-    let next = ticked.state;
-    let answer = ticked.answer;
-    Step {
-        unit: Unit::Flanger(next),
-        equal: three_samples(answer, b, 9),
-    }
+    *state = ticked.state;
+    is_three_samples(ticked.answer, record, 9)
 }
 
-fn tick_delay(state: DelayLine, mem: &mut [f64], b: [u8; 128]) -> Step {
-    let set = word(b, 1);
+fn tick_delay(state: &mut DelayLine, mem: &mut [f64], record: &Record) -> bool {
+    let mask = record.word(1);
     let ticked = state.tick(
         mem,
-        port(b, set, 1, 2),
-        port(b, set, 2, 3),
-        port(b, set, 4, 4),
-        port(b, set, 8, 5),
-        float(b, 6),
+        port(record, mask, 1, 2),
+        port(record, mask, 2, 3),
+        port(record, mask, 4, 4),
+        port(record, mask, 8, 5),
+        record.float(6),
     );
-    let next = ticked.state;
-    let answer = ticked.answer;
-    Step {
-        unit: Unit::Delay(next),
-        equal: one_sample(answer, b, 7),
-    }
+    *state = ticked.state;
+    is_one_sample(ticked.answer, record, 7)
 }
 
-fn tick(unit: Unit, mem: &mut [f64], b: [u8; 128]) -> Step {
-    match unit {
-        Unit::Tremolo => tick_tremolo(b),
-        Unit::Vibrato(v) => tick_vibrato(v, mem, b),
-        Unit::Chorus(c) => tick_chorus(c, mem, b),
-        Unit::Flanger(f) => tick_flanger(f, mem, b),
-        Unit::Delay(d) => tick_delay(d, mem, b),
-    }
+// What a start, a retune or a reset leaves, and whether it was accepted.
+fn clear_vibrato(state: &mut Vibrato, cleared: vibrato::Cleared) -> bool {
+    *state = cleared.state;
+    is_accepted(cleared.outcome)
 }
 
-// What a start, a retune or a reset leaves; it is equal where it is accepted.
-fn cleared_vibrato(cleared: vibrato::Cleared) -> Step {
-    let next = cleared.state;
-    let outcome = cleared.outcome;
-    Step {
-        unit: Unit::Vibrato(next),
-        equal: outcome.number() == 0,
-    }
+fn clear_chorus(state: &mut Chorus, cleared: chorus::Cleared) -> bool {
+    *state = cleared.state;
+    is_accepted(cleared.outcome)
 }
 
-fn cleared_chorus(cleared: chorus::Cleared) -> Step {
-    let next = cleared.state;
-    let outcome = cleared.outcome;
-    Step {
-        unit: Unit::Chorus(next),
-        equal: outcome.number() == 0,
-    }
+fn clear_flanger(state: &mut Flanger, cleared: flanger::Cleared) -> bool {
+    *state = cleared.state;
+    is_accepted(cleared.outcome)
 }
 
-fn cleared_flanger(cleared: flanger::Cleared) -> Step {
-    let next = cleared.state;
-    let outcome = cleared.outcome;
-    Step {
-        unit: Unit::Flanger(next),
-        equal: outcome.number() == 0,
-    }
+fn clear_delay(state: &mut DelayLine, cleared: delay_line::Cleared) -> bool {
+    *state = cleared.state;
+    is_accepted(cleared.outcome)
 }
 
-fn cleared_delay(cleared: delay_line::Cleared) -> Step {
-    let next = cleared.state;
-    let outcome = cleared.outcome;
-    Step {
-        unit: Unit::Delay(next),
-        equal: outcome.number() == 0,
+impl Unit {
+    // The unit that a file's start leaves.
+    pub fn new(effect: Effect, start: &Record, mem: &mut [f64]) -> Unit {
+        let rate = start.float(1);
+        match effect {
+            Effect::Tremolo => Unit::Tremolo,
+            Effect::Vibrato => Unit::Vibrato(Vibrato::new(rate, mem).state),
+            Effect::Chorus => Unit::Chorus(Chorus::new(rate, mem).state),
+            Effect::Flanger => Unit::Flanger(Flanger::new(rate, mem).state),
+            Effect::Delay => {
+                let linear = start.word(5) == 1;
+                let maximum = start.float(3);
+                let coefficient = start.float(4);
+                Unit::Delay(
+                    DelayLine::with_max_delay(rate, maximum, coefficient, linear, mem).state,
+                )
+            }
+            Effect::Reverb => Unit::Reverb(Reverb::new(rate, mem).state),
+        }
     }
-}
 
-fn retune(unit: Unit, mem: &mut [f64], b: [u8; 128]) -> Step {
-    match unit {
-        Unit::Tremolo => Step { unit, equal: false },
-        Unit::Vibrato(v) => cleared_vibrato(v.set_sample_rate(float(b, 4), mem)),
-        Unit::Chorus(c) => cleared_chorus(c.set_sample_rate(float(b, 4), mem)),
-        Unit::Flanger(f) => cleared_flanger(f.set_sample_rate(float(b, 5), mem)),
-        Unit::Delay(d) => cleared_delay(d.set_sample_rate(float(b, 5), float(b, 6), mem)),
+    // Makes a record's call, and says whether it answered and left what is stored.
+    pub fn call(&mut self, mem: &mut [f64], record: &Record) -> bool {
+        let equal = match record.word(0) {
+            RETUNE => self.retune(mem, record),
+            RESET => self.reset(mem),
+            _ => self.tick(mem, record),
+        };
+        equal && self.is_stored(record)
     }
-}
 
-fn reset(unit: Unit, mem: &mut [f64]) -> Step {
-    match unit {
-        Unit::Tremolo => Step { unit, equal: false },
-        Unit::Vibrato(v) => cleared_vibrato(v.reset(mem)),
-        Unit::Chorus(c) => cleared_chorus(c.reset(mem)),
-        Unit::Flanger(f) => cleared_flanger(f.reset(mem)),
-        Unit::Delay(d) => cleared_delay(d.reset(mem)),
+    fn tick(&mut self, mem: &mut [f64], record: &Record) -> bool {
+        match self {
+            Unit::Tremolo => tick_tremolo(record),
+            Unit::Vibrato(v) => tick_vibrato(v, mem, record),
+            Unit::Chorus(c) => tick_chorus(c, mem, record),
+            Unit::Flanger(f) => tick_flanger(f, mem, record),
+            Unit::Delay(d) => tick_delay(d, mem, record),
+            Unit::Reverb(r) => reverbs::tick_or_look(r, mem, record),
+        }
     }
-}
 
-fn call(unit: Unit, mem: &mut [f64], b: [u8; 128]) -> Step {
-    let code = word(b, 0);
-    if code == 1 {
-        return retune(unit, mem, b);
+    fn retune(&mut self, mem: &mut [f64], record: &Record) -> bool {
+        match self {
+            Unit::Tremolo => false,
+            Unit::Vibrato(v) => clear_vibrato(v, v.set_sample_rate(record.float(4), mem)),
+            Unit::Chorus(c) => clear_chorus(c, c.set_sample_rate(record.float(4), mem)),
+            Unit::Flanger(f) => clear_flanger(f, f.set_sample_rate(record.float(5), mem)),
+            Unit::Delay(d) => {
+                clear_delay(d, d.set_sample_rate(record.float(5), record.float(6), mem))
+            }
+            Unit::Reverb(r) => reverbs::clear(r, r.set_sample_rate(record.float(6), mem)),
+        }
     }
-    if code == 2 {
-        return reset(unit, mem);
-    }
-    tick(unit, mem, b)
-}
 
-// A record's call, of the unit.
-pub fn called(unit: Unit, mem: &mut [f64], b: [u8; 128]) -> Step {
-    let step = call(unit, mem, b);
-    let after = step.unit;
-    Step {
-        unit: after,
-        equal: step.equal & state_matches(after, b),
+    fn reset(&mut self, mem: &mut [f64]) -> bool {
+        match self {
+            Unit::Tremolo => false,
+            Unit::Vibrato(v) => clear_vibrato(v, v.reset(mem)),
+            Unit::Chorus(c) => clear_chorus(c, c.reset(mem)),
+            Unit::Flanger(f) => clear_flanger(f, f.reset(mem)),
+            Unit::Delay(d) => clear_delay(d, d.reset(mem)),
+            Unit::Reverb(r) => reverbs::clear(r, r.reset(mem)),
+        }
+    }
+
+    // Whether the unit is what a record says of it after the call.
+    fn is_stored(&self, record: &Record) -> bool {
+        match self {
+            Unit::Tremolo => true,
+            Unit::Vibrato(v) => v.write_pos == record.word(8) && record.holds(9, v.lfo_phase),
+            Unit::Chorus(c) => {
+                c.write_pos == record.word(12)
+                    && record.holds(13, c.lfo_phase0)
+                    && record.holds(14, c.lfo_phase1)
+                    && record.holds(15, c.lfo_phase2)
+            }
+            Unit::Flanger(f) => f.write_pos == record.word(12) && record.holds(13, f.lfo_phase),
+            Unit::Delay(d) => {
+                d.write_pos == record.word(8)
+                    && record.holds(9, d.smoothed_delay)
+                    && d.delay_primed == (record.word(10) == 1)
+            }
+            Unit::Reverb(r) => reverbs::is_stored(r, record),
+        }
     }
 }

@@ -1,12 +1,16 @@
-// Words of a stored file, as integers and as floats, when two floats are equal, and the tally of the calls.
-ghost use Rattle.std.specs.Prelude.{◌+◌, ◌*◌, ◌≤◌, ◌<◌, ◌≡◌, length};
+// Words of a stored record, as integers and as floats, when two floats are equal, and the tally of the calls.
+ghost use Rattle.std.specs.Prelude.{◌≡◌, ◌+◌, ◌-◌, ◌≤◌, ◌<◌, ◌++◌, length, replicate};
 ghost use Rattle.replay.specs.Words.{half_word, word_of, float_at, Decides, counted_in};
 
-fn wide(x: u8) -> u64
-    ensures value { result ≡ x }
-    ensures upper_bound { result < 256 }
-{
-    x as u64
+// The sign bit, and the bits of infinity: a NaN's are above these, its sign aside.
+const SIGN: u64 = 0x8000_0000_0000_0000;
+
+const INFINITY: u64 = 0x7ff0_0000_0000_0000;
+
+// A stored record: sixteen words, of which those that it does not have are 0.
+#[derive(Clone, Copy)]
+pub struct Record {
+    pub bytes: [u8; 128],
 }
 
 // Four bytes from `at` on, the lowest first.
@@ -15,73 +19,79 @@ fn half_word(b: &[u8], at: usize) -> u64
     ensures value { result ≡ half_word b.now at }
     ensures upper_bound { result < 4294967296 }
 {
-    wide(b[at]) + 256 * wide(b[at + 1]) + 65536 * wide(b[at + 2]) + 16777216 * wide(b[at + 3])
+    u64::from(u32::from_le_bytes([b[at], b[at + 1], b[at + 2], b[at + 3]]))
 }
 
-// The word number i of a record. A record is handed on by value: of a loan the proof of each caller would follow the end too.
-pub fn word(b: [u8; 128], i: usize) -> u64
-    requires { i < 16 }
-    ensures { result ≡ word_of b i }
-{
-    let at = i * 8;
-    half_word(&b, at) + 4294967296 * half_word(&b, at + 4)
-}
-
-// The float of a word: a NaN for every NaN pattern.
-pub fn float(b: [u8; 128], i: usize) -> f64
-    requires { i < 16 }
-    ensures { result ≡ float_at b i }
-{
-    let bits = word(b, i);
-    if bits % 9223372036854775808 > 9218868437227405312 {
-        return 0.0 / 0.0;
+impl Record {
+    // The record of these bytes.
+    pub fn new(stored: &[u8]) -> Record
+        requires { length stored.now ≤ 128 }
+        ensures { result.bytes ≡ stored.now ++ replicate (128 - length stored.now) 0 }
+    {
+        let mut bytes = [0; 128];
+        bytes[..stored.len()].copy_from_slice(stored);
+        Record { bytes }
     }
-    f64::from_bits(bits)
+
+    // The word number i, its lowest byte first.
+    pub fn word(&self, i: usize) -> u64
+        requires { i < 16 }
+        ensures { result ≡ word_of self.now.bytes i }
+    {
+        let at = i * 8;
+        half_word(&self.bytes, at) + 4294967296 * half_word(&self.bytes, at + 4)
+    }
+
+    // The float of a word: a NaN for every NaN pattern.
+    pub fn float(&self, i: usize) -> f64
+        requires { i < 16 }
+        ensures { result ≡ float_at self.now.bytes i }
+    {
+        let bits = self.word(i);
+        if bits % SIGN > INFINITY {
+            f64::NAN
+        } else {
+            f64::from_bits(bits)
+        }
+    }
+
+    // Whether word i is that float.
+    pub fn holds(&self, i: usize, x: f64) -> bool
+        requires { i < 16 }
+        ensures { Decides result x (float_at self.now.bytes i) }
+    {
+        same(x, self.float(i))
+    }
 }
 
 // Equal by bits, every NaN as one value.
 pub fn same(x: f64, y: f64) -> bool
     ensures { Decides result x y }
 {
-    if float64::is_nan(x) {
-        return float64::is_nan(y);
+    if x.is_nan() {
+        return y.is_nan();
     }
-    if float64::is_nan(y) {
-        return false;
-    }
-    f64::to_bits(x) == f64::to_bits(y)
-}
-
-// Whether word i is that float.
-pub fn holds(b: [u8; 128], i: usize, x: f64) -> bool
-    requires { i < 16 }
-    ensures { Decides result x (float_at b i) }
-{
-    same(x, float(b, i))
+    !y.is_nan() && x.to_bits() == y.to_bits()
 }
 
 // How many calls were replayed, and how many of them differ.
-#[derive(Drop)]
+#[derive(Clone, Copy, Default)]
 pub struct Tally {
     pub calls: u64,
     pub differ: u64,
 }
 
-// One call more, and one more that differs unless it is equal.
-pub fn counted(tally: Tally, equal: bool) -> Tally
-    requires { (tally.calls < 1000000) × (tally.differ ≤ tally.calls) }
-    ensures value { result ≡ counted_in tally equal }
-    ensures differ_le_calls { result.differ ≤ result.calls }
-{
-    let calls = tally.calls + 1;
-    if equal {
-        return Tally {
-            calls,
-            differ: tally.differ,
-        };
-    }
-    Tally {
-        calls,
-        differ: tally.differ + 1,
+impl Tally {
+    // One call more, and one more that differs unless it is equal.
+    pub fn counted(self, equal: bool) -> Tally
+        requires room { self.calls < u64.MAX }
+        requires differ { self.differ ≤ self.calls }
+        ensures value { result ≡ counted_in self equal }
+        ensures differ { result.differ ≤ result.calls }
+    {
+        Tally {
+            calls: self.calls + 1,
+            differ: self.differ + u64::from(!equal),
+        }
     }
 }

@@ -1,0 +1,26 @@
+-- How a file of stored answers lies: a start, and then records. Definitions only.
+use Rattle.std.specs.Prelude.{ℕ, ◌-◌, ◌/◌, List, length}
+use Rattle.replay.specs.declared.units.Effect.{Effect}
+use Rattle.replay.specs.declared.units.Effect.TheVariants.{Tremolo, Vibrato, Chorus, Flanger, Delay, Reverb}
+
+-- the bytes of the start: of a delay six words, of a tremolo none
+abbrev pub start_size : Effect → ℕ
+start_size Tremolo = 0
+start_size Vibrato = 24
+start_size Chorus = 24
+start_size Flanger = 24
+start_size Delay = 48
+start_size Reverb = 24
+
+-- the bytes of a record
+abbrev pub record_size : Effect → ℕ
+record_size Tremolo = 88
+record_size Vibrato = 80
+record_size Chorus = 128
+record_size Flanger = 112
+record_size Delay = 88
+record_size Reverb = 128
+
+-- how many whole records a file has
+abbrev pub record_count : Effect → List ℕ → ℕ
+record_count e stored = (length stored - start_size e) / record_size e
