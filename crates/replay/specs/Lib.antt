@@ -1,2 +1,3 @@
 pub mod Files
+pub mod Stored
 pub mod Words

@@ -4,7 +4,10 @@
 //   2 to 6  audio, size, damping, mix, predelay; of a retune, 6 is the new rate
 //   7, 8    left and right
 //   9 to 15 the positions after, four in a word, 16 bits each, the first lowest: left combs, right combs, left all-passes, right ones; the predelay's
-ghost use Rattle.std.specs.Prelude.{◌<◌};
+ghost use Rattle.std.specs.Prelude.{◌≡◌, ◌+◌, ◌<◌, ◌↔◌, IsTrue, EachIndex, slice_index_or};
+ghost use Rattle.std.specs.Float.{float_zero};
+ghost use Rattle.replay.specs.Stored.{IsReverbStored, eight_from, unpacked};
+ghost use Rattle.replay.specs.Words.{float_at};
 
 use crate::units::{is_accepted, is_one_sample, port};
 use crate::words::Record;
@@ -16,7 +19,9 @@ const LEFT_STORES: u64 = 3;
 const RIGHT_STORES: u64 = 4;
 
 // The four positions in a word.
-fn unpacked(packed: u64) -> [u64; 4] {
+fn unpacked(packed: u64) -> [u64; 4]
+    ensures { result ≡ unpacked packed }
+{
     [
         packed & 0xffff,
         packed >> 16 & 0xffff,
@@ -25,54 +30,61 @@ fn unpacked(packed: u64) -> [u64; 4] {
     ]
 }
 
-fn are_four_stored(positions: &[u64], packed: u64) -> bool {
+fn are_four_stored(positions: &[u64], packed: u64) -> bool
+    ensures { IsTrue result ↔ (positions.now ≡ unpacked packed) }
+{
     positions == unpacked(packed).as_slice()
 }
 
 // Whether eight positions are those packed from word i on.
-fn are_eight_stored(positions: &[u64; 8], record: &Record, i: usize) -> bool
+fn are_eight_stored(positions: &[u64; 8], stored: &Record, i: usize) -> bool
     requires { i < 15 }
+    ensures { IsTrue result ↔ (positions.now ≡ eight_from stored.now.bytes i) }
 {
-    are_four_stored(&positions[..4], record.word(i))
-        && are_four_stored(&positions[4..], record.word(i + 1))
+    are_four_stored(&positions[..4], stored.word(i))
+        && are_four_stored(&positions[4..], stored.word(i + 1))
 }
 
 // Whether the positions are what a record says of them after the call.
-pub fn is_stored(r: &Reverb, record: &Record) -> bool {
-    are_eight_stored(&r.comb_pos_l, record, 9)
-        && are_eight_stored(&r.comb_pos_r, record, 11)
-        && r.allpass_pos_l == unpacked(record.word(13))
-        && r.allpass_pos_r == unpacked(record.word(14))
-        && r.predelay_pos == record.word(15)
+pub fn is_stored(r: &Reverb, stored: &Record) -> bool
+    ensures { IsTrue result ↔ IsReverbStored r.now stored.now.bytes }
+{
+    are_eight_stored(&r.comb_pos_l, stored, 9)
+        && are_eight_stored(&r.comb_pos_r, stored, 11)
+        && r.allpass_pos_l == unpacked(stored.word(13))
+        && r.allpass_pos_r == unpacked(stored.word(14))
+        && r.predelay_pos == stored.word(15)
 }
 
 // Whether a side's damping stores are those in words 1 to 8.
-fn are_stores_held(stores: &[f64; 8], record: &Record) -> bool {
+fn are_stores_held(stores: &[f64; 8], stored: &Record) -> bool
+    ensures { IsTrue result ↔ EachIndex stores.now (λ k. slice_index_or stores.now k float_zero ≡ float_at stored.now.bytes (k + 1)) }
+{
     stores
         .iter()
         .enumerate()
-        .all(|(k, x)| record.holds(k + 1, *x))
+        .all(|(k, x)| stored.holds(k + 1, *x))
 }
 
-fn tick(r: &mut Reverb, mem: &mut [f64], record: &Record) -> bool {
-    let mask = record.word(1);
+fn tick(r: &mut Reverb, mem: &mut [f64], stored: &Record) -> bool {
+    let mask = stored.word(1);
     let ticked = r.tick(
         mem,
-        port(record, mask, 1, 2),
-        port(record, mask, 2, 3),
-        port(record, mask, 4, 4),
-        port(record, mask, 8, 5),
-        port(record, mask, 16, 6),
+        port(stored, mask, 1, 2),
+        port(stored, mask, 2, 3),
+        port(stored, mask, 4, 4),
+        port(stored, mask, 8, 5),
+        port(stored, mask, 16, 6),
     );
     *r = ticked.state;
-    is_one_sample(ticked.answer, record, 7) && record.holds(8, ticked.answer.second())
+    is_one_sample(ticked.answer, stored, 7) && stored.holds(8, ticked.answer.second())
 }
 
-pub fn tick_or_look(r: &mut Reverb, mem: &mut [f64], record: &Record) -> bool {
-    match record.word(0) {
-        LEFT_STORES => are_stores_held(&r.comb_filter_state_l, record),
-        RIGHT_STORES => are_stores_held(&r.comb_filter_state_r, record),
-        _ => tick(r, mem, record),
+pub fn tick_or_look(r: &mut Reverb, mem: &mut [f64], stored: &Record) -> bool {
+    match stored.word(0) {
+        LEFT_STORES => are_stores_held(&r.comb_filter_state_l, stored),
+        RIGHT_STORES => are_stores_held(&r.comb_filter_state_r, stored),
+        _ => tick(r, mem, stored),
     }
 }
 

@@ -8,8 +8,12 @@
 // The call is 0 tick, 1 retune (the new rate stands for the mix, the delay's new coefficient for the milliseconds) or 2 reset. A tremolo's record has
 // its own state before the tick; the others are calls of one unit from its start on, which stands before them: 1 delay, 2 chorus, 3 flanger, 4 vibrato
 // or 6 reverb; the rate; the places needed; of a delay also the maximum, the glide coefficient, and 1 for linear mode, else 0.
-ghost use Rattle.std.specs.Prelude.{◌≡◌, ◌≤◌, ◌<◌};
+ghost use Rattle.std.specs.Prelude.{◌≡◌, ◌≤◌, ◌<◌, ◌/◌, ◌%◌, ◌==◌, ◌↔◌, IsTrue};
+ghost use Rattle.port.specs.Port.{port_if};
+ghost use Rattle.port.specs.Answer.{answer_reply, outcome_reply, reply_number};
 ghost use Rattle.replay.specs.Files.{start_size, record_size};
+ghost use Rattle.replay.specs.Stored.{IsOneSample, IsStored, IsThreeSamples};
+ghost use Rattle.replay.specs.Words.{float_at};
 
 use crate::reverbs;
 use crate::words::Record;
@@ -85,107 +89,112 @@ pub enum Unit {
 }
 
 // The port of the weight 1, 2, 4, .. in the mask, with the number in word i.
-pub fn port(record: &Record, mask: u64, weight: u64, i: usize) -> Port
+pub fn port(stored: &Record, mask: u64, weight: u64, i: usize) -> Port
     requires weight { 1 ≤ weight }
     requires word { i < 16 }
+    ensures { result ≡ port_if (mask / weight % 2 == 1) (float_at stored.now.bytes i) }
 {
-    port_if(mask / weight % 2 == 1, record.float(i))
+    port_if(mask / weight % 2 == 1, stored.float(i))
 }
 
 // Whether a tick was accepted with the samples stored from word i on.
-pub fn is_one_sample(answer: Answer, record: &Record, i: usize) -> bool
+pub fn is_one_sample(answer: Answer, stored: &Record, i: usize) -> bool
     requires { i < 16 }
+    ensures { IsTrue result ↔ IsOneSample (answer_reply answer) stored.now.bytes i }
 {
-    answer.number() == 0 && record.holds(i, answer.first())
+    answer.number() == 0 && stored.holds(i, answer.first())
 }
 
-fn is_three_samples(answer: Answer, record: &Record, i: usize) -> bool
+fn is_three_samples(answer: Answer, stored: &Record, i: usize) -> bool
     requires { i < 14 }
+    ensures { IsTrue result ↔ IsThreeSamples (answer_reply answer) stored.now.bytes i }
 {
-    is_one_sample(answer, record, i)
-        && record.holds(i + 1, answer.second())
-        && record.holds(i + 2, answer.third())
+    is_one_sample(answer, stored, i)
+        && stored.holds(i + 1, answer.second())
+        && stored.holds(i + 2, answer.third())
 }
 
-pub fn is_accepted(outcome: Outcome) -> bool {
+pub fn is_accepted(outcome: Outcome) -> bool
+    ensures { IsTrue result ↔ (reply_number (outcome_reply outcome) ≡ 0) }
+{
     outcome.number() == 0
 }
 
 // Whether a tremolo's tick gives the stored phase and sample.
-fn tick_tremolo(record: &Record) -> bool {
+fn tick_tremolo(stored: &Record) -> bool {
     let state = Tremolo {
-        lfo_phase: record.float(1),
-        sample_rate: record.float(2),
+        lfo_phase: stored.float(1),
+        sample_rate: stored.float(2),
     };
-    let mask = record.word(3);
+    let mask = stored.word(3);
     let ticked = state.tick(
-        port(record, mask, 1, 4),
-        port(record, mask, 2, 5),
-        port(record, mask, 4, 6),
-        record.float(7),
-        record.float(8),
+        port(stored, mask, 1, 4),
+        port(stored, mask, 2, 5),
+        port(stored, mask, 4, 6),
+        stored.float(7),
+        stored.float(8),
     );
-    is_one_sample(ticked.answer, record, 10) && record.holds(9, ticked.state.lfo_phase)
+    is_one_sample(ticked.answer, stored, 10) && stored.holds(9, ticked.state.lfo_phase)
 }
 
-fn tick_vibrato(state: &mut Vibrato, mem: &mut [f64], record: &Record) -> bool {
-    let mask = record.word(1);
+fn tick_vibrato(state: &mut Vibrato, mem: &mut [f64], stored: &Record) -> bool {
+    let mask = stored.word(1);
     let ticked = state.tick(
         mem,
-        port(record, mask, 1, 2),
-        port(record, mask, 2, 3),
-        port(record, mask, 4, 4),
-        record.float(5),
-        record.float(6),
+        port(stored, mask, 1, 2),
+        port(stored, mask, 2, 3),
+        port(stored, mask, 4, 4),
+        stored.float(5),
+        stored.float(6),
     );
     *state = ticked.state;
-    is_one_sample(ticked.answer, record, 7)
+    is_one_sample(ticked.answer, stored, 7)
 }
 
-fn tick_chorus(state: &mut Chorus, mem: &mut [f64], record: &Record) -> bool {
-    let mask = record.word(1);
+fn tick_chorus(state: &mut Chorus, mem: &mut [f64], stored: &Record) -> bool {
+    let mask = stored.word(1);
     let ticked = state.tick(
         mem,
-        port(record, mask, 1, 2),
-        port(record, mask, 2, 3),
-        port(record, mask, 4, 4),
-        record.float(5),
-        record.float(6),
-        record.float(7),
-        record.float(8),
+        port(stored, mask, 1, 2),
+        port(stored, mask, 2, 3),
+        port(stored, mask, 4, 4),
+        stored.float(5),
+        stored.float(6),
+        stored.float(7),
+        stored.float(8),
     );
     *state = ticked.state;
-    is_three_samples(ticked.answer, record, 9)
+    is_three_samples(ticked.answer, stored, 9)
 }
 
-fn tick_flanger(state: &mut Flanger, mem: &mut [f64], record: &Record) -> bool {
-    let mask = record.word(1);
+fn tick_flanger(state: &mut Flanger, mem: &mut [f64], stored: &Record) -> bool {
+    let mask = stored.word(1);
     let ticked = state.tick(
         mem,
-        port(record, mask, 1, 2),
-        port(record, mask, 2, 3),
-        port(record, mask, 4, 4),
-        port(record, mask, 8, 5),
-        record.float(6),
-        record.float(7),
-        record.float(8),
+        port(stored, mask, 1, 2),
+        port(stored, mask, 2, 3),
+        port(stored, mask, 4, 4),
+        port(stored, mask, 8, 5),
+        stored.float(6),
+        stored.float(7),
+        stored.float(8),
     );
     *state = ticked.state;
-    is_three_samples(ticked.answer, record, 9)
+    is_three_samples(ticked.answer, stored, 9)
 }
 
-fn tick_delay(state: &mut DelayLine, mem: &mut [f64], record: &Record) -> bool {
-    let mask = record.word(1);
+fn tick_delay(state: &mut DelayLine, mem: &mut [f64], stored: &Record) -> bool {
+    let mask = stored.word(1);
     let ticked = state.tick(
         mem,
-        port(record, mask, 1, 2),
-        port(record, mask, 2, 3),
-        port(record, mask, 4, 4),
-        port(record, mask, 8, 5),
-        record.float(6),
+        port(stored, mask, 1, 2),
+        port(stored, mask, 2, 3),
+        port(stored, mask, 4, 4),
+        port(stored, mask, 8, 5),
+        stored.float(6),
     );
     *state = ticked.state;
-    is_one_sample(ticked.answer, record, 7)
+    is_one_sample(ticked.answer, stored, 7)
 }
 
 // What a start, a retune or a reset leaves, and whether it was accepted.
@@ -231,36 +240,38 @@ impl Unit {
     }
 
     // Makes a record's call, and says whether it answered and left what is stored.
-    pub fn call(&mut self, mem: &mut [f64], record: &Record) -> bool {
-        let equal = match record.word(0) {
-            RETUNE => self.retune(mem, record),
+    pub fn call(&mut self, mem: &mut [f64], stored: &Record) -> bool
+        ensures { IsTrue result → IsStored self.new stored.now.bytes }
+    {
+        let equal = match stored.word(0) {
+            RETUNE => self.retune(mem, stored),
             RESET => self.reset(mem),
-            _ => self.tick(mem, record),
+            _ => self.tick(mem, stored),
         };
-        equal && self.is_stored(record)
+        equal && self.is_stored(stored)
     }
 
-    fn tick(&mut self, mem: &mut [f64], record: &Record) -> bool {
+    fn tick(&mut self, mem: &mut [f64], stored: &Record) -> bool {
         match self {
-            Unit::Tremolo => tick_tremolo(record),
-            Unit::Vibrato(v) => tick_vibrato(v, mem, record),
-            Unit::Chorus(c) => tick_chorus(c, mem, record),
-            Unit::Flanger(f) => tick_flanger(f, mem, record),
-            Unit::Delay(d) => tick_delay(d, mem, record),
-            Unit::Reverb(r) => reverbs::tick_or_look(r, mem, record),
+            Unit::Tremolo => tick_tremolo(stored),
+            Unit::Vibrato(v) => tick_vibrato(v, mem, stored),
+            Unit::Chorus(c) => tick_chorus(c, mem, stored),
+            Unit::Flanger(f) => tick_flanger(f, mem, stored),
+            Unit::Delay(d) => tick_delay(d, mem, stored),
+            Unit::Reverb(r) => reverbs::tick_or_look(r, mem, stored),
         }
     }
 
-    fn retune(&mut self, mem: &mut [f64], record: &Record) -> bool {
+    fn retune(&mut self, mem: &mut [f64], stored: &Record) -> bool {
         match self {
             Unit::Tremolo => false,
-            Unit::Vibrato(v) => clear_vibrato(v, v.set_sample_rate(record.float(4), mem)),
-            Unit::Chorus(c) => clear_chorus(c, c.set_sample_rate(record.float(4), mem)),
-            Unit::Flanger(f) => clear_flanger(f, f.set_sample_rate(record.float(5), mem)),
+            Unit::Vibrato(v) => clear_vibrato(v, v.set_sample_rate(stored.float(4), mem)),
+            Unit::Chorus(c) => clear_chorus(c, c.set_sample_rate(stored.float(4), mem)),
+            Unit::Flanger(f) => clear_flanger(f, f.set_sample_rate(stored.float(5), mem)),
             Unit::Delay(d) => {
-                clear_delay(d, d.set_sample_rate(record.float(5), record.float(6), mem))
+                clear_delay(d, d.set_sample_rate(stored.float(5), stored.float(6), mem))
             }
-            Unit::Reverb(r) => reverbs::clear(r, r.set_sample_rate(record.float(6), mem)),
+            Unit::Reverb(r) => reverbs::clear(r, r.set_sample_rate(stored.float(6), mem)),
         }
     }
 
@@ -276,23 +287,25 @@ impl Unit {
     }
 
     // Whether the unit is what a record says of it after the call.
-    fn is_stored(&self, record: &Record) -> bool {
+    fn is_stored(&self, stored: &Record) -> bool
+        ensures { IsTrue result ↔ IsStored self.now stored.now.bytes }
+    {
         match self {
             Unit::Tremolo => true,
-            Unit::Vibrato(v) => v.write_pos == record.word(8) && record.holds(9, v.lfo_phase),
+            Unit::Vibrato(v) => v.write_pos == stored.word(8) && stored.holds(9, v.lfo_phase),
             Unit::Chorus(c) => {
-                c.write_pos == record.word(12)
-                    && record.holds(13, c.lfo_phase0)
-                    && record.holds(14, c.lfo_phase1)
-                    && record.holds(15, c.lfo_phase2)
+                c.write_pos == stored.word(12)
+                    && stored.holds(13, c.lfo_phase0)
+                    && stored.holds(14, c.lfo_phase1)
+                    && stored.holds(15, c.lfo_phase2)
             }
-            Unit::Flanger(f) => f.write_pos == record.word(12) && record.holds(13, f.lfo_phase),
+            Unit::Flanger(f) => f.write_pos == stored.word(12) && stored.holds(13, f.lfo_phase),
             Unit::Delay(d) => {
-                d.write_pos == record.word(8)
-                    && record.holds(9, d.smoothed_delay)
-                    && d.delay_primed == (record.word(10) == 1)
+                d.write_pos == stored.word(8)
+                    && stored.holds(9, d.smoothed_delay)
+                    && d.delay_primed == (stored.word(10) == 1)
             }
-            Unit::Reverb(r) => reverbs::is_stored(r, record),
+            Unit::Reverb(r) => reverbs::is_stored(r, stored),
         }
     }
 }
