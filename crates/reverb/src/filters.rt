@@ -10,7 +10,7 @@ ghost use Rattle.reverb.specs.Reverb.{delay_samples};
 use crate::Reverb;
 
 // What a step of a comb answers, with its next store and position.
-#[derive(Drop)]
+#[derive(Clone, Copy)]
 pub struct Combed {
     pub output: f64,
     pub filter_state: f64,
@@ -18,7 +18,7 @@ pub struct Combed {
 }
 
 // What a step of an all-pass answers, with its next position.
-#[derive(Drop)]
+#[derive(Clone, Copy)]
 pub struct Passed {
     pub output: f64,
     pub pos: u64,

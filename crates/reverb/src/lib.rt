@@ -1,5 +1,7 @@
 // The reverb: a predelay, and on each side eight combs in parallel and four all-passes in series, in one lent tank. The state goes in and out
 // by value, but for `tick_in_place` of tick.rt.
+#![tactic(auto)]
+
 ghost use Rattle.std.specs.Prelude.{◌≡◌, if◌then◌else◌};
 ghost use Rattle.float64.specs.Number.{rate_fits};
 ghost use Rattle.port.specs.Answer.{number_of, outcome_reply, silence_reply};
@@ -19,7 +21,7 @@ use crate::tunings::Lengths;
 use port::{Answer, Outcome, Silence};
 
 // Positions and damping stores, a side at a time, and the rate.
-#[derive(Drop)]
+#[derive(Clone, Copy)]
 pub struct Reverb {
     pub comb_pos_l: [u64; 8],
     pub comb_pos_r: [u64; 8],
@@ -32,14 +34,14 @@ pub struct Reverb {
 }
 
 // What start, retune and reset return.
-#[derive(Drop)]
+#[derive(Clone, Copy)]
 pub struct Cleared {
     pub state: Reverb,
     pub outcome: Outcome,
 }
 
 // What a tick returns.
-#[derive(Drop)]
+#[derive(Clone, Copy)]
 pub struct Ticked {
     pub state: Reverb,
     pub answer: Answer,

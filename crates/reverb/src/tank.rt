@@ -9,7 +9,7 @@ use crate::filters::{allpass_at, comb_at};
 use crate::tunings::Lengths;
 
 // A sample of each side.
-#[derive(Drop)]
+#[derive(Clone, Copy)]
 pub struct Sides {
     pub left: f64,
     pub right: f64,

@@ -16,7 +16,7 @@ use crate::{Reverb, Ticked};
 use port::{Answer, Outcome, Port, Refusal};
 
 // The numbers that a tick takes from its ports.
-#[derive(Drop)]
+#[derive(Clone, Copy)]
 pub struct Controls {
     pub audio: f64,
     pub size: f64,

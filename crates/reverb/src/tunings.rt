@@ -10,7 +10,7 @@ use crate::Reverb;
 const LONGEST: u16 = Reverb::MAX_ALLPASS_LENGTH;
 
 // Sixteen bits hold every length, and make the 24 of them three moves.
-#[derive(Drop)]
+#[derive(Clone, Copy)]
 pub struct Lengths {
     pub comb_l: [u16; 8],
     pub comb_r: [u16; 8],
