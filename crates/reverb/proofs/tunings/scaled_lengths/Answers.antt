@@ -1,0 +1,47 @@
+-- `tunings::scaled_lengths` is `lengths_at` at an accepted rate, and all 0 at another. Assumes nothing.
+use Rattle.std.proofs.Common.{◌≡◌, ℕ, ◌≤◌, true, min, List, map, sym, refl, ap, ◌∙◌, arith}
+use lib.Ieee.{Float, of_bits, of_int}
+use Rattle.float64.specs.Number.{rate_fits}
+use Rattle.reverb.specs.Tunings.{comb_most, allpass_most, comb_tunings, allpass_tunings, ratio, scaled, spread, beside, tuned}
+use Rattle.reverb.proofs.Scaling.{ratio-fits, beside-capped}
+use Rattle.reverb.proofs.tunings.scaled_lengths.Goals as goal
+
+pub scale-requires-clause-tunings_value : goal.scale-requires-clause-tunings_value
+unfolding tuned
+scale-requires-clause-tunings_value c = refl
+
+pub scale-requires-clause-float_of_value : goal.scale-requires-clause-float_of_value
+unfolding ratio of_bits of_int
+scale-requires-clause-float_of_value c = ratio-fits c.args.rate (sym c.rate_fits.ensures ∙ c.if-not-rate_fits.false)
+
+pub scale-requires-2-clause-tunings_value : goal.scale-requires-2-clause-tunings_value
+unfolding tuned
+scale-requires-2-clause-tunings_value c = refl
+
+pub scale-requires-2-clause-float_of_value : goal.scale-requires-2-clause-float_of_value
+unfolding ratio of_bits of_int
+scale-requires-2-clause-float_of_value c = ratio-fits c.args.rate (sym c.rate_fits.ensures ∙ c.if-not-rate_fits.false)
+
+-- the right lengths, which the code works out by the spread held to the longest comb
+right-are : (most wide : ℕ) (r : Float) (tunings lengths : List ℕ) → most ≤ comb_most → wide ≡ min (spread r) comb_most
+    → lengths ≡ map (λ base. beside most wide (scaled most r base)) tunings
+    → lengths ≡ map (λ base. beside most (spread r) (scaled most r base)) tunings
+right-are most wide r tunings lengths h w e =
+    e
+    ∙ ap (λ (v : ℕ). map (λ base. beside most v (scaled most r base)) tunings) w
+    ∙ (λ j. map (λ base. beside-capped most (spread r) (scaled most r base) h j) tunings)
+
+pub returns : goal.returns
+unfolding ratio of_bits of_int
+returns c =
+    let rate = c.args.rate in
+    let r = ratio rate in
+    let wide = c.stereo_spread-wide.ensures in
+    let fits : rate_fits rate ≡ true = sym c.rate_fits.ensures ∙ c.if-not-rate_fits.false in
+    rw fits (λ i.
+    record {
+      comb_l = c.scale.ensures.left_after i;
+      comb_r = right-are comb_most _ r comb_tunings _ (omega arith) wide c.scale.ensures.right_after i;
+      allpass_l = c.scale-2.ensures.left_after i;
+      allpass_r = right-are allpass_most _ r allpass_tunings _ (omega arith) wide c.scale-2.ensures.right_after i;
+    })
