@@ -3,7 +3,7 @@
 use Rattle.std.proofs.Common.{◌≡◌, ℕ, zero, suc, ◌+◌, ◌<◌, ◌≤◌, ◌≢◌, List, [], ◌∷◌, length, get_or, set, sym, refl, ap, ◌∙◌, add-one, arith, get_or-set_other}
 use lib.Ieee.{Float, nan, binary64, add}
 use Rattle.common.specs.Line.{next_place}
-use Rattle.common.proofs.Tables.{get_d-table}
+use Rattle.common.proofs.Tables.{get_d-table, tabled, tabled-next}
 use Rattle.effect.specs.Effect.{Write, laid}
 use Rattle.effect.proofs.Memory.{laid-append}
 use Rattle.reverb.specs.declared.filters.Combed.{Combed}
@@ -17,6 +17,10 @@ use Rattle.reverb.proofs.Lists.{below_at, below-long}
 pub by-sides : {A : Type 0} (f : Side → A) {l r : A} → l ≡ f left → r ≡ f right → (side : Side) → sided l r side ≡ f side
 by-sides f e g left = e
 by-sides f e g right = g
+
+-- an entry that no turn stored yet
+pub unmoved : {A : Type 0} (f : ℕ → A) (before : List A) (i : ℕ) (z : A) {now : List A} → now ≡ tabled f i before → i < length before → get_or now i z ≡ get_or before i z
+unmoved {A} f before i z e h = ap (λ (d : List A). get_or d i z) e ∙ tabled-next f i before z h
 
 -- ---- writes on both sides
 
@@ -64,15 +68,6 @@ module _ {count most : ℕ} {l : SidedLines} (f : InLines count most l) where
   lines_long side = below-long (l.positions side) (l.lengths side) (f.inside side) ∙ f.counted side
 
 module _ {l : SidedLines} (f : InLines 8 comb_most l) where
-  -- what a step of comb i of a side at the position w asks, in a memory of k places
-  pub comb-asks : {w : ℕ} (side : Side) (i k : ℕ) → w ≡ get_or (l.positions side) i 0 → i < 8 → tank_size ≤ k
-      → (w < get_or (l.lengths side) i 0) × ((get_or (l.lengths side) i 0 ≤ comb_size) × (comb_start side i + comb_size ≤ k))
-  comb-asks {w} side i k at h room = let b = line-below f side i h in (omega (arith, at, b.0), (omega (arith, b.1), go side))
-    where
-      go : (v : Side) → comb_start v i + comb_size ≤ k
-      go left = omega arith
-      go right = omega arith
-
   -- the combs' places lie below the all-passes'
   pub comb-place : (side : Side) (i : ℕ) → i < 8 → place_of comb_start l side i < allpass_start left 0
   comb-place left i h = omega (arith, line-below f left i h)
@@ -89,14 +84,6 @@ module _ {l : SidedLines} (f : InLines 8 comb_most l) where
   comb-across i h = omega (arith, line-below f left i h)
 
 module _ {l : SidedLines} (f : InLines 4 allpass_most l) where
-  pub allpass-asks : {w : ℕ} (side : Side) (i k : ℕ) → w ≡ get_or (l.positions side) i 0 → i < 4 → tank_size ≤ k
-      → (w < get_or (l.lengths side) i 0) × ((get_or (l.lengths side) i 0 ≤ allpass_size) × (allpass_start side i + allpass_size ≤ k))
-  allpass-asks {w} side i k at h room = let b = line-below f side i h in (omega (arith, at, b.0), (omega (arith, b.1), go side))
-    where
-      go : (v : Side) → allpass_start v i + allpass_size ≤ k
-      go left = omega arith
-      go right = omega arith
-
   -- the all-passes' places lie between the combs' and the predelay's
   pub allpass-place : (side : Side) (i : ℕ) → i < 4 → (allpass_start left 0 ≤ place_of allpass_start l side i) × (place_of allpass_start l side i < predelay_start)
   allpass-place left i h = (omega arith, omega (arith, line-below f left i h))
