@@ -1,4 +1,4 @@
-// The tank: eight left combs, eight right, four left all-passes, four right, and the predelay, in one lent_at memory; a step of its lines, and their tests.
+// The tank: eight left combs, eight right, four left all-passes, four right, and the predelay, in one lent memory; a step of its lines, and their tests.
 ghost use Rattle.std.specs.Prelude.{◌≡◌, ◌+◌, ◌*◌, ◌<◌, ◌≤◌};
 ghost use Rattle.std.proofs.Math.ListN as ListN;
 ghost use Rattle.reverb.specs.Tunings.{comb_most, allpass_most, Capped, Roomy, sided};
@@ -154,6 +154,7 @@ fn lines_zero(mem: &[f64], o: usize, apart: usize, lengths: &[u16]) -> bool
 }
 
 // Whether every place in use is +0 or -0.
+#[tactic(auto, unfolding(crate::specs::Tank::silence))]
 pub fn all_silent(n: Lengths, mem: &[f64]) -> bool
     requires roomy { Roomy n }
     requires tank_size_bound { tank_size ≤ ListN.length mem.now }

@@ -45,6 +45,7 @@ fn stereo_spread(ratio: f64) -> u32
 }
 
 // A left length plus the spread, at most `most`.
+#[tactic(auto, unfolding(crate::specs::Tunings::beside))]
 fn beside(n: u32, wide: u32, most: u32) -> u32
     requires n_le_comb_most { n ≤ comb_most }
     requires wide_le_comb_most { wide ≤ comb_most }
