@@ -9,8 +9,8 @@ use Rattle.effect.proofs.Memory.{laid-append}
 use Rattle.reverb.specs.declared.filters.Combed.{Combed}
 use Rattle.reverb.specs.declared.filters.Passed.{Passed}
 use Rattle.reverb.specs.Freeverb.{comb_store, comb_fed, combed, comb_line, pass_output, pass_fed, passed, pass_line}
-use Rattle.reverb.specs.Tunings.{Side, left, right, sided, comb_size, comb_most, allpass_size, allpass_most}
-use Rattle.reverb.specs.Tank.{SidedLines, InLines, comb_start, allpass_start, predelay_start, tank_size, place_of, held, next_position, by_sides, combs_held, sum_of, comb_stored, comb_write, allpasses_held, passed_on, allpass_write}
+use Rattle.reverb.specs.Tunings.{Side, left, right, sided, comb_most, allpass_most}
+use Rattle.reverb.specs.Tank.{SidedLines, InLines, comb_start, allpass_start, predelay_start, place_of, held, next_position, by_sides, combs_held, sum_of, comb_stored, comb_write, allpasses_held, passed_on, allpass_write}
 use Rattle.reverb.proofs.Lists.{below_at, below-long}
 
 -- what is equal on the left and on the right

@@ -1,9 +1,8 @@
 -- `filters::predelay_samples` is `delay_samples`, from 1 on and below. Assumes nothing.
-use Rattle.std.proofs.Common.{◌≡◌, true, false, T, sym, ap, ◌∙◌, subst}
+use Rattle.std.proofs.Common.{T, sym, ap, ◌∙◌, subst}
 use lib.Ieee.{Float, binary64, mul, fits, le, of_bits, of_int, round}
 use lib.Ieee.Fits.{mul-fits}
-use Rattle.float64.specs.Number.{float_of, fraction, at_most, Small, whole_part}
-use Rattle.reverb.specs.Tunings.{predelay_size}
+use Rattle.float64.specs.Number.{float_of, fraction, Small}
 use Rattle.reverb.specs.Reverb.{delay_samples}
 use Rattle.reverb.proofs.Predelay.{held_small, held_none}
 use Rattle.reverb.proofs.filters.predelay_samples.Goals as goal

@@ -1,5 +1,5 @@
 -- `tank::all_below` is `all_below`, one entry after the other. Assumes nothing.
-use Rattle.std.proofs.Common.{◌≡◌, ◌+◌, Bool, ◌&&◌, ltb, get_or, drop, sym, ap, ◌∙◌, arith, drop_of_length-le}
+use Rattle.std.proofs.Common.{◌+◌, Bool, ◌&&◌, ltb, get_or, drop, sym, ap, ◌∙◌, arith, drop_of_length-le}
 use Rattle.reverb.specs.Tank.{all_below}
 use Rattle.reverb.proofs.Lists.{and_assoc, and-true, below_more}
 use Rattle.reverb.proofs.tank.all_below.Goals as goal

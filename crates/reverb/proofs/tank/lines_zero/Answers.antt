@@ -1,5 +1,5 @@
 -- `tank::lines_zero` is `lines_zero`, one line after the other. Assumes nothing.
-use Rattle.std.proofs.Common.{◌≡◌, ℕ, ◌+◌, ◌-◌, ◌*◌, ◌<◌, ◌≤◌, Bool, ◌&&◌, List, length, get_or, take, drop, sym, ap, ◌∙◌, arith, drop_of_length-le}
+use Rattle.std.proofs.Common.{◌≡◌, ℕ, ◌+◌, ◌-◌, ◌<◌, Bool, ◌&&◌, List, length, get_or, take, drop, sym, ap, ◌∙◌, arith, drop_of_length-le}
 use lib.Ieee.{Float}
 use Rattle.common.specs.Line.{all_zero}
 use Rattle.reverb.specs.Tank.{lines_zero}

@@ -1,13 +1,12 @@
 -- `tick::advance`: the predelay writes and reads, then the combs step, then the all-passes. Assumes nothing.
-use Rattle.std.proofs.Common.{◌≡◌, ◌+◌, set, sym, refl, ap, ◌∙◌, subst}
+use Rattle.std.proofs.Common.{◌+◌, set, refl, ap, ◌∙◌}
 use lib.Ieee.{Float, binary64, add, mul, le, of_bits, of_int, round}
 use lib.Ieee as Ieee
 use Rattle.float64.specs.Number.{fraction}
 use Rattle.float64.proofs.Clamped.{clamp-in}
 use Rattle.common.specs.Signal.{blended}
-use Rattle.reverb.specs.declared.tunings.Lengths.{Lengths}
-use Rattle.reverb.specs.Tunings.{Side, sided, comb_most, allpass_most}
-use Rattle.reverb.specs.Tank.{InLines, comb_lines, allpass_lines, predelay_start, delayed}
+use Rattle.reverb.specs.Tunings.{Side, sided}
+use Rattle.reverb.specs.Tank.{predelay_start, delayed}
 use Rattle.reverb.specs.Reverb.{delay_samples}
 use Rattle.reverb.proofs.Laws.{fits-parts}
 use Rattle.reverb.proofs.Predelay.{delay-less}

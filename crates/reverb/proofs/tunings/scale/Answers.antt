@@ -1,5 +1,5 @@
 -- `tunings::scale` works out the left and right lengths of the lines with these tunings, one after the other. Assumes nothing.
-use Rattle.std.proofs.Common.{◌≡◌, ℕ, length, refl, ap, ◌∙◌, arith}
+use Rattle.std.proofs.Common.{◌≡◌, ℕ, length, ap, ◌∙◌, arith}
 use Rattle.common.proofs.Tables.{tabled-none, tabled-more, tabled-all, table-map}
 use Rattle.reverb.specs.Tunings.{scaled, beside}
 use Rattle.reverb.proofs.Scaling.{tuned-at}
