@@ -70,6 +70,3 @@ pub room-more : (n i o apart size : ℕ) → i < n → o + (n - i) * apart ≤ s
 room-more n i o apart size h k =
     let e : n - i ≡ suc (n - (i + 1)) = omega arith in
     omega (arith, suc-mul (n - (i + 1)) apart, rw e at k)
-
-pub room-all : (n o apart size : ℕ) → o + n * apart ≤ size → o + (n - 0) * apart ≤ size
-room-all n o apart size k = let e : n - 0 ≡ n = omega arith in rw e k

@@ -1,7 +1,6 @@
 -- The lengths of the reverb's lines at every accepted rate: each tuning, scaled, is from 1 to its cap. Assumes nothing.
 use Rattle.std.proofs.Common.{◌≡◌, ℕ, zero, suc, ◌<◌, ◌≤◌, min, true, ◌&&◌, leb, List, [], ◌∷◌, map, length, get_or, replicate, sym, refl, subst, le_of_suc-le-suc, not-suc-le-zero, arith, lt-ltb, leb-true}
 use native.Mathlib.Nat.{min-le_right}
-use lib.ListN.{length-map}
 use lib.Ieee.{Float, binary64, mul, div, le, lt, of_int, round, to_unsigned}
 use lib.Ieee as Ieee
 use Rattle.float64.specs.Number.{float_of, fraction, in_range, rate_fits, whole_part, Small}
@@ -71,11 +70,6 @@ unfolding scaled beside
 lines-most most tunings left rate i = mapped-most (scaled most (ratio rate)) most tunings i (λ b. min-le_right _ _)
 lines-most most tunings right rate i =
     mapped-most (λ base. beside most (spread (ratio rate)) (scaled most (ratio rate) base)) most tunings i (λ b. min-le_right _ _)
-
--- as many as tunings
-pub length-lines : (most : ℕ) (tunings : List ℕ) (side : Side) (rate : Float) → length (line_lengths most tunings side rate) ≡ length tunings
-length-lines most tunings left rate = length-map tunings _
-length-lines most tunings right rate = length-map tunings _
 
 -- each has a place at least, at an accepted rate
 zeros-below : (f : ℕ → ℕ) (l : List ℕ) → ((i : ℕ) → i < length l → 1 ≤ f (get_or l i 0)) → all_below (replicate (length l) 0) (map f l) ≡ true
