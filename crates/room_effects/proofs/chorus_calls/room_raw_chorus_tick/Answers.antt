@@ -17,8 +17,8 @@ returns c =
     let unit = device_of (chorus_of a.write_pos.now a.lfo_phases.now a.sample_rate) a.memory.now in
     let left = c.put_chorus.new in
     let does : Does chorus (tick t) unit.state unit.memory c.tick-ticked.result.state c.tick-ticked.new.mem (answer_reply c.tick-ticked.result.answer) =
-        of-state chorus (tick t) c.chorus_of-state.ensures
-        (of-tick chorus c.chorus_of-state.result {t₀ = t} (λ i. tick_of (c.port_at.ensures i) (c.port_at-2.ensures i) (c.port_at-3.ensures i) a.frequency a.sine0 a.sine1 a.sine2) c.tick-ticked.ensures) in
+    of-state chorus (tick t) c.chorus_of-state.ensures
+    (of-tick chorus c.chorus_of-state.result {t₀ = t} (λ i. tick_of (c.port_at.ensures i) (c.port_at-2.ensures i) (c.port_at-3.ensures i) a.frequency a.sine0 a.sine1 a.sine2) c.tick-ticked.ensures) in
     played chorus 3 does
     (stored chorus (tick t) unit does (sym c.if-number-ne0.false ∙ c.number-number.ensures)
     (ap (chorus_of left.write_pos left.lfo_phases) (tick-settings chorus laws does) ∙ c.put_chorus.ensures))

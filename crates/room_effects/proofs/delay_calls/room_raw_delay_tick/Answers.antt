@@ -15,14 +15,14 @@ returns c =
     let a = c.args in
     let t = tick_of (port_at a.set 1 a.audio) (port_at a.set 2 a.time) (port_at a.set 4 a.feedback) (port_at a.set 8 a.mix) a.milliseconds in
     let unit =
-        device_of
-        (delay_of a.write_pos.now a.smoothed_delay.now (is_on a.delay_primed.now) a.sample_rate a.delay_smooth_coef a.max_delay_secs (is_on a.linear_time))
-        a.memory.now in
+    device_of
+    (delay_of a.write_pos.now a.smoothed_delay.now (is_on a.delay_primed.now) a.sample_rate a.delay_smooth_coef a.max_delay_secs (is_on a.linear_time))
+    a.memory.now in
     let next = c.tick-ticked.result.state in
     let does : Does delay_line (tick t) unit.state unit.memory next c.tick-ticked.new.mem (answer_reply c.tick-ticked.result.answer) =
-        of-tick delay_line unit.state {t₀ = t}
-        (λ i. tick_of (c.port_at.ensures i) (c.port_at-2.ensures i) (c.port_at-3.ensures i) (c.port_at-4.ensures i) a.milliseconds)
-        (of-state delay_line (tick _) c.delay_of-state.ensures c.tick-ticked.ensures) in
+    of-tick delay_line unit.state {t₀ = t}
+    (λ i. tick_of (c.port_at.ensures i) (c.port_at-2.ensures i) (c.port_at-3.ensures i) (c.port_at-4.ensures i) a.milliseconds)
+    (of-state delay_line (tick _) c.delay_of-state.ensures c.tick-ticked.ensures) in
     let primed = on-flag next.delay_primed c.flag.ensures in
     let settings = tick-settings delay_line laws does in (
       played delay_line 1 does

@@ -16,7 +16,7 @@ returns c =
     let unit = device_of (state_of a.write_pos.now a.lfo_phase.now a.sample_rate) a.memory.now in
     let next = c.tick-ticked.result.state in
     let does : Does flanger (tick t) unit.state unit.memory next c.tick-ticked.new.mem (answer_reply c.tick-ticked.result.answer) =
-        of-tick flanger unit.state {t₀ = t} (λ i. tick_of (c.port_at.ensures i) (c.port_at-2.ensures i) (c.port_at-3.ensures i) (c.port_at-4.ensures i) a.frequency a.sine0 a.sine1) c.tick-ticked.ensures in
+    of-tick flanger unit.state {t₀ = t} (λ i. tick_of (c.port_at.ensures i) (c.port_at-2.ensures i) (c.port_at-3.ensures i) (c.port_at-4.ensures i) a.frequency a.sine0 a.sine1) c.tick-ticked.ensures in
     played flanger 3 does
     (stored flanger (tick t) unit does (sym c.if-number-ne0.false ∙ c.number-number.ensures) (ap (state_of next.write_pos next.lfo_phase) (tick-settings flanger laws does)))
     c.put_samples.ensures

@@ -16,7 +16,7 @@ returns c =
     let unit = device_of (state_of a.lfo_phase.now a.sample_rate) [] in
     let next = c.tick-ticked.result.state in
     let does : Does tremolo (tick t) unit.state [] next [] (answer_reply c.tick-ticked.result.answer) =
-        of-tick tremolo unit.state {t₀ = t} (λ i. tick_of (c.port_at.ensures i) (c.port_at-2.ensures i) (c.port_at-3.ensures i) a.frequency a.sine) c.tick-ticked.ensures in
+    of-tick tremolo unit.state {t₀ = t} (λ i. tick_of (c.port_at.ensures i) (c.port_at-2.ensures i) (c.port_at-3.ensures i) a.frequency a.sine) c.tick-ticked.ensures in
     played tremolo 1 does
     (stored tremolo (tick t) unit does (sym c.if-number-ne0.false ∙ c.number-number.ensures) (ap (state_of next.lfo_phase) (tick-settings tremolo laws does)))
     (λ i. c.first.ensures i ∷ [])
