@@ -1,4 +1,6 @@
 // Single leaves as C functions, for the comparison with the Rust on numbers that no effect hands to them. No part of what a controller links.
+#![tactic(auto)]
+
 ghost use Rattle.std.specs.Prelude.{◌≡◌};
 ghost use Rattle.float64.specs.Number.{whole_part};
 
