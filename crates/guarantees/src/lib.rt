@@ -1,2 +1,46 @@
-// What the unit guarantees, over the effects: statements in specs/, each in a file of its own, and proofs that cite what the effects show. No code.
+// What the unit guarantees, over the effects: statements in specs/, each in a file of its own. A function for each says in its contract that the statement
+// holds, so that the check proves it as it proves a call; it does nothing when it is called.
 #![tactic(auto)]
+
+ghost use Rattle.guarantees.specs.CleanMemory.{CleanMemory};
+ghost use Rattle.guarantees.specs.RecentPasts.{RecentPasts};
+ghost use Rattle.guarantees.specs.PlacesNeeded.{PlacesNeeded};
+ghost use Rattle.guarantees.specs.Starred.{Starred};
+ghost use Rattle.guarantees.specs.WholePart.{WholePart};
+ghost use Rattle.guarantees.specs.OneLine.{OneLine};
+
+// Lent memory holds only what accepted calls put there, over whole runs of each effect.
+pub fn clean_memory()
+    ensures { CleanMemory }
+{
+}
+
+// Lines of chorus and vibrato are their recent pasts.
+pub fn recent_pasts()
+    ensures { RecentPasts }
+{
+}
+
+// What the controller is told of places is what a start asks for.
+pub fn places_needed()
+    ensures { PlacesNeeded }
+{
+}
+
+// The bench's starred cases, all of them.
+pub fn starred()
+    ensures { Starred }
+{
+}
+
+// The whole part by the cases of the exponent field.
+pub fn whole_part()
+    ensures { WholePart }
+{
+}
+
+// A chorus with one line and one with three correspond over whole runs.
+pub fn one_line()
+    ensures { OneLine }
+{
+}
