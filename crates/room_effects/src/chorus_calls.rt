@@ -9,6 +9,7 @@ ghost use Rattle.std.specs.Prelude.{◌≡◌};
 
 use crate::shared::{port_at, put_samples};
 use chorus::Chorus;
+use port::Outcome;
 
 // A chorus's state from lent numbers, and back into them.
 fn chorus_of(write_pos: u64, lfo_phases: &[f64; 3], sample_rate: f64) -> Chorus
@@ -64,10 +65,8 @@ pub extern "C" fn room_raw_chorus_retune(
 {
     let state = chorus_of(*write_pos, lfo_phases, *sample_rate);
     let cleared = state.set_sample_rate(new_sample_rate, memory);
-    let outcome = cleared.outcome;
-    let number = outcome.number();
-    if number != 0 {
-        return number;
+    if let Outcome::Refused(cause) = cleared.outcome {
+        return cause.number();
     }
     let next = cleared.state;
     put_chorus(next, write_pos, lfo_phases);
@@ -87,10 +86,8 @@ pub extern "C" fn room_raw_chorus_reset(
 {
     let state = chorus_of(*write_pos, lfo_phases, sample_rate);
     let cleared = state.reset(memory);
-    let outcome = cleared.outcome;
-    let number = outcome.number();
-    if number != 0 {
-        return number;
+    if let Outcome::Refused(cause) = cleared.outcome {
+        return cause.number();
     }
     put_chorus(cleared.state, write_pos, lfo_phases);
     0

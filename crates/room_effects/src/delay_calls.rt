@@ -9,6 +9,7 @@ ghost use Rattle.room_effects.specs.Ports.{port_at};
 
 use crate::shared::port_at;
 use delay_line::DelayLine;
+use port::Outcome;
 
 fn flag(on: bool) -> u32
     ensures { result ≡ cond on 1 0 }
@@ -108,10 +109,8 @@ pub extern "C" fn room_raw_delay_retune(
         linear_time,
     );
     let cleared = state.set_sample_rate(new_sample_rate, new_delay_smooth_coef, memory);
-    let outcome = cleared.outcome;
-    let number = outcome.number();
-    if number != 0 {
-        return number;
+    if let Outcome::Refused(cause) = cleared.outcome {
+        return cause.number();
     }
     *write_pos = cleared.state.write_pos;
     *smoothed_delay = cleared.state.smoothed_delay;
@@ -147,10 +146,8 @@ pub extern "C" fn room_raw_delay_reset(
         linear_time,
     );
     let cleared = state.reset(memory);
-    let outcome = cleared.outcome;
-    let number = outcome.number();
-    if number != 0 {
-        return number;
+    if let Outcome::Refused(cause) = cleared.outcome {
+        return cause.number();
     }
     *write_pos = cleared.state.write_pos;
     *smoothed_delay = cleared.state.smoothed_delay;

@@ -7,6 +7,7 @@ ghost use Rattle.room_effects.specs.Ports.{port_at};
 
 use crate::shared::{port_at, put_samples};
 use flanger::Flanger;
+use port::Outcome;
 
 // Start of a flanger. A refused one writes the state of zeros too, and leaves the memory as it was.
 #[unsafe(no_mangle)]
@@ -46,10 +47,8 @@ pub extern "C" fn room_raw_flanger_retune(
         sample_rate: *sample_rate,
     };
     let cleared = state.set_sample_rate(new_sample_rate, memory);
-    let outcome = cleared.outcome;
-    let number = outcome.number();
-    if number != 0 {
-        return number;
+    if let Outcome::Refused(cause) = cleared.outcome {
+        return cause.number();
     }
     *write_pos = cleared.state.write_pos;
     *lfo_phase = cleared.state.lfo_phase;
@@ -73,10 +72,8 @@ pub extern "C" fn room_raw_flanger_reset(
         sample_rate,
     };
     let cleared = state.reset(memory);
-    let outcome = cleared.outcome;
-    let number = outcome.number();
-    if number != 0 {
-        return number;
+    if let Outcome::Refused(cause) = cleared.outcome {
+        return cause.number();
     }
     *write_pos = cleared.state.write_pos;
     *lfo_phase = cleared.state.lfo_phase;

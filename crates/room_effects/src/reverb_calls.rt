@@ -7,6 +7,7 @@ ghost use Rattle.room_effects.specs.Lent.{StartReturns, CallReturns, TickReturns
 ghost use Rattle.room_effects.specs.Ports.{port_at};
 
 use crate::shared::port_at;
+use port::Outcome;
 use reverb::Reverb;
 
 // A reverb's state into lent arrays; the rate is written, or kept, beside.
@@ -103,10 +104,8 @@ pub extern "C" fn room_raw_reverb_retune(
         sample_rate: *sample_rate,
     };
     let cleared = state.set_sample_rate(new_sample_rate, memory);
-    let outcome = cleared.outcome;
-    let number = outcome.number();
-    if number != 0 {
-        return number;
+    if let Outcome::Refused(cause) = cleared.outcome {
+        return cause.number();
     }
     put_reverb(
         cleared.state,
@@ -150,10 +149,8 @@ pub extern "C" fn room_raw_reverb_reset(
         sample_rate,
     };
     let cleared = state.reset(memory);
-    let outcome = cleared.outcome;
-    let number = outcome.number();
-    if number != 0 {
-        return number;
+    if let Outcome::Refused(cause) = cleared.outcome {
+        return cause.number();
     }
     put_reverb(
         cleared.state,

@@ -7,6 +7,7 @@ ghost use Rattle.room_effects.specs.Ports.{port_at};
 ghost use Rattle.std.specs.Prelude.{[], ◌∷◌};
 
 use crate::shared::port_at;
+use port::Outcome;
 use tremolo::Tremolo;
 
 // Start of a tremolo. A refused one writes the state of zeros too.
@@ -36,10 +37,8 @@ pub extern "C" fn room_raw_tremolo_reset(lfo_phase: &mut f64, sample_rate: f64) 
         sample_rate,
     };
     let cleared = state.reset();
-    let outcome = cleared.outcome;
-    let number = outcome.number();
-    if number != 0 {
-        return number;
+    if let Outcome::Refused(cause) = cleared.outcome {
+        return cause.number();
     }
     *lfo_phase = cleared.state.lfo_phase;
     0

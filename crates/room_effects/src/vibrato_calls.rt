@@ -7,6 +7,7 @@ ghost use Rattle.room_effects.specs.Ports.{port_at};
 ghost use Rattle.std.specs.Prelude.{[], ◌∷◌};
 
 use crate::shared::port_at;
+use port::Outcome;
 use vibrato::Vibrato;
 
 // Start of a vibrato. A refused one writes the state of zeros too, and leaves the memory as it was.
@@ -47,10 +48,8 @@ pub extern "C" fn room_raw_vibrato_retune(
         sample_rate: *sample_rate,
     };
     let cleared = state.set_sample_rate(new_sample_rate, memory);
-    let outcome = cleared.outcome;
-    let number = outcome.number();
-    if number != 0 {
-        return number;
+    if let Outcome::Refused(cause) = cleared.outcome {
+        return cause.number();
     }
     *write_pos = cleared.state.write_pos;
     *lfo_phase = cleared.state.lfo_phase;
@@ -74,10 +73,8 @@ pub extern "C" fn room_raw_vibrato_reset(
         sample_rate,
     };
     let cleared = state.reset(memory);
-    let outcome = cleared.outcome;
-    let number = outcome.number();
-    if number != 0 {
-        return number;
+    if let Outcome::Refused(cause) = cleared.outcome {
+        return cause.number();
     }
     *write_pos = cleared.state.write_pos;
     *lfo_phase = cleared.state.lfo_phase;
