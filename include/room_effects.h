@@ -89,8 +89,8 @@
  * synchronisation. No call waits, allocates or calls the system. One that is cut off before it returns may have written part
  * of its state and places; its unit is then started anew.
  *
- * By the frames of the compiled functions a call takes at most 360 bytes of stack (a reverb's; those of the other effects at
- * most 112), and beside that what memset takes, the one function that the archive needs from elsewhere. Where memset is bound
+ * By the frames of the compiled functions a call takes at most 376 bytes of stack (a reverb's; those of the other effects at
+ * most 96), and beside that what memset takes, the one function that the archive needs from elsewhere. Where memset is bound
  * at its first call, that takes some 3 KB more, once.
  *
  * What calls cost
