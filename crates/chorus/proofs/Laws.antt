@@ -219,13 +219,10 @@ module _ (t : Tick) {x d b : Float} (audio : x ≡ value_or t.audio plus_zero) (
   -- the same row of the table is theirs
   pub set_row : (n : ℕ) (s : Chorus) → number_in chorus (tick all_set) n s ≡ number_in chorus (tick t) n s
   unfolding tick_number is_number Ieee.fits is_nan round
-  set_row n s = λ i.
-      cond (state_fits s)
-      (first (memory_number (line_length s.sample_rate) n)
-      (cause_number
-      (nan_is t.depth half refl amount refl i || nan_is t.mix half refl wet refl i)
-      (frequency_fits t.frequency && (sine_fits t.sine0 && (sine_fits t.sine1 && sine_fits t.sine2)))))
-      4
+  set_row n s =
+      let curves = frequency_fits t.frequency && (sine_fits t.sine0 && (sine_fits t.sine1 && sine_fits t.sine2)) in
+      let same : tick_number all_set ≡ tick_number t = λ i. cause_number (nan_is t.depth half refl amount refl i || nan_is t.mix half refl wet refl i) curves in
+      ap (λ (k : ℕ). cond (state_fits s) (first (memory_number (chorus.places s.sample_rate) n) k) 4) same
 
   pub set_does : {s : Chorus} {m : List Float} {s' : Chorus} {m' : List Float} {a : Reply} → number_in chorus (tick t) (length m) s ≡ 0
       → Does chorus (tick all_set) s m s' m' a

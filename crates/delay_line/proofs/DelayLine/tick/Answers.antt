@@ -1,12 +1,12 @@
 -- `DelayLine::tick` is the tick of `delay_line`: the ports or their defaults, the delay in samples, where there is a NaN the table in its order, then causes
 -- 4 and 3, then the tick itself. Assumes nothing.
-use Rattle.std.proofs.Common.{◌≡◌, ℕ, refl, sym, ap, ◌∙◌, length, Bool, true, false, not, ◌||◌, cond}
+use Rattle.std.proofs.Common.{rules, ◌≡◌, ℕ, refl, sym, ap, ◌∙◌, length, Bool, true, false, not, ◌||◌, cond}
 use Rattle.std.proofs.lemmas.Bool.{not-false}
 use lib.Ieee.{Float, of_bits, round}
 use Rattle.float64.specs.Number.{plus_zero, half, is_number}
 use Rattle.port.specs.Port.{value_or}
 use Rattle.port.specs.Answer.{number}
-use Rattle.port.proofs.Laws.{value_set, value-unset, number-some}
+use Rattle.port.proofs.Laws.{number-some}
 use Rattle.common.proofs.Sweep.{neither}
 use Rattle.effect.specs.Run.{tick, reset, number_in}
 use Rattle.effect.proofs.Table.{accepted, tick-accepted}
@@ -16,7 +16,7 @@ use Rattle.delay_line.specs.declared.DelayLine.{DelayLine}
 use Rattle.delay_line.specs.DelayLine.{delay_line, tick_of, settings, tick_number, delay_ms}
 use Rattle.delay_line.proofs.Laws.{fits-parts, fits-size, set_tick, set-row, set-number, no_nan, tick-fits, samples-number, next-is, stored_is, played-is}
 use Rattle.delay_line.proofs.DelayLine.tick.Goals as goal
-use Rattle.delay_line.proofs.DelayLine.tick.Goals.{in-Set, in_default, in-Set-time, in_default-time, in-Set-feedback, in_default-feedback, in-Set-mix, in_default-mix, then-is_nan+in_default-met, else-is_nan}
+use Rattle.delay_line.proofs.DelayLine.tick.Goals.{then-is_nan+in_default-met, else-is_nan}
 
 pub returns-in-Refused : goal.returns-in-Refused
 unfolding of_bits round
@@ -24,12 +24,9 @@ returns-in-Refused c =
     let a = c.args in
     let n = length a.mem.now in
     let t = tick_of a.audio a.time a.feedback a.mix a.milliseconds in
-    let time : c.match-time.time ≡ value_or a.time half =
-    elim c.match-time.branch [ in-Set-time w ↦ value_set half w.in-Set-time.is w.time-is | in_default-time w ↦ value-unset half w.in_default-time.is w.time-is ] in
-    let back : c.match-feedback.feedback ≡ value_or a.feedback plus_zero =
-    elim c.match-feedback.branch [ in-Set-feedback w ↦ value_set plus_zero w.in-Set-feedback.is w.feedback-is | in_default-feedback w ↦ value-unset plus_zero w.in_default-feedback.is w.feedback-is ] in
-    let wet : c.match-mix.mix ≡ value_or a.mix half =
-    elim c.match-mix.branch [ in-Set-mix w ↦ value_set half w.in-Set-mix.is w.mix-is | in_default-mix w ↦ value-unset half w.in_default-mix.is w.mix-is ] in
+    let time : c.match-time.time ≡ value_or a.time half = search rules in
+    let back : c.match-feedback.feedback ≡ value_or a.feedback plus_zero = search rules in
+    let wet : c.match-mix.mix ≡ value_or a.mix half = search rules in
     refuses delay_line (tick t) a.self a.mem.now (number c.in-Refused.cause) (c.in-Refused.ensures ∙ set-number t a.self.linear_time time back wet n a.self refl) (number-some c.in-Refused.cause)
 
 pub returns-in-Refused-refusal : goal.returns-in-Refused-refusal
@@ -85,14 +82,10 @@ returns c =
     let m = a.mem.now in
     let n = length m in
     let t = tick_of a.audio a.time a.feedback a.mix a.milliseconds in
-    let audio : c.match-audio.audio ≡ value_or a.audio plus_zero =
-    elim c.match-audio.branch [ in-Set w ↦ value_set plus_zero w.in-Set.is w.audio-is | in_default w ↦ value-unset plus_zero w.in_default.is w.audio-is ] in
-    let time : c.match-time.time ≡ value_or a.time half =
-    elim c.match-time.branch [ in-Set-time w ↦ value_set half w.in-Set-time.is w.time-is | in_default-time w ↦ value-unset half w.in_default-time.is w.time-is ] in
-    let back : c.match-feedback.feedback ≡ value_or a.feedback plus_zero =
-    elim c.match-feedback.branch [ in-Set-feedback w ↦ value_set plus_zero w.in-Set-feedback.is w.feedback-is | in_default-feedback w ↦ value-unset plus_zero w.in_default-feedback.is w.feedback-is ] in
-    let wet : c.match-mix.mix ≡ value_or a.mix half =
-    elim c.match-mix.branch [ in-Set-mix w ↦ value_set half w.in-Set-mix.is w.mix-is | in_default-mix w ↦ value-unset half w.in_default-mix.is w.mix-is ] in
+    let audio : c.match-audio.audio ≡ value_or a.audio plus_zero = search rules in
+    let time : c.match-time.time ≡ value_or a.time half = search rules in
+    let back : c.match-feedback.feedback ≡ value_or a.feedback plus_zero = search rules in
+    let wet : c.match-mix.mix ≡ value_or a.mix half = search rules in
     let none : tick_number (set_tick c.match-time.time c.match-feedback.feedback c.match-mix.mix a.milliseconds) s.linear_time ≡ 0 =
     elim c.if-is_nan.branch [
       | then-is_nan+in_default-met w ↦ row s n c.match-time.time c.match-feedback.feedback c.match-mix.mix a.milliseconds w.in_default-met.ensures
