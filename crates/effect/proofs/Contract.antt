@@ -12,7 +12,7 @@ use Rattle.port.specs.declared.Outcome.{Outcome}
 use Rattle.port.specs.Answer.{Reply, done, silent, refused, number_of, outcome_reply}
 use Rattle.common.specs.Line.{zeros}
 use Rattle.effect.specs.Effect.{Effect}
-use Rattle.effect.specs.Run.{tick, reset, ask, CallOf, Device, if_none, memory_number, start_number, number_for, number_in, changed, says}
+use Rattle.effect.specs.Run.{tick, ask, CallOf, Device, if_none, memory_number, start_number, number_for, number_in, changed, says}
 use Rattle.effect.specs.Contract.{Does, Starts}
 use Rattle.effect.proofs.Table.{if_none-some, first_some}
 use Rattle.effect.proofs.Outcomes.{outcome-reply}
@@ -111,13 +111,6 @@ module _ (E : Effect) (n : ℕ) (s : E.State) where
       go : (b : Bool) → (b ≡ true → j ≡ number_for E c n (E.settings s)) → cond b j 4 ≡ cond b (number_for E c n (E.settings s)) 4
       go true h = h refl
       go false h = refl
-
-  -- reset and silent 3
-  pub reset-memory : {k : ℕ} → E.state_fits s ≡ true → k ≡ memory_number (E.places (E.settings s)) n → k ≡ number_in E reset n s
-  reset-memory f e = rw f e
-
-  pub ask-memory : {k : ℕ} → E.state_fits s ≡ true → k ≡ memory_number (E.places (E.settings s)) n → k ≡ number_in E ask n s
-  ask-memory f e = rw f e
 
   -- tick 3; 5 and 6
   pub tick-memory : (t : E.Tick) {k : ℕ} → E.state_fits s ≡ true → k ≡ memory_number (E.places (E.settings s)) n → k ≢ 0 → k ≡ number_in E (tick t) n s

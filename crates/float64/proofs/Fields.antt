@@ -4,7 +4,6 @@ use Rattle.std.proofs.Common.{◌≡◌, ℕ, zero, suc, ◌+◌, ◌-◌, ◌*�
 use native.Mathlib.Nat.{div-eq_of_lt, zero-min, eq_of_mul-eq-mul_right}
 use lib.Dec.{nleb→lt}
 use lib.Pow.{shl-shr}
-use lib.Bits.{bit_and, bit_or, and_mask, or_shifted_r}
 use lib.Ieee.{Float, nan, inf, fin, binary64, up, down, odd, fits, of_fields, of_bits, to_bits, lt, le, to_unsigned, of_int}
 use lib.Ieee.Bits.{is_true, of_bits-to_bits}
 use lib.Ieee.Exact.{HasValue, odd_sign}
@@ -189,9 +188,6 @@ module _ (x : Float) (f : T (fits binary64 x)) (p : T (finite x)) where
 
 significand-lt : (b : ℕ) → significand_of b < 2 ^ 53
 significand-lt b = omega (arith, mod-lt b (pow_pos 52))
-
-pub significand-is : (b : ℕ) → bit_or (bit_and b (2 ^ 52 - 1)) (2 ^ 52) ≡ significand_of b
-significand-is b = ap (λ (k : ℕ). bit_or k (2 ^ 52)) (and_mask b 52) ∙ or_shifted_r 1 52 (b % 2 ^ 52) (mod-lt b (pow_pos 52))
 
 -- of an f64 above 0, an infinity too, and its pattern: there is no sign bit, so that the pattern / 2 ^ 52 is the field
 sign-none : (x : Float) → T (fits binary64 x) → T (lt plus_zero x) → sign_bit x ≡ false

@@ -37,13 +37,6 @@ pub no_bits : (x : Float) → T (Ieee.fits binary64 x) → Ieee.to_bits binary64
 unfolding Ieee.of_bits
 no_bits x h e = sym (of_bits-to_bits binary64 x h) ∙ ap (Ieee.of_bits binary64) e
 
--- what is equal to 0 is no NaN
-pub zero_number : (x : Float) → Ieee.eq x plus_zero ≡ true → T (not (Ieee.is_nan x))
-unfolding Ieee.eq Ieee.is_nan
-zero_number nan h = clash h refl
-zero_number (inf s) h = tt
-zero_number (fin s m e) h = tt
-
 -- both tests of a conjunction that passes pass
 pub both : (a b : Bool) → a && b ≡ true → (a ≡ true) × (b ≡ true)
 both true b e = (refl, e)

@@ -1,5 +1,5 @@
 -- Ports and refusals by their cases. Assumes nothing.
-use mathlib.Core.Path.{◌≡◌, refl, sym, ap, ◌∙◌}
+use mathlib.Core.Path.{◌≡◌, refl, ap, ◌∙◌}
 use mathlib.Core.Bool.{Bool, true, not}
 use mathlib.Core.Logic.{◌≢◌}
 use native.Mathlib.Omega.{arith}
@@ -11,13 +11,6 @@ use Rattle.port.specs.Port.{value_or, is_nan_set}
 use Rattle.port.specs.declared.Refusal.{Refusal}
 use Rattle.port.specs.declared.Refusal.TheVariants.{SampleRate, GlideCoefficient, Memory, State, Control, Curve}
 use Rattle.port.specs.Answer.{number}
-
--- a port taken apart: set, its number; unset, the default
-pub value_set : {p : Port} {x y : Float} (d : Float) → p ≡ Set x → y ≡ x → y ≡ value_or p d
-value_set d e k = k ∙ sym (ap (λ (q : Port). value_or q d) e)
-
-pub value-unset : {p : Port} {y : Float} (d : Float) → p ≡ Unset → y ≡ d → y ≡ value_or p d
-value-unset d e k = k ∙ sym (ap (λ (q : Port). value_or q d) e)
 
 -- a NaN test of a port's value, where the default is a number, is the test that the port is set and NaN
 nan-value : (p : Port) (d : Float) → is_number d ≡ true → not (is_number (value_or p d)) ≡ is_nan_set p
