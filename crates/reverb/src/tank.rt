@@ -154,7 +154,6 @@ fn lines_zero(mem: &[f64], o: usize, apart: usize, lengths: &[u16]) -> bool
 }
 
 // Whether every place in use is +0 or -0.
-#[tactic(auto, unfolding(crate::specs::Tank::silence))]
 pub fn all_silent(n: Lengths, mem: &[f64]) -> bool
     requires roomy { Roomy n }
     requires tank_size_bound { tank_size ≤ ListN.length mem.now }
