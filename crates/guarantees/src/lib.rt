@@ -12,35 +12,29 @@ ghost use Rattle.guarantees.specs.OneLine.{OneLine};
 // Lent memory holds only what accepted calls put there, over whole runs of each effect.
 pub fn clean_memory()
     ensures { CleanMemory }
-{
-}
+{}
 
 // Lines of chorus and vibrato are their recent pasts.
 pub fn recent_pasts()
     ensures { RecentPasts }
-{
-}
+{}
 
 // What the controller is told of places is what a start asks for.
 pub fn places_needed()
     ensures { PlacesNeeded }
-{
-}
+{}
 
 // The bench's starred cases, all of them.
 pub fn starred()
     ensures { Starred }
-{
-}
+{}
 
 // The whole part by the cases of the exponent field.
 pub fn whole_part()
     ensures { WholePart }
-{
-}
+{}
 
 // A chorus with one line and one with three correspond over whole runs.
 pub fn one_line()
     ensures { OneLine }
-{
-}
+{}
