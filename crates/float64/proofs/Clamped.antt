@@ -1,9 +1,9 @@
 -- A clamped value lies in its range, an infinity too, and what lies there passes as it is, −0 too. Raising to the lower end and then lowering to the upper one is the same for every value,
 -- a NaN too. The ends of the range are finite and in order. Assumes nothing.
-use Rattle.std.proofs.Common.{◌≡◌, Bool, true, false, cond, not, T, refl, ap}
+use Rattle.std.proofs.Common.{◌≡◌, Bool, true, false, cond, not, T, refl, ap, ◌∙◌}
 use lib.Ieee.{Float, binary64, fits, is_nan, le, lt}
 use Rattle.float64.specs.Number.{is_number, clamp_of, at_least, at_most}
-use Rattle.float64.proofs.Order.{le-reflexive, not-lt→le, finite-num}
+use Rattle.float64.proofs.Order.{le-reflexive, not-lt→le, le→not-lt, finite-num}
 use Rattle.float64.proofs.Interval.{In, ends, box, in-finite, lo-fits, hi-fits, lo-finite, hi-finite}
 use Rattle.float64.proofs.Ranges.{number_fits, number-num}
 
@@ -37,6 +37,13 @@ clamp-number x lo hi k l u = go (lt x lo) (lt hi x)
     go true c = l
     go false true = u
     go false false = k
+
+pub clamp-keeps : {x lo hi : Float} → In binary64 lo hi x → clamp_of x lo hi ≡ x
+unfolding clamp_of
+clamp-keeps {x} {lo} {hi} i =
+    let l = lo-fits binary64 lo hi i.ends-ok in
+    let u = hi-fits binary64 lo hi i.ends-ok in
+    ap (λ (b : Bool). cond b lo (cond (lt hi x) hi x)) (le→not-lt binary64 lo x l i.fit i.lower) ∙ ap (λ (b : Bool). cond b hi x) (le→not-lt binary64 x hi i.fit u i.upper)
 
 pub clamp-halves : (x lo hi : Float) → lt hi lo ≡ false → at_most (at_least x lo) hi ≡ clamp_of x lo hi
 unfolding at_most at_least clamp_of

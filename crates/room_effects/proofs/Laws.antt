@@ -1,19 +1,18 @@
 -- An accepted call of the C interface from the effect's own: what it writes back, for any effect. Of the effect's laws only those on its settings are used.
 -- Assumes nothing.
-use Prim.Native.Nat.{ℕ, zero, suc}
+use Prim.Native.Nat.{ℕ}
 use mathlib.Core.Path.{◌≡◌, refl, sym, ap, ◌∙◌, subst}
-use mathlib.Core.Logic.{◌≢◌}
 use mathlib.Core.Bool.{Bool, true, false, cond}
 use mathlib.Core.List.{List}
 use lib.Ieee.{Float}
-use Rattle.port.specs.Answer.{Reply, refused, reply_number, reply_silent}
+use Rattle.port.specs.Answer.{Reply, reply_number}
 use Rattle.effect.specs.Effect.{Effect}
-use Rattle.effect.specs.Run.{tick, retune, reset, ask, CallOf, Device, if_none, number_at, changed, says, step, reply}
-use Rattle.effect.specs.Contract.{Does, Starts}
+use Rattle.effect.specs.Run.{tick, CallOf, Device, number_at, step, reply}
+use Rattle.effect.specs.Contract.{Does}
 use Rattle.effect.proofs.Laws.{Laws}
 use Rattle.effect.proofs.Table.{if_none-both}
-use Rattle.room_effects.specs.States.{is_on, FlagWritten, FlagLeft}
-use Rattle.room_effects.specs.Lent.{samples_from, StartReturns, CallReturns, TickReturns, AskReturns}
+use Rattle.room_effects.specs.States.{is_on, FlagWritten}
+use Rattle.room_effects.specs.Lent.{samples_from, CallReturns, TickReturns}
 
 -- ---- a flag that is written as 0 or 1 is on where it was
 
