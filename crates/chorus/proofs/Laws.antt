@@ -27,9 +27,10 @@ use Rattle.common.proofs.Slices.{part_length}
 use Rattle.common.proofs.Sweep.{neither, no-cause, part-read, size-tests}
 use Rattle.effect.specs.Effect.{laid}
 use Rattle.effect.specs.Lines.{in_each}
-use Rattle.effect.specs.Run.{tick, first, memory_number, number_in}
+use Rattle.effect.specs.Run.{tick, reset, number_in}
 use Rattle.effect.specs.Contract.{Does}
-use Rattle.effect.proofs.Contract.{accepts}
+use Rattle.effect.proofs.Table.{accepted}
+use Rattle.effect.proofs.Contract.{accepts, tick-number}
 use Rattle.chorus.specs.declared.Chorus.{Chorus}
 use Rattle.chorus.specs.Chorus.{Tick, tick_of, chorus, line_length, Phases, phases_of, factor, stepped, next_phases, state_fits, tick_number, input, depth, mix, distance, voice, mixed, next, writes}
 use Rattle.chorus.specs.Chorus as page
@@ -147,6 +148,11 @@ tick-fits t e =
     let c = both (sine_fits t.sine1) (sine_fits t.sine2) b.1 in
     record { depth = (neither (is_nan_set t.depth) (is_nan_set t.mix) v.0).0; frequency = a.0; sine0 = b.0; sine1 = c.0; sine2 = c.1 }
 
+-- where causes 4 and 3 do not apply, they are all of a tick's row
+pub tick_row : (t : Tick) (s : Chorus) (m : List Float) {k : ℕ} → 0 ≡ number_in chorus reset (length m) s → k ≡ tick_number t → k ≡ number_in chorus (tick t) (length m) s
+tick_row t s m passed e =
+    let unit = accepted chorus (length m) reset s (sym passed) in tick-number chorus (length m) s t unit.state_fits (sym unit.number) e
+
 -- ---- distances
 
 -- 7 × rate / 1000 + (sine × 0.5 + 0.5) × (depth × 25 × rate / 1000)
@@ -216,24 +222,22 @@ module _ (t : Tick) {x d b : Float} (audio : x ≡ value_or t.audio plus_zero) (
   abbrev pub all_set : Tick
   all_set = tick_of (Set x) (Set d) (Set b) t.frequency t.sine0 t.sine1 t.sine2
 
-  -- the same row of the table is theirs
-  pub set_row : (n : ℕ) (s : Chorus) → number_in chorus (tick all_set) n s ≡ number_in chorus (tick t) n s
+  pub set_number : tick_number all_set ≡ tick_number t
   unfolding tick_number is_number Ieee.fits is_nan round
-  set_row n s =
+  set_number =
       let curves = frequency_fits t.frequency && (sine_fits t.sine0 && (sine_fits t.sine1 && sine_fits t.sine2)) in
-      let same : tick_number all_set ≡ tick_number t = λ i. cause_number (nan_is t.depth half refl amount refl i || nan_is t.mix half refl wet refl i) curves in
-      ap (λ (k : ℕ). cond (state_fits s) (first (memory_number (chorus.places s.sample_rate) n) k) 4) same
+      λ i. cause_number (nan_is t.depth half refl amount refl i || nan_is t.mix half refl wet refl i) curves
 
-  pub set_does : {s : Chorus} {m : List Float} {s' : Chorus} {m' : List Float} {a : Reply} → number_in chorus (tick t) (length m) s ≡ 0
+  pub set_does : {s : Chorus} {m : List Float} {s' : Chorus} {m' : List Float} {a : Reply} → 0 ≡ number_in chorus reset (length m) s → 0 ≡ tick_number all_set
       → Does chorus (tick all_set) s m s' m' a
       → Does chorus (tick t) s m s' m' a
   unfolding next writes page.samples_from voice
-  set_does {s} {m} n does =
-      let k = set_row (length m) s ∙ n in
+  set_does {s} {m} passed none does =
+      let k = sym (tick_row all_set s m passed none) in
       let rate = s.sample_rate in
       let L = line_length rate in
       let w = s.write_pos in
-      accepts chorus (tick t) s m n
+      accepts chorus (tick t) s m (sym (tick_row t s m passed (none ∙ set_number)))
       (rw k at does.state)
       ((rw k at does.memory) ∙ (λ i. laid (in_each 1 0 L w (sanitized (audio i))) m))
       ((rw k at does.answer)
