@@ -29,8 +29,8 @@ use Rattle.effect.specs.Effect.{laid}
 use Rattle.effect.specs.Lines.{in_each}
 use Rattle.effect.specs.Run.{tick, reset, number_in}
 use Rattle.effect.specs.Contract.{Does}
-use Rattle.effect.proofs.Table.{accepted}
-use Rattle.effect.proofs.Contract.{accepts, tick-number}
+use Rattle.effect.proofs.Contract.{accepts}
+use Rattle.effect.proofs.Rows.{tick_row}
 use Rattle.chorus.specs.declared.Chorus.{Chorus}
 use Rattle.chorus.specs.Chorus.{Tick, tick_of, chorus, line_length, Phases, phases_of, factor, stepped, next_phases, state_fits, tick_number, input, depth, mix, distance, voice, mixed, next, writes}
 use Rattle.chorus.specs.Chorus as page
@@ -148,11 +148,6 @@ tick-fits t e =
     let c = both (sine_fits t.sine1) (sine_fits t.sine2) b.1 in
     record { depth = (neither (is_nan_set t.depth) (is_nan_set t.mix) v.0).0; frequency = a.0; sine0 = b.0; sine1 = c.0; sine2 = c.1 }
 
--- where causes 4 and 3 do not apply, they are all of a tick's row
-pub tick_row : (t : Tick) (s : Chorus) (m : List Float) {k : ℕ} → 0 ≡ number_in chorus reset (length m) s → k ≡ tick_number t → k ≡ number_in chorus (tick t) (length m) s
-tick_row t s m passed e =
-    let unit = accepted chorus (length m) reset s (sym passed) in tick-number chorus (length m) s t unit.state_fits (sym unit.number) e
-
 -- ---- distances
 
 -- 7 × rate / 1000 + (sine × 0.5 + 0.5) × (depth × 25 × rate / 1000)
@@ -233,11 +228,11 @@ module _ (t : Tick) {x d b : Float} (audio : x ≡ value_or t.audio plus_zero) (
       → Does chorus (tick t) s m s' m' a
   unfolding next writes page.samples_from voice
   set_does {s} {m} passed none does =
-      let k = sym (tick_row all_set s m passed none) in
+      let k = sym (tick_row chorus all_set s m passed none) in
       let rate = s.sample_rate in
       let L = line_length rate in
       let w = s.write_pos in
-      accepts chorus (tick t) s m (sym (tick_row t s m passed (none ∙ set_number)))
+      accepts chorus (tick t) s m (sym (tick_row chorus t s m passed (none ∙ set_number)))
       (rw k at does.state)
       ((rw k at does.memory) ∙ (λ i. laid (in_each 1 0 L w (sanitized (audio i))) m))
       ((rw k at does.answer)

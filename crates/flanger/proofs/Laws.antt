@@ -27,7 +27,8 @@ use Rattle.effect.specs.Effect.{laid}
 use Rattle.effect.specs.Run.{tick, reset, number_in}
 use Rattle.effect.specs.Contract.{Does}
 use Rattle.effect.proofs.Table.{accepted, tick-accepted}
-use Rattle.effect.proofs.Contract.{accepts, tick-number}
+use Rattle.effect.proofs.Contract.{accepts}
+use Rattle.effect.proofs.Rows.{tick_row}
 use Rattle.flanger.specs.declared.Flanger.{Flanger}
 use Rattle.flanger.specs.Flanger.{Tick, tick_of, flanger, line_length, places, state_fits, tick_number, input, depth, feedback, mix, distance, tap, fed, next, writes}
 use Rattle.flanger.specs.Flanger as page
@@ -211,11 +212,6 @@ module _ (t : Tick) (s : Flanger) (m : List Float) where
   played_by x d b =
       played (mixed_by x (tap_by 0 t.sine0 d) b ∷ mixed_by x (tap_by 0 t.sine0 d) b ∷ mixed_by x (tap_by 1 t.sine1 d) b ∷ [])
 
--- past causes 4 and 3 a tick's number is that of causes 5 and 6
-pub tick_row : (t : Tick) (s : Flanger) (m : List Float) {k : ℕ} → 0 ≡ number_in flanger reset (length m) s → k ≡ tick_number t
-    → k ≡ number_in flanger (tick t) (length m) s
-tick_row t s m u e = let a = accepted flanger (length m) reset s (sym u) in tick-number flanger (length m) s t a.state_fits (sym a.number) e
-
 module _ (t : Tick) {x d f b : Float} (audio : x ≡ value_or t.audio plus_zero) (amount : d ≡ value_or t.depth half) (back : f ≡ value_or t.feedback plus_zero) (wet : b ≡ value_or t.mix half) where
   abbrev pub all_set : Tick
   all_set = tick_of (Set x) (Set d) (Set f) (Set b) t.frequency t.sine0 t.sine1
@@ -235,8 +231,8 @@ module _ (t : Tick) {x d f b : Float} (audio : x ≡ value_or t.audio plus_zero)
       → Does flanger (tick t) s m s' m' a
   unfolding next writes fed page.samples tap
   set_does {s} {m} u e does =
-      let k = sym (tick_row all_set s m u e) in
-      accepts flanger (tick t) s m (sym (tick_row t s m u (e ∙ set_number)))
+      let k = sym (tick_row flanger all_set s m u e) in
+      accepts flanger (tick t) s m (sym (tick_row flanger t s m u (e ∙ set_number)))
       (rw k at does.state)
       ((rw k at does.memory) ∙ (λ i. stored_by t s m (audio i) (amount i) (back i)))
       ((rw k at does.answer) ∙ (λ i. played_by t s m (audio i) (amount i) (wet i)))

@@ -2,7 +2,7 @@
 -- also where ports are unset. Assumes nothing.
 use Prim.Native.Nat.{ℕ, ◌+◌, ◌-◌, ◌*◌, ◌≤◌, ◌<◌}
 use native.Mathlib.Omega.{arith}
-use mathlib.Core.Path.{◌≡◌, refl, ap, ◌∙◌}
+use mathlib.Core.Path.{◌≡◌, refl, sym, ap, ◌∙◌}
 use mathlib.Core.Bool.{true, false, ◌&&◌, ◌||◌, cond}
 use mathlib.Core.List.{List, [], ◌∷◌}
 use lib.Dec.{ltb}
@@ -10,7 +10,7 @@ use lib.ListN.{length, take, set}
 use lib.Ieee.{Float, binary64, add, mul, div, neg, le, lt, of_int, round}
 use lib.Ieee as Ieee
 use borrow.Author.Tests.{ltb-true, lt-ltb}
-use Rattle.float64.specs.Number.{plus_zero, float_of, fraction, half, rate_fits, phase_fits, frequency_fits, sine_fits, clamp_of}
+use Rattle.float64.specs.Number.{plus_zero, float_of, fraction, half, is_number, rate_fits, phase_fits, frequency_fits, sine_fits, clamp_of}
 use Rattle.float64.proofs.Tests.{both}
 use Rattle.float64.proofs.Interval.{In, point, add-in, mul_in, div-in, scale_in}
 use Rattle.float64.proofs.Ranges.{rate-in, sine-in, in-number}
@@ -19,14 +19,16 @@ use Rattle.float64.proofs.Lengths.{length-20}
 use Rattle.port.specs.declared.Port.TheVariants.{Set}
 use Rattle.port.specs.Port.{value_or, is_nan_set}
 use Rattle.port.specs.Answer.{Reply, played}
-use Rattle.common.specs.Signal.{blended, advanced}
+use Rattle.port.proofs.Laws.{nan_is}
+use Rattle.common.specs.Signal.{blended, advanced, cause_number}
 use Rattle.common.specs.Line.{next_place, line_at, read_at}
 use Rattle.common.proofs.Sweep.{size-tests, no-cause, neither, part-read}
 use Rattle.effect.specs.Effect.{laid}
 use Rattle.effect.specs.Lines.{in_each}
-use Rattle.effect.specs.Run.{tick, number_in}
+use Rattle.effect.specs.Run.{tick, reset, number_in}
 use Rattle.effect.specs.Contract.{Does}
 use Rattle.effect.proofs.Contract.{accepts}
+use Rattle.effect.proofs.Rows.{tick_row}
 use Rattle.vibrato.specs.declared.Vibrato.{Vibrato}
 use Rattle.vibrato.specs.Vibrato.{Tick, tick_of, vibrato, line_length, state_fits, tick_number, input, depth, mix, distance, delayed, next, writes}
 use Rattle.vibrato.specs.Vibrato as page
@@ -141,16 +143,22 @@ module _ (t : Tick) {x d b : Float} (audio : x ≡ value_or t.audio plus_zero) (
   abbrev pub all_set : Tick
   all_set = tick_of (Set x) (Set d) (Set b) t.frequency t.sine
 
-  pub set_does : {s : Vibrato} {m : List Float} {s' : Vibrato} {m' : List Float} {a : Reply} → number_in vibrato (tick t) (length m) s ≡ 0
-      → number_in vibrato (tick all_set) (length m) s ≡ 0
+  -- no default is NaN
+  pub set_number : tick_number all_set ≡ tick_number t
+  unfolding tick_number is_number Ieee.fits Ieee.is_nan of_int round
+  set_number = λ i.
+      cause_number (nan_is t.depth half refl amount refl i || nan_is t.mix (float_of 1) refl wet refl i) (frequency_fits t.frequency && sine_fits t.sine)
+
+  pub set_does : {s : Vibrato} {m : List Float} {s' : Vibrato} {m' : List Float} {a : Reply} → 0 ≡ number_in vibrato reset (length m) s → 0 ≡ tick_number all_set
       → Does vibrato (tick all_set) s m s' m' a
       → Does vibrato (tick t) s m s' m' a
   unfolding next writes page.samples delayed
-  set_does {s} {m} n k does =
+  set_does {s} {m} passed none does =
+      let k = sym (tick_row vibrato all_set s m passed none) in
       let rate = s.sample_rate in
       let L = line_length rate in
       let w = s.write_pos in
-      accepts vibrato (tick t) s m n
+      accepts vibrato (tick t) s m (sym (tick_row vibrato t s m passed (none ∙ set_number)))
       (rw k at does.state)
       ((rw k at does.memory) ∙ (λ i. laid (in_each 1 0 L w (audio i)) m))
       ((rw k at does.answer)

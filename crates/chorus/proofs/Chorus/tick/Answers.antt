@@ -10,8 +10,9 @@ use Rattle.common.proofs.Sweep.{size_is}
 use Rattle.effect.specs.Run.{tick, reset}
 use Rattle.effect.proofs.Table.{accepted}
 use Rattle.effect.proofs.Contract.{refuses}
+use Rattle.effect.proofs.Rows.{tick_row}
 use Rattle.chorus.specs.Chorus.{chorus, tick_of, line_length, tick_number}
-use Rattle.chorus.proofs.Laws.{fits-parts, tick_row, all_set, set_number, set_does}
+use Rattle.chorus.proofs.Laws.{fits-parts, all_set, set_number, set_does}
 use Rattle.chorus.proofs.Chorus.tick.Goals as goal
 
 pub returns-in-Refused-causes : goal.returns-in-Refused-causes
@@ -23,7 +24,7 @@ returns-in-Refused-causes c =
     let mix : c.match-mix.mix ≡ value_or a.mix half = search rules in
     let cause = c.in-Refused-causes.cause in
     let e : number cause ≡ tick_number (all_set t refl depth mix) = cc c.in-Refused-causes.ensures in
-    refuses chorus (tick t) a.self a.mem.now (number cause) (tick_row t a.self a.mem.now c.in_default.ensures (e ∙ set_number t refl depth mix)) (number-some cause)
+    refuses chorus (tick t) a.self a.mem.now (number cause) (tick_row chorus t a.self a.mem.now c.in_default.ensures (e ∙ set_number t refl depth mix)) (number-some cause)
 
 pub advance-requires-clause-n_value : goal.advance-requires-clause-n_value
 advance-requires-clause-n_value c =
@@ -36,7 +37,7 @@ unfolding tick_number
 advance-requires-clause-self_value c =
     let a = c.args in
     let t = tick_of (Set c.match-audio.audio) (Set c.match-depth.depth) (Set c.match-mix.mix) a.frequency a.sine0 a.sine1 a.sine2 in
-    sym (tick_row t a.self a.mem.now c.in_default.ensures (cc c.in_default-causes.ensures))
+    sym (tick_row chorus t a.self a.mem.now c.in_default.ensures (cc c.in_default-causes.ensures))
 
 pub returns : goal.returns
 unfolding tick_number of_bits round

@@ -10,8 +10,8 @@ use Rattle.port.proofs.Laws.{number-some}
 use Rattle.common.proofs.Sweep.{neither}
 use Rattle.effect.specs.Run.{tick, reset, number_in}
 use Rattle.effect.proofs.Table.{accepted, tick-accepted}
-use Rattle.effect.proofs.Contract.{refuses, accepts, tick-number}
-use Rattle.effect.proofs.Rows.{unit-refused}
+use Rattle.effect.proofs.Contract.{refuses, accepts}
+use Rattle.effect.proofs.Rows.{tick_row, unit-refused}
 use Rattle.delay_line.specs.declared.DelayLine.{DelayLine}
 use Rattle.delay_line.specs.DelayLine.{delay_line, tick_of, settings, tick_number, delay_ms}
 use Rattle.delay_line.proofs.Laws.{fits-parts, fits-size, set_tick, set-row, set-number, no_nan, tick-fits, samples-number, next-is, stored_is, played-is}
@@ -95,7 +95,7 @@ returns c =
     let read = c.delay_samples-samples.ensures.value in
     let does = c.advance.ensures in
     accepts delay_line (tick t) s m
-    (sym (tick-number delay_line n s t u.state_fits (sym u.number) (sym none ∙ set-row t s.linear_time time back wet)))
+    (sym (tick_row delay_line t s m c.in_default-refusal.ensures (sym none ∙ set-row t s.linear_time time back wet)))
     (next-is t s m audio time back wet read (fits-size s c.line_length-n.ensures u.state_fits) does.state_value)
     (stored_is t s m audio time back wet read does.mem_after)
     (played-is t s m audio time back wet read does.answer_value)

@@ -9,8 +9,9 @@ use Rattle.port.proofs.Laws.{number-some}
 use Rattle.effect.specs.Run.{tick, reset}
 use Rattle.effect.proofs.Table.{accepted}
 use Rattle.effect.proofs.Contract.{refuses}
+use Rattle.effect.proofs.Rows.{tick_row}
 use Rattle.flanger.specs.Flanger.{flanger, tick_of, tick_number}
-use Rattle.flanger.proofs.Laws.{line_is, tick_row, all_set, set_number, set_does}
+use Rattle.flanger.proofs.Laws.{line_is, all_set, set_number, set_does}
 use Rattle.flanger.proofs.Flanger.tick.Goals as goal
 
 pub returns-in-Refused-causes : goal.returns-in-Refused-causes
@@ -23,7 +24,7 @@ returns-in-Refused-causes c =
     let wet : c.match-mix.mix ≡ value_or a.mix half = grind arith in
     let cause = c.in-Refused-causes.cause in
     let e : number cause ≡ tick_number (all_set t refl amount back wet) = cc c.in-Refused-causes.ensures in
-    refuses flanger (tick t) a.self a.mem.now (number cause) (tick_row t a.self a.mem.now c.in_default.ensures (e ∙ set_number t refl amount back wet)) (number-some cause)
+    refuses flanger (tick t) a.self a.mem.now (number cause) (tick_row flanger t a.self a.mem.now c.in_default.ensures (e ∙ set_number t refl amount back wet)) (number-some cause)
 
 pub advance-requires-clause-n_value : goal.advance-requires-clause-n_value
 advance-requires-clause-n_value c =
@@ -33,7 +34,7 @@ pub advance-requires-clause-self_value : goal.advance-requires-clause-self_value
 unfolding tick_number
 advance-requires-clause-self_value c =
     let t = tick_of (Set c.match-audio.audio) (Set c.match-depth.depth) (Set c.match-feedback.feedback) (Set c.match-mix.mix) c.args.frequency c.args.sine0 c.args.sine1 in
-    sym (tick_row t c.args.self c.args.mem.now c.in_default.ensures (cc c.in_default-causes.ensures))
+    sym (tick_row flanger t c.args.self c.args.mem.now c.in_default.ensures (cc c.in_default-causes.ensures))
 
 pub returns : goal.returns
 unfolding tick_number of_bits round

@@ -1,27 +1,20 @@
 -- `Tremolo::tick`: the table's order of refusals, and the page's samples and state. Assumes nothing.
-use Rattle.std.proofs.Common.{rules, ◌≡◌, ℕ, ◌&&◌, ◌||◌, [], true, sym, ap, ◌∙◌, refl}
+use Rattle.std.proofs.Common.{rules, ◌≡◌, ◌&&◌, ◌||◌, [], sym, ap, ◌∙◌, refl}
 use lib.Ieee.{of_bits, of_int, round, fits, is_nan}
-use Rattle.float64.specs.Number.{plus_zero, half, is_number, frequency_fits, sine_fits}
-use Rattle.port.specs.Port.{value_or, is_nan_set}
+use Rattle.float64.specs.Number.{plus_zero, half, is_number}
+use Rattle.port.specs.Port.{value_or}
 use Rattle.port.specs.Answer.{number, played}
 use Rattle.port.proofs.Laws.{nan_is, number-some}
 use Rattle.common.specs.Signal.{cause_number}
-use Rattle.effect.specs.Run.{tick, number_in}
-use Rattle.effect.proofs.Contract.{refuses, accepts, tick-number}
-use Rattle.tremolo.specs.declared.Tremolo.{Tremolo}
-use Rattle.tremolo.specs.Tremolo.{tremolo, Tick, tick_of, tick_number, state_fits, next}
+use Rattle.effect.specs.Run.{tick}
+use Rattle.effect.proofs.Contract.{refuses, accepts}
+use Rattle.effect.proofs.Rows.{tick_row}
+use Rattle.tremolo.specs.Tremolo.{tremolo, tick_of, tick_number, next}
 use Rattle.tremolo.proofs.Laws.{samples-are}
 use Rattle.tremolo.proofs.Tremolo.tick.Goals as goal
 
--- the table's number of a tick whose state passes: the causes of its controls and its curve numbers
-numbered : (t : Tick) (s : Tremolo) → state_fits s ≡ true
-    → {k : ℕ} → k ≡ cause_number (is_nan_set t.depth || is_nan_set t.shape) (frequency_fits t.frequency && sine_fits t.sine)
-    → k ≡ number_in tremolo (tick t) 0 s
-unfolding tick_number
-numbered t s passed e = tick-number tremolo 0 s t passed refl e
-
 pub returns-in-Refused : goal.returns-in-Refused
-unfolding is_number fits is_nan of_bits round
+unfolding tick_number is_number fits is_nan of_bits round
 returns-in-Refused c =
     let a = c.args in
     let t = tick_of a.audio a.depth a.shape a.frequency a.sine in
@@ -31,11 +24,11 @@ returns-in-Refused c =
     let depth = nan_is a.depth half refl amount c.is_nan.ensures in
     let shape = nan_is a.shape plus_zero refl blend c.is_nan-2.ensures in
     refuses tremolo (tick t) a.self [] (number cause)
-    (numbered t a.self (sym c.state_fits.ensures ∙ c.if-not-state_fits.false) (c.in-Refused.ensures ∙ (λ i. cause_number (depth i || shape i) (c.frequency_fits.ensures i && c.sine_fits.ensures i))))
+    (tick_row tremolo t a.self [] (rw (sym c.state_fits.ensures ∙ c.if-not-state_fits.false)) (c.in-Refused.ensures ∙ (λ i. cause_number (depth i || shape i) (c.frequency_fits.ensures i && c.sine_fits.ensures i))))
     (number-some cause)
 
 pub returns : goal.returns
-unfolding next is_number fits is_nan of_bits of_int round
+unfolding next tick_number is_number fits is_nan of_bits of_int round
 returns c =
     let a = c.args in
     let t = tick_of a.audio a.depth a.shape a.frequency a.sine in
@@ -45,7 +38,7 @@ returns c =
     let depth = nan_is a.depth half refl amount c.is_nan.ensures in
     let shape = nan_is a.shape plus_zero refl blend c.is_nan-2.ensures in
     accepts tremolo (tick t) a.self []
-    (sym (numbered t a.self (sym c.state_fits.ensures ∙ c.if-not-state_fits.false) (c.in_default-causes.ensures ∙ (λ i. cause_number (depth i || shape i) (c.frequency_fits.ensures i && c.sine_fits.ensures i)))))
+    (sym (tick_row tremolo t a.self [] (rw (sym c.state_fits.ensures ∙ c.if-not-state_fits.false)) (c.in_default-causes.ensures ∙ (λ i. cause_number (depth i || shape i) (c.frequency_fits.ensures i && c.sine_fits.ensures i)))))
     (rw c.advance_phase-next.ensures)
     refl
     (ap played (samples-are t a.self input amount blend c.clamp.ensures c.lfo-lfo.ensures c.clamp-2.ensures c.modulated-y.ensures))
