@@ -169,7 +169,7 @@ impl Chorus {
 
     // base + (sine x 0.5 + 0.5) x swing, clamped to 1 to n - 1, n the length of the line.
     fn distance(n: usize, base: f64, swing: f64, sine: f64) -> f64
-        requires le_n { 2 ≤ n }
+        requires n_at_least { 2 ≤ n }
         requires n_bound { n ≤ 16777217 }
         ensures { result ≡ clamp_of (add binary64 base (mul binary64 (add binary64 (mul binary64 sine half) half) swing)) (float_of 1)
             (float_of (n - 1)) }
@@ -182,7 +182,7 @@ impl Chorus {
         requires w_in_bounds { w < length line.now }
         requires in_bounds { 2 ≤ length line.now }
         requires line_len_bound { length line.now ≤ 16777217 }
-        requires swing_value { is_number (add binary64 base (mul binary64 (add binary64 (mul binary64 sine half) half) swing)) ≡ true }
+        requires swept_is_number { is_number (add binary64 base (mul binary64 (add binary64 (mul binary64 sine half) half) swing)) ≡ true }
         ensures { result ≡ read_at (line_at 0 (length line.now) w line.now)
             (clamp_of (add binary64 base (mul binary64 (add binary64 (mul binary64 sine half) half) swing)) (float_of 1)
             (float_of (length line.now - 1))) }
@@ -194,7 +194,7 @@ impl Chorus {
     fn next(self, n: u64, frequency: f64) -> Chorus
         requires { self.write_pos < n }
         ensures write_pos_value { result.write_pos ≡ next_place n self.write_pos }
-        ensures result_value { phases_of result ≡ next_phases frequency self.sample_rate (phases_of self) }
+        ensures phases_value { phases_of result ≡ next_phases frequency self.sample_rate (phases_of self) }
         ensures sample_rate_value { result.sample_rate ≡ self.sample_rate }
     {
         let rate = self.sample_rate;
@@ -235,7 +235,7 @@ impl Chorus {
         sine2: f64,
     ) -> Ticked
         requires n_value { n ≡ line_length self.sample_rate }
-        requires self_value { number_in chorus (tick (tick_of (Set audio) (Set depth) (Set mix) frequency sine0 sine1 sine2)) (length mem.old) self
+        requires tick_accepted { number_in chorus (tick (tick_of (Set audio) (Set depth) (Set mix) frequency sine0 sine1 sine2)) (length mem.old) self
             ≡ 0 }
         ensures { Does chorus (tick (tick_of (Set audio) (Set depth) (Set mix) frequency sine0 sine1 sine2)) self mem.old
             result.state mem.new (answer_reply result.answer) }

@@ -14,8 +14,8 @@ use lib.Ieee.{Float, nan}
 use Rattle.float64.specs.Number.{plus_zero, whole_part, fraction_part}
 use Rattle.common.specs.Signal.{blended}
 use Rattle.common.specs.Line.{zeros, place, next_place, line_at, read_at, newest_first}
-use Rattle.common.proofs.Slices.{part_length, part-get_d}
-use Rattle.common.proofs.Tables.{length-table, get_d-table, table-ext}
+use Rattle.common.proofs.Slices.{part_length, part-get_or}
+use Rattle.common.proofs.Tables.{length-table, get_or-table, table-ext}
 
 -- a read at a distance, of a line read newest to oldest
 unfoldable pub read_line : List Float → Float → Float
@@ -103,7 +103,7 @@ module _ (o L w : ℕ) (m : List Float) where
 
   -- its entry i is what stands i + 1 samples back
   pub newest-at : (i : ℕ) → i < L → get_or (newest_first o L w m) i nan ≡ line_at o L w m (i + 1)
-  newest-at i h = get_d-table (λ j. line_at o L w m (j + 1)) L i nan h
+  newest-at i h = get_or-table (λ j. line_at o L w m (j + 1)) L i nan h
 
   -- so what stands d samples back is its entry d - 1
   pub line-at : (d : ℕ) → 1 ≤ d → d ≤ L → line_at o L w m d ≡ get_or (newest_first o L w m) (d - 1) nan
@@ -179,7 +179,7 @@ same-places o o' L w m m' h k k' e = ext_get_or nan _ _ (part_length o L m L ref
     -- what stands in place p of a part is an entry of the line
     entry : (q : ℕ) (n : List Float) (p : ℕ) (b : Back L w p) → p < L → get_or (take L (drop q n)) p nan ≡ get_or (newest_first q L w n) (b.distance - 1) nan
     entry q n p b l =
-        part-get_d q L n p nan l
+        part-get_or q L n p nan l
         ∙ ap (λ (r : ℕ). get_or n (q + r) nan) (sym b.place_is)
         ∙ line-at q L w n b.distance b.at_least b.at-most
 

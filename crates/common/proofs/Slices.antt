@@ -12,8 +12,8 @@ module _ {A : Type 0} (o k : ℕ) (m : List A) where
   pub part_length : (n : ℕ) → k ≡ n → o + n ≤ length m → length (take k (drop o m)) ≡ n
   part_length n e h = length-take-le k (drop o m) (omega (arith, length-drop o m)) ∙ e
 
-  pub part-get_d : (w : ℕ) (z : A) → w < k → get_or (take k (drop o m)) w z ≡ get_or m (o + w) z
-  part-get_d w z h = get_or-take k (drop o m) w z h ∙ get_or-drop o m w z
+  pub part-get_or : (w : ℕ) (z : A) → w < k → get_or (take k (drop o m)) w z ≡ get_or m (o + w) z
+  part-get_or w z h = get_or-take k (drop o m) w z h ∙ get_or-drop o m w z
 
   pub part-set : (w : ℕ) (v : A) → w < k → o + k ≤ length m → put_mid o k m (set (take k (drop o m)) w v) ≡ set m (o + w) v
   part-set w v h l = set_mid_at o k w m v (omega (arith, h, part_length k refl l))

@@ -14,11 +14,11 @@ module _ {A : Type 0} where
   length-table f zero = refl
   length-table f (suc n) = ap suc (length-table (λ i. f (suc i)) n)
 
-  pub get_d-table : (f : ℕ → A) (n i : ℕ) (z : A) → i < n → get_or (table f n) i z ≡ f i
+  pub get_or-table : (f : ℕ → A) (n i : ℕ) (z : A) → i < n → get_or (table f n) i z ≡ f i
   unfolding table
-  get_d-table f zero i z h = absurd (not-suc-le-zero h)
-  get_d-table f (suc n) zero z h = refl
-  get_d-table f (suc n) (suc i) z h = get_d-table (λ j. f (suc j)) n i z (le_of_suc-le-suc h)
+  get_or-table f zero i z h = absurd (not-suc-le-zero h)
+  get_or-table f (suc n) zero z h = refl
+  get_or-table f (suc n) (suc i) z h = get_or-table (λ j. f (suc j)) n i z (le_of_suc-le-suc h)
 
   -- two tables are equal where their entries are
   pub table-ext : (f g : ℕ → A) (n : ℕ) → ((i : ℕ) → i < n → f i ≡ g i) → table f n ≡ table g n

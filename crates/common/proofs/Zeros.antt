@@ -3,16 +3,12 @@ use Prim.Native.Nat.{ℕ, zero, suc, ◌+◌, ◌-◌, ◌≤◌}
 use native.Mathlib.Nat.{zero-add, suc-add}
 use native.Mathlib.Omega.{arith}
 use mathlib.Core.Path.{◌≡◌, refl, sym, ap, ◌∙◌}
-use mathlib.Core.Bool.{Bool, true, false, ◌&&◌}
+use mathlib.Core.Bool.{Bool, true, false, ◌&&◌, and_assoc}
 use mathlib.Core.List.{List, [], ◌∷◌, ◌++◌}
 use lib.ListN.{take, drop, take-append-drop}
 use lib.Seq.{take-add}
 use lib.Ieee.{Float}
 use Rattle.common.specs.Line.{is_zero, all_zero}
-
-and_assoc : (a b c : Bool) → (a && b) && c ≡ a && (b && c)
-and_assoc true b c = refl
-and_assoc false b c = refl
 
 -- b of the places before x, and then x
 pub one_more : (b : Bool) (x : Float) (l : List Float) → (b && is_zero x) && all_zero l ≡ b && all_zero (x ∷ l)

@@ -73,7 +73,7 @@ pub fn held_to_line(distance: f64, last: u32) -> f64
 fn place_back(n: usize, w: usize, d: usize) -> usize
     requires w_lt_n { w < n }
     requires d_le_n { d ≤ n }
-    requires le_d { 1 ≤ d }
+    requires d_at_least { 1 ≤ d }
     requires n_bound { n ≤ 4294967296 }
     ensures value { result ≡ place n w d }
     ensures upper_bound { result < n }
@@ -112,7 +112,7 @@ pub fn next_place(n: u64, w: u64) -> u64
 pub fn read_interpolated(line: &[f64], w: usize, distance: f64) -> f64
     requires w_in_bounds { w < length line.now }
     requires line_len_bound { length line.now ≤ 16777217 }
-    requires line_value { in_range distance (float_of 1) (float_of (length line.now - 1)) ≡ true }
+    requires distance_on_line { in_range distance (float_of 1) (float_of (length line.now - 1)) ≡ true }
     ensures { result ≡ read_at (line_at 0 (length line.now) w line.now) distance }
 {
     let n = line.len();

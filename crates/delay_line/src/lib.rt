@@ -153,7 +153,7 @@ impl DelayLine {
 
     // The glide distance in a line of n places: +0 while unprimed, else 1 to n - 1.
     fn glide_fits(self, n: u64) -> bool
-        requires le_n { 1 ≤ n }
+        requires n_at_least { 1 ≤ n }
         requires n_bound { n ≤ 11520001 }
         ensures { result ≡ glide_fits self.delay_primed self.smoothed_delay n }
     {
@@ -225,7 +225,7 @@ impl DelayLine {
 
     // Where the glide goes to: the samples held to 1 to n - 1.
     fn target_delay(n: u64, samples: f64) -> f64
-        requires le_n { 2 ≤ n }
+        requires n_at_least { 2 ≤ n }
         requires n_bound { n ≤ 11520001 }
         ensures { result ≡ clamp_of samples (float_of 1) (float_of (n - 1)) }
     {
@@ -248,7 +248,7 @@ impl DelayLine {
     fn delay_samples(self, time: f64, milliseconds: f64) -> f64
         ensures value { result ≡ samples_of self.sample_rate
             (cond self.linear_time (mul binary64 (clamp_of time plus_zero self.max_delay_secs) (float_of 1000)) milliseconds) }
-        ensures milliseconds_value { is_number result ≡ true → cond self.linear_time (is_number time) (is_number milliseconds) ≡ true }
+        ensures from_numbers { is_number result ≡ true → cond self.linear_time (is_number time) (is_number milliseconds) ≡ true }
     {
         if self.linear_time {
             return float64::clamp(time, 0.0, self.max_delay_secs) * 1000.0 * self.sample_rate
@@ -309,9 +309,9 @@ impl DelayLine {
         mix: f64,
     ) -> Ticked
         requires n_value { n ≡ line_length self.sample_rate self.max_delay_secs }
-        requires self_value { state_fits self ≡ true }
+        requires self_fits { state_fits self ≡ true }
         requires n_in_bounds { n ≤ length mem.old }
-        requires samples_value { is_number samples ≡ true }
+        requires samples_is_number { is_number samples ≡ true }
         ensures state_value { result.state ≡ next_state n (reads_at self samples) self }
         ensures answer_value { answer_reply result.answer ≡ played
             (blended (sanitized audio) (delayed_by self samples mem.old) (clamp_of mix plus_zero (float_of 1)) ∷ []) }

@@ -13,10 +13,10 @@ use Rattle.effect.proofs.Memory.{laid-elsewhere, within-unnamed}
 use Rattle.effect.proofs.Table.{if_none-both, if_none-some, accepted}
 use Rattle.effect.proofs.Runs.{InRun, number_is, retune-clears, reset-clears, length-changed, changed-fits, start-in, after-in, run_in, along, run-traced}
 
-get_d-zeros : (n p : ℕ) → get_or (zeros n) p plus_zero ≡ plus_zero
-get_d-zeros zero p = refl
-get_d-zeros (suc n) zero = refl
-get_d-zeros (suc n) (suc p) = get_d-zeros n p
+get_or-zeros : (n p : ℕ) → get_or (zeros n) p plus_zero ≡ plus_zero
+get_or-zeros zero p = refl
+get_or-zeros (suc n) zero = refl
+get_or-zeros (suc n) (suc p) = get_or-zeros n p
 
 module _ (E : Effect) where
   leaves : (t : E.Tick) (h : Device E.State) (p : ℕ) → Unnamed p (E.writes t h.state h.memory)
@@ -71,13 +71,13 @@ module _ (E : Effect) (laws : Laws E) where
       let k = E.settings u.state in
       let free : ¬ E.InUse k p = subst (λ (q : E.Settings). ¬ E.InUse q p) (laws.next-settings t u.state u.memory) h in
       laid-elsewhere ws u.memory p plus_zero (within-unnamed (E.InUse k) ws p (laws.inside t u.state u.memory i.state_fits) free) ∙ z free
-  spare-changed p n u (retune r) i z h = rw (retune-clears E r u) (get_d-zeros (length u.memory) p)
-  spare-changed p n u reset i z h = rw (reset-clears E u) (get_d-zeros (length u.memory) p)
+  spare-changed p n u (retune r) i z h = rw (retune-clears E r u) (get_or-zeros (length u.memory) p)
+  spare-changed p n u reset i z h = rw (reset-clears E u) (get_or-zeros (length u.memory) p)
   spare-changed p n u ask i z h = z h
 
   spare : (x : Run E) (p : ℕ) → SpareZero p (final E x)
   spare x p =
-      along E laws (SpareZero p) x.calls (start-in E laws x) (rw x.accepted (λ h. get_d-zeros (length x.memory) p))
+      along E laws (SpareZero p) x.calls (start-in E laws x) (rw x.accepted (λ h. get_or-zeros (length x.memory) p))
       (spare-changed p (length x.memory))
 
   -- ---- one call, in a run or not

@@ -150,7 +150,7 @@ impl Flanger {
 
     // (1 + (sine + 1) x 0.5 x (depth x 9)) x rate / 1000, clamped to 1 to n - 1, n the length of a line.
     fn distance(n: usize, rate: f64, depth: f64, sine: f64) -> f64
-        requires rate_value { rate_fits rate ≡ true }
+        requires rate_in_range { rate_fits rate ≡ true }
         requires n_value { n ≡ line_length rate }
         ensures { result ≡ distance rate depth sine }
     {
@@ -161,11 +161,11 @@ impl Flanger {
 
     // What a line holds at its own distance.
     fn tap(line: &[f64], w: usize, rate: f64, depth: f64, sine: f64) -> f64
-        requires rate_value { rate_fits rate ≡ true }
+        requires rate_in_range { rate_fits rate ≡ true }
         requires line_len { length line.now ≡ line_length rate }
         requires w_in_bounds { w < length line.now }
-        requires float_of_value { in_range depth plus_zero (float_of 1) ≡ true }
-        requires sine_value { sine_fits sine ≡ true }
+        requires depth_in_range { in_range depth plus_zero (float_of 1) ≡ true }
+        requires sine_in_range { sine_fits sine ≡ true }
         ensures { result ≡ read_at (line_at 0 (length line.now) w line.now) (distance rate depth sine) }
     {
         common::read_interpolated(line, w, Flanger::distance(line.len(), rate, depth, sine))
@@ -202,7 +202,7 @@ impl Flanger {
         sine1: f64,
     ) -> Ticked
         requires n_value { n ≡ line_length self.sample_rate }
-        requires self_value { number_in flanger (tick (tick_of (Set audio) (Set depth) (Set feedback) (Set mix) frequency sine0 sine1))
+        requires tick_accepted { number_in flanger (tick (tick_of (Set audio) (Set depth) (Set feedback) (Set mix) frequency sine0 sine1))
             (length mem.old) self ≡ 0 }
         ensures { Does flanger (tick (tick_of (Set audio) (Set depth) (Set feedback) (Set mix) frequency sine0 sine1)) self
             mem.old result.state mem.new (answer_reply result.answer) }

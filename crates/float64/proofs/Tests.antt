@@ -1,5 +1,5 @@
 -- The tests for a NaN, an infinity and +0. Assumes nothing.
-use Rattle.std.proofs.Common.{◌≡◌, ◌*◌, Bool, true, false, not, ◌&&◌, T, sym, refl, ap, ◌∙◌, subst, eq-eqb}
+use Rattle.std.proofs.Common.{◌≡◌, ◌*◌, Bool, true, false, ◌&&◌, T, sym, refl, ap, ◌∙◌, subst, eq-eqb}
 use lib.Ieee as Ieee
 use lib.Ieee.{Float, fin, inf, nan, binary64, up, down}
 use lib.Ieee.Scale.{finite}
@@ -41,7 +41,3 @@ no_bits x h e = sym (of_bits-to_bits binary64 x h) ∙ ap (Ieee.of_bits binary64
 pub both : (a b : Bool) → a && b ≡ true → (a ≡ true) × (b ≡ true)
 both true b e = (refl, e)
 both false b e = clash e refl
-
-pub not-not : (b : Bool) → not (not b) ≡ b
-not-not true = refl
-not-not false = refl

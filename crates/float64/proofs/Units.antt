@@ -2,7 +2,7 @@
 -- `key` is a natural number that orders all values but NaN: `cap + mag` for a value that is not negative, `cap - mag` for one that is. The three tests are those on the keys
 -- (`lt-key`, `eq-key`, `le-key`). Assumes nothing.
 use Rattle.std.proofs.Common.{◌≡◌, ℕ, zero, suc, ◌+◌, ◌-◌, ◌*◌, ◌/◌, ◌%◌, ◌^◌, ◌<◌, ◌≤◌, Bool, true, false, not, ◌&&◌, ◌||◌, T, eqb, ltb, leb, ℤ, pos, negsuc, sym, refl, ap, ◌∙◌, subst, zero-le, le_trans, le_of_eq, le_refl, lt_of_lt_of_le, lt_of_le_of_lt, le_of_lt, mul_assoc, mul_comm, add-mul, lt_of_mul-lt-mul_right, mul-lt-mul_of_pos_right, mul-pos, one-mul, zero-mul, mul-one, sub-add_cancel, mul_right_comm, not-le_of_lt, le-mul_of_pos_right, mul-div_cancel, arith, le→leb, eqb→eq, ltb→lt, lt→ltb, leb→le, nltb→le, pow_pos, pow-add, le-ltb, lt-ltb, eq-eqb, ne_eqb}
-use mathlib.Core.Bool.{beq}
+use mathlib.Core.Bool.{beq, and-true}
 use native.Mathlib.Nat.{eq_of_mul-eq-mul_right}
 use lib.Dec.{nleb→lt}
 use lib.Pow.{pow-lt}
@@ -179,10 +179,6 @@ module _ (c X Y : ℕ) (x : X ≤ c) (y : Y ≤ c) where
   below_key false true = sym (le-ltb (c + X) (c - Y) (omega arith))
   below_key true false = ltb-same 0 (X + Y) (c - X) (c + Y) (omega arith) (omega arith)
   below_key true true = ltb-same Y X (c - X) (c - Y) (omega arith) (omega arith)
-
-  and-true : (a : Bool) → a && true ≡ a
-  and-true true = refl
-  and-true false = refl
 
   zeros : (a b : ℕ) → ((X ≡ Y) × (X ≡ 0) → a ≡ b) → (a ≡ b → (X ≡ Y) × (X ≡ 0)) → eqb X Y && eqb X 0 ≡ eqb a b
   zeros a b p q =

@@ -3,7 +3,7 @@
 use Rattle.std.proofs.Common.{◌≡◌, ℕ, zero, suc, ◌+◌, ◌<◌, ◌≤◌, ◌≢◌, List, [], ◌∷◌, length, get_or, set, sym, refl, ap, ◌∙◌, add-one, arith, get_or-set_other}
 use lib.Ieee.{Float, nan, binary64, add}
 use Rattle.common.specs.Line.{next_place}
-use Rattle.common.proofs.Tables.{get_d-table, tabled, tabled-next}
+use Rattle.common.proofs.Tables.{get_or-table, tabled, tabled-next}
 use Rattle.effect.specs.Effect.{Write, laid}
 use Rattle.effect.proofs.Memory.{laid-append}
 use Rattle.reverb.specs.declared.filters.Combed.{Combed}
@@ -104,7 +104,7 @@ module _ {l : SidedLines} (f : InLines 4 allpass_most l) where
 module _ (start : Side → ℕ → ℕ) (count : ℕ) (l : SidedLines) (m : List Float) (side : Side) (i : ℕ) (h : i < count) (m' : List Float) {v : ℕ} (at : v ≡ get_or (l.positions side) i 0) (same : get_or m' (place_of start l side i) nan ≡ get_or m (place_of start l side i) nan) where
   read : get_or m' (start side i + v) nan ≡ get_or (held start count l m side) i nan
   unfolding held
-  read = ap (λ (w : ℕ). get_or m' (start side i + w) nan) at ∙ same ∙ sym (get_d-table (λ k. get_or m (place_of start l side k) nan) count i nan h)
+  read = ap (λ (w : ℕ). get_or m' (start side i + w) nan) at ∙ same ∙ sym (get_or-table (λ k. get_or m (place_of start l side k) nan) count i nan h)
 
 -- a comb, whose store is read as y
 module _ (x d f : Float) (l : SidedLines) (z : Side → List Float) (m : List Float) (side : Side) (i : ℕ) (h : i < 8) (m' : List Float) {v : ℕ} {y : Float} (at : v ≡ get_or (l.positions side) i 0) (kept : y ≡ get_or (z side) i nan) (same : get_or m' (place_of comb_start l side i) nan ≡ get_or m (place_of comb_start l side i) nan) where

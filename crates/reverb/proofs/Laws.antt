@@ -7,7 +7,8 @@ use Rattle.reverb.specs.declared.Reverb.{Reverb}
 use Rattle.reverb.specs.Tunings.{Side, left, right, comb_most, allpass_most, predelay_size, lengths_at, no_lengths, lengths_for}
 use Rattle.reverb.specs.Tank.{SidedLines, all_below, positions_fit, InLines}
 use Rattle.reverb.specs.Reverb.{combs, allpasses, state_fits}
-use Rattle.reverb.proofs.Lists.{and-false, below-zero}
+use mathlib.Core.Bool.{and-false}
+use Rattle.reverb.proofs.Lists.{below-zero}
 use Rattle.reverb.proofs.Scaling.{roomy}
 
 pub record Fits (s : Reverb) : Type 0 where

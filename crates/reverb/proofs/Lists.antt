@@ -1,22 +1,10 @@
 -- Tests over lists of positions and lengths, entry by entry: positions below their lengths, and lines that are zeros. Assumes nothing.
-use Rattle.std.proofs.Common.{◌≡◌, ℕ, zero, suc, ◌+◌, ◌-◌, ◌*◌, ◌<◌, ◌≤◌, Bool, true, false, ◌&&◌, ltb, List, [], ◌∷◌, length, get_or, take, drop, refl, ap, le_of_suc-le-suc, not-suc-le-zero, suc-mul, add-one, arith, drop-cons, ltb-true, le-ltb, lt-ltb}
+use Rattle.std.proofs.Common.{◌≡◌, ℕ, zero, suc, ◌+◌, ◌-◌, ◌*◌, ◌<◌, ◌≤◌, true, false, ◌&&◌, ltb, List, [], ◌∷◌, length, get_or, take, drop, refl, ap, le_of_suc-le-suc, not-suc-le-zero, suc-mul, add-one, arith, drop-cons, ltb-true, le-ltb, lt-ltb}
 use lib.Ieee.{Float}
 use Rattle.float64.proofs.Tests.{both, clash}
 use Rattle.common.specs.Line.{next_place, table, all_zero}
 use Rattle.common.proofs.Ring.{next-lt}
 use Rattle.reverb.specs.Tank.{all_below, lines_zero}
-
-pub and_assoc : (a b c : Bool) → (a && b) && c ≡ a && (b && c)
-and_assoc true b c = refl
-and_assoc false b c = refl
-
-pub and-true : (a : Bool) → a && true ≡ a
-and-true true = refl
-and-true false = refl
-
-pub and-false : (a : Bool) → a && false ≡ false
-and-false true = refl
-and-false false = refl
 
 -- ---- positions below their lengths
 

@@ -120,7 +120,7 @@ pub fn predelay_samples(control: f64, rate: f64) -> u64
 
 // The predelay on its part of the tank: it writes first, so that a delay of 0 passes the audio itself.
 fn process_predelay(line: &mut [f64], pos: u64, samples: u64, input: f64) -> f64
-    requires line_value { ListN.length line.old ≡ predelay_size }
+    requires line_len { ListN.length line.old ≡ predelay_size }
     requires pos_lt_predelay_size { pos < predelay_size }
     requires samples_lt_predelay_size { samples < predelay_size }
     ensures value { result ≡ delayed 0 pos samples input line.old }

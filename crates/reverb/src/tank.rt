@@ -64,8 +64,8 @@ pub fn combs(
     damping: f64,
 ) -> Sides
     requires in_lines { InLines 8 comb_most (comb_lines pos_l.old pos_r.old n) }
-    requires filter_state_l_value { ListN.length filter_state_l.old ≡ 8 }
-    requires filter_state_r_value { ListN.length filter_state_r.old ≡ 8 }
+    requires filter_state_l_len { ListN.length filter_state_l.old ≡ 8 }
+    requires filter_state_r_len { ListN.length filter_state_r.old ≡ 8 }
     requires tank_size_bound { tank_size ≤ ListN.length mem.old }
     ensures { CombsStep input damping feedback (comb_lines pos_l.old pos_r.old n)
         (sided filter_state_l.old filter_state_r.old) mem.old

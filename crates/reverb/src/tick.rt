@@ -58,10 +58,10 @@ pub fn advance(
     c: Controls,
 ) -> Answer
     requires n_value { n ≡ lengths_at rate }
-    requires rate_value { state_fits (state_of comb_pos_l.old comb_pos_r.old comb_filter_state_l.old comb_filter_state_r.old
+    requires unit_fits { state_fits (state_of comb_pos_l.old comb_pos_r.old comb_filter_state_l.old comb_filter_state_r.old
         allpass_pos_l.old allpass_pos_r.old predelay_pos.old rate) ≡ true }
     requires tank_size_bound { tank_size ≤ ListN.length mem.old }
-    requires predelay_value { is_number c.predelay ≡ true }
+    requires predelay_is_number { is_number c.predelay ≡ true }
     ensures { from_to (λ k. state_of (lent_at comb_pos_l k) (lent_at comb_pos_r k) (lent_at comb_filter_state_l k)
         (lent_at comb_filter_state_r k) (lent_at allpass_pos_l k) (lent_at allpass_pos_r k) (lent_at predelay_pos k) rate)
         (λ s s'. Advances c s mem.old s' mem.new (answer_reply result)) }

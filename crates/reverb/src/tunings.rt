@@ -22,7 +22,7 @@ pub struct Lengths {
 fn scaled(base: u32, ratio: f64, most: u32) -> u32
     requires least_tuning_le_base { least_tuning ≤ base }
     requires base_le_most_tuning { base ≤ most_tuning }
-    requires float_of_value { in_range ratio (fraction 1 8) (float_of 5) ≡ true }
+    requires ratio_in_range { in_range ratio (fraction 1 8) (float_of 5) ≡ true }
     ensures { result ≡ scaled most ratio base }
 {
     let n = float64::whole_part_small(float64::from_u32(base) * ratio) as u32;
@@ -57,12 +57,12 @@ fn beside(n: u32, wide: u32, most: u32) -> u32
 
 // The left and right lengths of the lines with these tunings.
 fn scale(tunings: &[u32], ratio: f64, wide: u32, most: u16, left: &mut [u16], right: &mut [u16])
-    requires tunings_value { tuned tunings.now ≡ true }
-    requires float_of_value { in_range ratio (fraction 1 8) (float_of 5) ≡ true }
+    requires all_tuned { tuned tunings.now ≡ true }
+    requires ratio_in_range { in_range ratio (fraction 1 8) (float_of 5) ≡ true }
     requires wide_le_comb_most { wide ≤ comb_most }
     requires most_le_comb_most { most ≤ comb_most }
-    requires left_value { ListN.length left.old ≡ ListN.length tunings.now }
-    requires right_value { ListN.length right.old ≡ ListN.length tunings.now }
+    requires left_len { ListN.length left.old ≡ ListN.length tunings.now }
+    requires right_len { ListN.length right.old ≡ ListN.length tunings.now }
     ensures left_after { left.new ≡ map (scaled most ratio) tunings.now }
     ensures right_after { right.new ≡ map (λ base. beside most wide (scaled most ratio base)) tunings.now }
 {

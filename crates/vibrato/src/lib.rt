@@ -146,7 +146,7 @@ impl Vibrato {
 
     // (10 + sine x (depth x 10 x 0.9)) x rate / 1000, clamped to 1 to n - 1, n the length of the line.
     fn distance(n: u64, rate: f64, depth: f64, sine: f64) -> f64
-        requires rate_value { rate_fits rate ≡ true }
+        requires rate_in_range { rate_fits rate ≡ true }
         requires n_value { n ≡ line_length rate }
         ensures { result ≡ distance rate depth sine }
     {
@@ -184,7 +184,7 @@ impl Vibrato {
         sine: f64,
     ) -> Ticked
         requires n_value { n ≡ line_length self.sample_rate }
-        requires self_value { number_in vibrato (tick (tick_of (Set audio) (Set depth) (Set mix) frequency sine)) (length mem.old) self ≡ 0 }
+        requires tick_accepted { number_in vibrato (tick (tick_of (Set audio) (Set depth) (Set mix) frequency sine)) (length mem.old) self ≡ 0 }
         ensures { Does vibrato (tick (tick_of (Set audio) (Set depth) (Set mix) frequency sine)) self mem.old result.state
             mem.new (answer_reply result.answer) }
     {

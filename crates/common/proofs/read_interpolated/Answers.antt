@@ -22,31 +22,31 @@ module _ (n : ℕ) (distance : Float) (short : n ≤ 16777217) (held : in_range 
 
 pub whole_part_small-whole-requires : goal.whole_part_small-whole-requires
 whole_part_small-whole-requires c =
-    (parts (length c.args.line.now) c.args.distance c.requires.line_len_bound c.requires.line_value).small
+    (parts (length c.args.line.now) c.args.distance c.requires.line_len_bound c.requires.distance_on_line).small
 
 abbrev here : (c : goal.After-whole_part_small-whole) → (1 ≤ c.whole_part_small-whole.result) × (c.whole_part_small-whole.result < length c.args.line.now)
 here c =
-    in-line (length c.args.line.now) c.args.distance c.requires.line_len_bound c.requires.line_value c.whole_part_small-whole.result c.whole_part_small-whole.ensures
+    in-line (length c.args.line.now) c.args.distance c.requires.line_len_bound c.requires.distance_on_line c.whole_part_small-whole.result c.whole_part_small-whole.ensures
 
 pub overflow_cast-whole : goal.overflow_cast-whole
 overflow_cast-whole c = omega (arith, (here c).1, c.requires.line_len_bound)
 
 abbrev there : (c : goal.After-from_u32) → (1 ≤ c.whole_part_small-whole.result) × (c.whole_part_small-whole.result < length c.args.line.now)
 there c =
-    in-line (length c.args.line.now) c.args.distance c.requires.line_len_bound c.requires.line_value c.whole_part_small-whole.result c.whole_part_small-whole.ensures
+    in-line (length c.args.line.now) c.args.distance c.requires.line_len_bound c.requires.distance_on_line c.whole_part_small-whole.result c.whole_part_small-whole.ensures
 
 pub place_back-p-requires-clause-d_le_n : goal.place_back-p-requires-clause-d_le_n
 place_back-p-requires-clause-d_le_n c = omega (arith, (there c).1)
 
-pub place_back-p-requires-clause-le_d : goal.place_back-p-requires-clause-le_d
-place_back-p-requires-clause-le_d c = (there c).0
+pub place_back-p-requires-clause-d_at_least : goal.place_back-p-requires-clause-d_at_least
+place_back-p-requires-clause-d_at_least c = (there c).0
 
 pub returns : goal.returns
 returns c =
     let line = c.args.line.now in
     let n = length line in
     let d = c.whole_part_small-whole in
-    let within = in-line n c.args.distance c.requires.line_len_bound c.requires.line_value d.result d.ensures in
+    let within = in-line n c.args.distance c.requires.line_len_bound c.requires.distance_on_line d.result d.ensures in
     let before : c.place_before-q.result ≡ place n c.args.w (d.result + 1) =
     c.place_before-q.ensures.value
     ∙ ap (λ (p : ℕ). place n p 1) c.place_back-p.ensures.value

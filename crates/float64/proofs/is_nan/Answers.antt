@@ -2,7 +2,8 @@
 use Rattle.std.proofs.Common.{sym, ◌∙◌}
 use lib.Ieee.{is_nan}
 use Rattle.float64.specs.Number.{is_number}
-use Rattle.float64.proofs.Tests.{nan-test, not-not}
+use mathlib.Core.Bool.{not-not}
+use Rattle.float64.proofs.Tests.{nan-test}
 use Rattle.float64.proofs.is_nan.Goals as goal
 
 pub returns : goal.returns

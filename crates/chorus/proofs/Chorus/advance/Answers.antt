@@ -41,7 +41,7 @@ module _ (t : Tick) (s : Chorus) (m : List Float) (n : ℕ) (size : n ≡ line_l
         w_in_bounds : s.write_pos < length (take n m);
         in_bounds : 2 ≤ length (take n m);
         line_len_bound : length (take n m) ≤ 16777217;
-        swing_value : is_number (swept s.sample_rate d sine) ≡ true;
+        swept_is_number : is_number (swept s.sample_rate d sine) ≡ true;
       }
   unfolding is_number Ieee.fits is_nan round
   asks sine g f =
@@ -52,32 +52,32 @@ module _ (t : Tick) (s : Chorus) (m : List Float) (n : ℕ) (size : n ≡ line_l
         w_in_bounds = omega (arith, part, inside);
         in_bounds = omega (arith, part, bounds.0);
         line_len_bound = omega (arith, part, bounds.1);
-        swing_value = rw g number;
+        swept_is_number = rw g number;
       }
 
 pub next-state-requires : goal.next-state-requires
-next-state-requires c = inside _ _ _ _ c.requires.n_value c.requires.self_value
+next-state-requires c = inside _ _ _ _ c.requires.n_value c.requires.tick_accepted
 
 pub voice-d0-requires : goal.voice-d0-requires
 unfolding of_bits of_int
 voice-d0-requires c =
-    let r = c.requires in asks _ _ _ _ r.n_value r.self_value c.args.sine0 c.clamp.ensures (curves _ _ _ _ r.n_value r.self_value).sine0
+    let r = c.requires in asks _ _ _ _ r.n_value r.tick_accepted c.args.sine0 c.clamp.ensures (curves _ _ _ _ r.n_value r.tick_accepted).sine0
 
 pub voice-d1-requires : goal.voice-d1-requires
 unfolding of_bits of_int
 voice-d1-requires c =
-    let r = c.requires in asks _ _ _ _ r.n_value r.self_value c.args.sine1 c.clamp.ensures (curves _ _ _ _ r.n_value r.self_value).sine1
+    let r = c.requires in asks _ _ _ _ r.n_value r.tick_accepted c.args.sine1 c.clamp.ensures (curves _ _ _ _ r.n_value r.tick_accepted).sine1
 
 pub voice-d2-requires : goal.voice-d2-requires
 unfolding of_bits of_int
 voice-d2-requires c =
-    let r = c.requires in asks _ _ _ _ r.n_value r.self_value c.args.sine2 c.clamp.ensures (curves _ _ _ _ r.n_value r.self_value).sine2
+    let r = c.requires in asks _ _ _ _ r.n_value r.tick_accepted c.args.sine2 c.clamp.ensures (curves _ _ _ _ r.n_value r.tick_accepted).sine2
 
 pub bounds-mem-w : goal.bounds-mem-w
-bounds-mem-w c = let r = c.requires in omega (arith, inside _ _ _ _ r.n_value r.self_value, room _ _ _ _ r.n_value r.self_value)
+bounds-mem-w c = let r = c.requires in omega (arith, inside _ _ _ _ r.n_value r.tick_accepted, room _ _ _ _ r.n_value r.tick_accepted)
 
 pub offset_bounds-mem-w : goal.offset_bounds-mem-w
-offset_bounds-mem-w c = let r = c.requires in omega (arith, inside _ _ _ _ r.n_value r.self_value, room _ _ _ _ r.n_value r.self_value)
+offset_bounds-mem-w c = let r = c.requires in omega (arith, inside _ _ _ _ r.n_value r.tick_accepted, room _ _ _ _ r.n_value r.tick_accepted)
 
 pub returns : goal.returns
 unfolding of_bits of_int
@@ -86,7 +86,7 @@ returns c =
     let m = a.mem.now in
     let t = tick_of (Set a.audio) (Set a.depth) (Set a.mix) a.frequency a.sine0 a.sine1 a.sine2 in
     let e = c.requires.n_value in
-    let z = c.requires.self_value in
+    let z = c.requires.tick_accepted in
     let x = c.sanitize_audio-input.ensures in
     let l = room t a.self m a.n e z in
     let w = inside t a.self m a.n e z in
@@ -95,6 +95,6 @@ returns c =
     let d2 = voice-is t a.self m e a.sine2 l w c.clamp.ensures c.voice-d2.ensures in
     let next = c.next-state.ensures in
     accepts chorus (tick t) a.self m z
-    (next-is t a.self m e next.write_pos_value next.result_value next.sample_rate_value)
+    (next-is t a.self m e next.write_pos_value next.phases_value next.sample_rate_value)
     (stored_is t a.self m e x)
     (played-is t a.self m e x c.clamp-2.ensures d0 d1 d2 c.mixed-answer.ensures)

@@ -4,7 +4,7 @@ use lib.Ieee.{of_bits, of_int, round}
 use Rattle.chorus.proofs.Laws.{phases-by}
 use Rattle.chorus.proofs.Chorus.next.Goals as goal
 
-pub returns-clause-result_value : goal.returns-clause-result_value
+pub returns-clause-phases_value : goal.returns-clause-phases_value
 unfolding of_bits of_int round
-returns-clause-result_value c =
+returns-clause-phases_value c =
     (λ i. record { phase0 = c.advance_phase.ensures i; phase1 = c.advance_phase-2.ensures i; phase2 = c.advance_phase-3.ensures i }) ∙ phases-by _ _ _

@@ -32,9 +32,9 @@ advance-requires-clause-n_value c =
     let unit = accepted chorus (length c.args.mem.now) reset s (sym c.in_default.ensures) in
     size_is (rate_fits s.sample_rate) (line_length s.sample_rate) c.line_length-n.ensures (fits-parts s unit.state_fits).rate
 
-pub advance-requires-clause-self_value : goal.advance-requires-clause-self_value
+pub advance-requires-clause-tick_accepted : goal.advance-requires-clause-tick_accepted
 unfolding tick_number
-advance-requires-clause-self_value c =
+advance-requires-clause-tick_accepted c =
     let a = c.args in
     let t = tick_of (Set c.match-audio.audio) (Set c.match-depth.depth) (Set c.match-mix.mix) a.frequency a.sine0 a.sine1 a.sine2 in
     sym (tick_row chorus t a.self a.mem.now c.in_default.ensures (cc c.in_default-causes.ensures))

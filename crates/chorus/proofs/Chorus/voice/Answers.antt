@@ -4,6 +4,6 @@ use Rattle.float64.proofs.Ranges.{in-range}
 use Rattle.float64.proofs.Parts.{clamp-whole-in}
 use Rattle.chorus.proofs.Chorus.voice.Goals as goal
 
-pub read_interpolated-requires-clause-line_value : goal.read_interpolated-requires-clause-line_value
-read_interpolated-requires-clause-line_value c =
-    rw c.distance.ensures (in-range (clamp-whole-in (length c.args.line.now - 1) (omega arith) _ (omega arith) c.requires.swing_value))
+pub read_interpolated-requires-clause-distance_on_line : goal.read_interpolated-requires-clause-distance_on_line
+read_interpolated-requires-clause-distance_on_line c =
+    rw c.distance.ensures (in-range (clamp-whole-in (length c.args.line.now - 1) (omega arith) _ (omega arith) c.requires.swept_is_number))

@@ -21,36 +21,36 @@ inside s n e f = let u = fits-parts s f in omega arith
 part : (n : ℕ) (m : List Float) → n ≤ length m → length (take n m) ≡ n
 part n m h = part_length 0 n m n refl (omega arith)
 
-pub target_delay-target-requires-clause-le_n : goal.target_delay-target-requires-clause-le_n
-target_delay-target-requires-clause-le_n c = omega (arith, long c.args.self c.args.n c.requires.n_value c.requires.self_value)
+pub target_delay-target-requires-clause-n_at_least : goal.target_delay-target-requires-clause-n_at_least
+target_delay-target-requires-clause-n_at_least c = omega (arith, long c.args.self c.args.n c.requires.n_value c.requires.self_fits)
 
 pub target_delay-target-requires-clause-n_bound : goal.target_delay-target-requires-clause-n_bound
-target_delay-target-requires-clause-n_bound c = (long c.args.self c.args.n c.requires.n_value c.requires.self_value).1
+target_delay-target-requires-clause-n_bound c = (long c.args.self c.args.n c.requires.n_value c.requires.self_fits).1
 
 pub read_interpolated-delayed-requires-clause-w_in_bounds : goal.read_interpolated-delayed-requires-clause-w_in_bounds
 read_interpolated-delayed-requires-clause-w_in_bounds c =
-    omega (arith, inside c.args.self c.args.n c.requires.n_value c.requires.self_value, part c.args.n c.args.mem.now c.requires.n_in_bounds)
+    omega (arith, inside c.args.self c.args.n c.requires.n_value c.requires.self_fits, part c.args.n c.args.mem.now c.requires.n_in_bounds)
 
 pub read_interpolated-delayed-requires-clause-line_len_bound : goal.read_interpolated-delayed-requires-clause-line_len_bound
 read_interpolated-delayed-requires-clause-line_len_bound c =
-    omega (arith, long c.args.self c.args.n c.requires.n_value c.requires.self_value, part c.args.n c.args.mem.now c.requires.n_in_bounds)
+    omega (arith, long c.args.self c.args.n c.requires.n_value c.requires.self_fits, part c.args.n c.args.mem.now c.requires.n_in_bounds)
 
-pub read_interpolated-delayed-requires-clause-line_value : goal.read_interpolated-delayed-requires-clause-line_value
-read_interpolated-delayed-requires-clause-line_value c =
+pub read_interpolated-delayed-requires-clause-distance_on_line : goal.read_interpolated-delayed-requires-clause-distance_on_line
+read_interpolated-delayed-requires-clause-distance_on_line c =
     let a = c.args in
     let r = c.requires in
-    in-line a.self (fits-parts a.self r.self_value) a.samples r.samples_value (part a.n a.mem.now r.n_in_bounds ∙ r.n_value)
+    in-line a.self (fits-parts a.self r.self_fits) a.samples r.samples_is_number (part a.n a.mem.now r.n_in_bounds ∙ r.n_value)
     (reads-is a.self a.samples r.n_value c.target_delay-target.ensures c.glided-distance.ensures)
 
 pub offset_bounds-mem-w : goal.offset_bounds-mem-w
 offset_bounds-mem-w c =
-    omega (arith, inside c.args.self c.args.n c.requires.n_value c.requires.self_value, long c.args.self c.args.n c.requires.n_value c.requires.self_value)
+    omega (arith, inside c.args.self c.args.n c.requires.n_value c.requires.self_fits, long c.args.self c.args.n c.requires.n_value c.requires.self_fits)
 
 pub bounds-mem-w : goal.bounds-mem-w
-bounds-mem-w c = omega (arith, inside c.args.self c.args.n c.requires.n_value c.requires.self_value, c.requires.n_in_bounds)
+bounds-mem-w c = omega (arith, inside c.args.self c.args.n c.requires.n_value c.requires.self_fits, c.requires.n_in_bounds)
 
 pub next-requires : goal.next-requires
-next-requires c = inside c.args.self c.args.n c.requires.n_value c.requires.self_value
+next-requires c = inside c.args.self c.args.n c.requires.n_value c.requires.self_fits
 
 pub returns-clause-state_value : goal.returns-clause-state_value
 returns-clause-state_value c =
@@ -64,7 +64,7 @@ returns-clause-answer_value c =
     let a = c.args in
     let r = c.requires in
     let d = reads-is a.self a.samples r.n_value c.target_delay-target.ensures c.glided-distance.ensures in
-    let y = delayed-is a.self a.samples r.n_value a.mem.now r.n_in_bounds (inside a.self a.n r.n_value r.self_value) d c.read_interpolated-delayed.ensures in
+    let y = delayed-is a.self a.samples r.n_value a.mem.now r.n_in_bounds (inside a.self a.n r.n_value r.self_fits) d c.read_interpolated-delayed.ensures in
     λ i. played ((c.blend-out.ensures ∙ (λ j. blended (c.sanitize_audio-input.ensures j) (y j) (c.clamp-wet.ensures j))) i ∷ [])
 
 pub returns-clause-mem_after : goal.returns-clause-mem_after
@@ -73,5 +73,5 @@ returns-clause-mem_after c =
     let a = c.args in
     let r = c.requires in
     let d = reads-is a.self a.samples r.n_value c.target_delay-target.ensures c.glided-distance.ensures in
-    let y = delayed-is a.self a.samples r.n_value a.mem.now r.n_in_bounds (inside a.self a.n r.n_value r.self_value) d c.read_interpolated-delayed.ensures in
+    let y = delayed-is a.self a.samples r.n_value a.mem.now r.n_in_bounds (inside a.self a.n r.n_value r.self_fits) d c.read_interpolated-delayed.ensures in
     λ i. set a.mem.now a.self.write_pos (add binary64 (c.sanitize_audio-input.ensures i) (mul binary64 (y i) (c.clamp-back.ensures i)))

@@ -11,9 +11,9 @@ pub returns-then-self-clause-value : goal.returns-then-self-clause-value
 unfolding samples_of of_bits of_int
 returns-then-self-clause-value c = rw (c.if-self.true, c.clamp.ensures)
 
-pub returns-then-self-clause-milliseconds_value : goal.returns-then-self-clause-milliseconds_value
+pub returns-then-self-clause-from_numbers : goal.returns-then-self-clause-from_numbers
 unfolding samples_of of_bits of_int
-returns-then-self-clause-milliseconds_value c = λ e.
+returns-then-self-clause-from_numbers c = λ e.
     let s = c.args.self in
     rw c.if-self.true
     (linear-read s.sample_rate c.args.time s.max_delay_secs (yes c.well_formed.1.0.1) (sym (ap (λ (y : Float). is_number (samples_of s.sample_rate (mul binary64 y (float_of 1000)))) c.clamp.ensures) ∙ e))
@@ -22,6 +22,6 @@ pub returns-clause-value : goal.returns-clause-value
 unfolding samples_of of_bits of_int
 returns-clause-value c = rw c.if-self.false
 
-pub returns-clause-milliseconds_value : goal.returns-clause-milliseconds_value
+pub returns-clause-from_numbers : goal.returns-clause-from_numbers
 unfolding samples_of of_bits of_int
-returns-clause-milliseconds_value c = λ e. rw c.if-self.false (plain-read c.args.self.sample_rate c.args.milliseconds (yes c.well_formed.1.1.0.1) e)
+returns-clause-from_numbers c = λ e. rw c.if-self.false (plain-read c.args.self.sample_rate c.args.milliseconds (yes c.well_formed.1.1.0.1) e)

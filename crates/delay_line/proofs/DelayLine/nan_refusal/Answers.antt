@@ -1,7 +1,7 @@
 -- `DelayLine::nan_refusal` is the whole row of a tick: causes 4 and 3, then 5 and 6. Assumes nothing.
 use Rattle.std.proofs.Common.{sym, ap, ◌∙◌, not, ◌&&◌, ◌||◌}
 use Rattle.float64.specs.Number.{is_number}
-use Rattle.float64.proofs.Tests.{not-not}
+use mathlib.Core.Bool.{not-not}
 use Rattle.port.specs.declared.Port.TheVariants.{Set, Unset}
 use Rattle.common.specs.Signal.{cause_number}
 use Rattle.effect.specs.Run.{reset}

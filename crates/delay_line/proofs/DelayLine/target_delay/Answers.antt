@@ -5,4 +5,4 @@ use Rattle.delay_line.proofs.DelayLine.target_delay.Goals as goal
 
 pub returns : goal.returns
 returns c =
-    c.held_to_line.ensures ∙ clamped-halves c.args.samples (c.args.n - 1) (omega (arith, c.requires.n_bound)) (omega (arith, c.requires.le_n))
+    c.held_to_line.ensures ∙ clamped-halves c.args.samples (c.args.n - 1) (omega (arith, c.requires.n_bound)) (omega (arith, c.requires.n_at_least))

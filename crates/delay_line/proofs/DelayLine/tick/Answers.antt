@@ -56,9 +56,9 @@ numbers linear samples time feedback mix ms {p} {q} {r} h d e f k =
     let j = neither q r i.1 in
     no_nan linear time feedback mix ms (h (not-false (is_number samples) (sym d ∙ i.0))) (not-false (is_number feedback) (sym e ∙ j.0)) (not-false (is_number mix) (sym f ∙ j.1))
 
-pub advance-requires-clause-samples_value : goal.advance-requires-clause-samples_value
+pub advance-requires-clause-samples_is_number : goal.advance-requires-clause-samples_is_number
 unfolding delay_ms
-advance-requires-clause-samples_value c =
+advance-requires-clause-samples_is_number c =
     let a = c.args in
     let s = a.self in
     let n = length a.mem.now in
@@ -69,7 +69,7 @@ advance-requires-clause-samples_value c =
     let none : tick_number t s.linear_time ≡ 0 =
     elim c.if-is_nan.branch [
       | then-is_nan+in_default-met w ↦ row s n time back wet a.milliseconds w.in_default-met.ensures
-      | else-is_nan w ↦ numbers s.linear_time c.delay_samples-samples.result time back wet a.milliseconds c.delay_samples-samples.ensures.milliseconds_value c.is_nan.ensures c.is_nan-2.ensures c.is_nan-3.ensures w.if-is_nan.false
+      | else-is_nan w ↦ numbers s.linear_time c.delay_samples-samples.result time back wet a.milliseconds c.delay_samples-samples.ensures.from_numbers c.is_nan.ensures c.is_nan-2.ensures c.is_nan-3.ensures w.if-is_nan.false
     ] in
     let f = fits-parts s (accepted delay_line n reset s (sym c.in_default-refusal.ensures)).state_fits in
     ap is_number c.delay_samples-samples.ensures.value ∙ samples-number t s f (tick-fits t s.linear_time none)
@@ -89,7 +89,7 @@ returns c =
     let none : tick_number (set_tick c.match-time.time c.match-feedback.feedback c.match-mix.mix a.milliseconds) s.linear_time ≡ 0 =
     elim c.if-is_nan.branch [
       | then-is_nan+in_default-met w ↦ row s n c.match-time.time c.match-feedback.feedback c.match-mix.mix a.milliseconds w.in_default-met.ensures
-      | else-is_nan w ↦ numbers s.linear_time c.delay_samples-samples.result c.match-time.time c.match-feedback.feedback c.match-mix.mix a.milliseconds c.delay_samples-samples.ensures.milliseconds_value c.is_nan.ensures c.is_nan-2.ensures c.is_nan-3.ensures w.if-is_nan.false
+      | else-is_nan w ↦ numbers s.linear_time c.delay_samples-samples.result c.match-time.time c.match-feedback.feedback c.match-mix.mix a.milliseconds c.delay_samples-samples.ensures.from_numbers c.is_nan.ensures c.is_nan-2.ensures c.is_nan-3.ensures w.if-is_nan.false
     ] in
     let u = accepted delay_line n reset s (sym c.in_default-refusal.ensures) in
     let read = c.delay_samples-samples.ensures.value in

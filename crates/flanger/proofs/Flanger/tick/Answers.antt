@@ -30,9 +30,9 @@ pub advance-requires-clause-n_value : goal.advance-requires-clause-n_value
 advance-requires-clause-n_value c =
     line_is c.args.self c.line_length-n.ensures (accepted flanger (length c.args.mem.now) reset c.args.self (sym c.in_default.ensures)).state_fits
 
-pub advance-requires-clause-self_value : goal.advance-requires-clause-self_value
+pub advance-requires-clause-tick_accepted : goal.advance-requires-clause-tick_accepted
 unfolding tick_number
-advance-requires-clause-self_value c =
+advance-requires-clause-tick_accepted c =
     let t = tick_of (Set c.match-audio.audio) (Set c.match-depth.depth) (Set c.match-feedback.feedback) (Set c.match-mix.mix) c.args.frequency c.args.sine0 c.args.sine1 in
     sym (tick_row flanger t c.args.self c.args.mem.now c.in_default.ensures (cc c.in_default-causes.ensures))
 

@@ -80,8 +80,8 @@ advance-requires-clause-n_value c =
     let s = state_of a.comb_pos_l.now a.comb_pos_r.now a.comb_filter_state_l.now a.comb_filter_state_r.now a.allpass_pos_l.now a.allpass_pos_r.now a.predelay_pos.now a.rate in
     long s c.lengths_at-n.ensures c.if-not-fits.ensures
 
-pub advance-requires-clause-rate_value : goal.advance-requires-clause-rate_value
-advance-requires-clause-rate_value c = passed _ c.lengths_at-n.ensures c.if-not-fits.ensures
+pub advance-requires-clause-unit_fits : goal.advance-requires-clause-unit_fits
+advance-requires-clause-unit_fits c = passed _ c.lengths_at-n.ensures c.if-not-fits.ensures
 
 pub returns : goal.returns
 returns c =

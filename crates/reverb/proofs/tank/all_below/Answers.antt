@@ -1,7 +1,8 @@
 -- `tank::all_below` is `all_below`, one entry after the other. Assumes nothing.
 use Rattle.std.proofs.Common.{◌+◌, Bool, ◌&&◌, ltb, get_or, drop, sym, ap, ◌∙◌, arith, drop_of_length-le}
 use Rattle.reverb.specs.Tank.{all_below}
-use Rattle.reverb.proofs.Lists.{and_assoc, and-true, below_more}
+use mathlib.Core.Bool.{and_assoc, and-true}
+use Rattle.reverb.proofs.Lists.{below_more}
 use Rattle.reverb.proofs.tank.all_below.Goals as goal
 
 pub loop-i-preserved : goal.loop-i-preserved

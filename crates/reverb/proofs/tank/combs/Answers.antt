@@ -44,8 +44,8 @@ loop-i-preserved c =
     let f = c.requires.in_lines in
     let long-l : i < length a.pos_l.now = omega (arith, h, lines_long f left) in
     let long-r : i < length a.pos_r.now = omega (arith, h, lines_long f right) in
-    let stores-l : i < length a.filter_state_l.now = omega (arith, h, c.requires.filter_state_l_value) in
-    let stores-r : i < length a.filter_state_r.now = omega (arith, h, c.requires.filter_state_r_value) in
+    let stores-l : i < length a.filter_state_l.now = omega (arith, h, c.requires.filter_state_l_len) in
+    let stores-r : i < length a.filter_state_r.now = omega (arith, h, c.requires.filter_state_r_len) in
     let w = comb_write a.input a.damping a.feedback u z (combs_held u m) in
     let apart : (v y : Side) (k : ℕ) → k < i → (w i v).place ≢ (w k y).place = λ v y k g. comb-apart f v y i k g h in
     let across = comb-across f i h in
@@ -86,8 +86,8 @@ returns c =
           (rw e at l.invariant.3 ∙ tabled-all (next_position u right) 8 a.pos_r.now (lines_long f right));
       stores =
           by-sides (λ side. table (comb_stored d z h side) 8)
-          (rw e at l.invariant.4 ∙ tabled-all (comb_stored d z h left) 8 (z left) c.requires.filter_state_l_value)
-          (rw e at l.invariant.5 ∙ tabled-all (comb_stored d z h right) 8 (z right) c.requires.filter_state_r_value);
+          (rw e at l.invariant.4 ∙ tabled-all (comb_stored d z h left) 8 (z left) c.requires.filter_state_l_len)
+          (rw e at l.invariant.5 ∙ tabled-all (comb_stored d z h right) 8 (z right) c.requires.filter_state_r_len);
       memory = rw e at l.invariant.1;
       sums = by-sides (λ side. sum_of (h side) 8) (rw e at l.invariant.6) (rw e at l.invariant.7);
     }

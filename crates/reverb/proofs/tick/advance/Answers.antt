@@ -15,22 +15,22 @@ use Rattle.reverb.proofs.Ticks.{advances}
 use Rattle.reverb.proofs.tick.advance.Goals as goal
 
 pub predelay_at-delayed-requires-clause-pos_lt_predelay_size : goal.predelay_at-delayed-requires-clause-pos_lt_predelay_size
-predelay_at-delayed-requires-clause-pos_lt_predelay_size c = (fits-parts _ c.requires.rate_value).predelay
+predelay_at-delayed-requires-clause-pos_lt_predelay_size c = (fits-parts _ c.requires.unit_fits).predelay
 
 pub predelay_at-delayed-requires-clause-samples_lt_predelay_size : goal.predelay_at-delayed-requires-clause-samples_lt_predelay_size
 unfolding Ieee.fits le of_bits of_int
 predelay_at-delayed-requires-clause-samples_lt_predelay_size c =
     rw (c.predelay_samples-samples.ensures, c.clamp-2.ensures)
-    (delay-less _ c.args.rate (clamp-in c.args.c.predelay tt tt c.requires.predelay_value) (fits-parts _ c.requires.rate_value).rate)
+    (delay-less _ c.args.rate (clamp-in c.args.c.predelay tt tt c.requires.predelay_is_number) (fits-parts _ c.requires.unit_fits).rate)
 
 pub next_place-requires : goal.next_place-requires
-next_place-requires c = (fits-parts _ c.requires.rate_value).predelay
+next_place-requires c = (fits-parts _ c.requires.unit_fits).predelay
 
 pub combs-sums-requires-clause-in_lines : goal.combs-sums-requires-clause-in_lines
-combs-sums-requires-clause-in_lines c = rw c.requires.n_value (fits-parts _ c.requires.rate_value).combs
+combs-sums-requires-clause-in_lines c = rw c.requires.n_value (fits-parts _ c.requires.unit_fits).combs
 
 pub allpasses-passed-requires-clause-in_lines : goal.allpasses-passed-requires-clause-in_lines
-allpasses-passed-requires-clause-in_lines c = rw c.requires.n_value (fits-parts _ c.requires.rate_value).allpasses
+allpasses-passed-requires-clause-in_lines c = rw c.requires.n_value (fits-parts _ c.requires.unit_fits).allpasses
 
 pub returns : goal.returns
 unfolding of_bits of_int round
@@ -41,7 +41,7 @@ returns c =
     let passed = c.allpasses-passed.result in
     let audio = c.sanitize_audio-input.ensures in
     let samples = c.predelay_samples-samples.ensures ∙ ap (λ (x : Float). delay_samples x a.rate) c.clamp-2.ensures in
-    advances a.c _ m (fits-parts _ c.requires.rate_value) c.requires.n_value
+    advances a.c _ m (fits-parts _ c.requires.unit_fits) c.requires.n_value
     (c.predelay_at-delayed.ensures.value ∙ (λ i. delayed predelay_start a.predelay_pos.now (samples i) (audio i) m))
     (ap (λ (x : Float). mul binary64 x _) c.clamp-damping.ensures)
     (ap (λ (x : Float). add binary64 _ (mul binary64 x _)) c.clamp.ensures)

@@ -9,10 +9,10 @@ pub loop-i-init : goal.loop-i-init
 loop-i-init c = (omega arith, tabled-none _ _, tabled-none _ _)
 
 pub scaled-n-requires-clause-least_tuning_le_base : goal.scaled-n-requires-clause-least_tuning_le_base
-scaled-n-requires-clause-least_tuning_le_base c = (tuned-at c.args.tunings.now c.loop-i.i c.requires.tunings_value (omega arith)).0
+scaled-n-requires-clause-least_tuning_le_base c = (tuned-at c.args.tunings.now c.loop-i.i c.requires.all_tuned (omega arith)).0
 
 pub scaled-n-requires-clause-base_le_most_tuning : goal.scaled-n-requires-clause-base_le_most_tuning
-scaled-n-requires-clause-base_le_most_tuning c = (tuned-at c.args.tunings.now c.loop-i.i c.requires.tunings_value (omega arith)).1
+scaled-n-requires-clause-base_le_most_tuning c = (tuned-at c.args.tunings.now c.loop-i.i c.requires.all_tuned (omega arith)).1
 
 pub overflow_cast-left : goal.overflow_cast-left
 unfolding scaled
@@ -41,11 +41,11 @@ returns-clause-left_after c =
     let a = c.args in
     let t = a.tunings.now in
     let e : c.loop-i.i ≡ length t = omega arith in
-    rw e at c.loop-i.invariant.1 ∙ tabled-all _ (length t) a.left.now c.requires.left_value ∙ table-map (λ k. scaled a.most a.ratio k) t 0
+    rw e at c.loop-i.invariant.1 ∙ tabled-all _ (length t) a.left.now c.requires.left_len ∙ table-map (λ k. scaled a.most a.ratio k) t 0
 
 pub returns-clause-right_after : goal.returns-clause-right_after
 returns-clause-right_after c =
     let a = c.args in
     let t = a.tunings.now in
     let e : c.loop-i.i ≡ length t = omega arith in
-    rw e at c.loop-i.invariant.2 ∙ tabled-all _ (length t) a.right.now c.requires.right_value ∙ table-map (λ k. beside a.most a.wide (scaled a.most a.ratio k)) t 0
+    rw e at c.loop-i.invariant.2 ∙ tabled-all _ (length t) a.right.now c.requires.right_len ∙ table-map (λ k. beside a.most a.wide (scaled a.most a.ratio k)) t 0

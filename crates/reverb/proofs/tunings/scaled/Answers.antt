@@ -13,12 +13,12 @@ cut-is ratio base n x e c = c ∙ ap (λ (y : Float). whole_part (mul binary64 y
 pub whole_part_small-n-requires : goal.whole_part_small-n-requires
 whole_part_small-n-requires c =
     let r = c.requires in
-    rw c.from_u32.ensures (product_small c.args.ratio c.args.base r.least_tuning_le_base r.base_le_most_tuning r.float_of_value)
+    rw c.from_u32.ensures (product_small c.args.ratio c.args.base r.least_tuning_le_base r.base_le_most_tuning r.ratio_in_range)
 
 pub overflow_cast-n : goal.overflow_cast-n
 overflow_cast-n c =
     let r = c.requires in
-    omega (arith, cut-is c.args.ratio c.args.base _ _ c.from_u32.ensures c.whole_part_small-n.ensures, product-cut c.args.ratio c.args.base r.least_tuning_le_base r.base_le_most_tuning r.float_of_value)
+    omega (arith, cut-is c.args.ratio c.args.base _ _ c.from_u32.ensures c.whole_part_small-n.ensures, product-cut c.args.ratio c.args.base r.least_tuning_le_base r.base_le_most_tuning r.ratio_in_range)
 
 pub returns-then-n-most : goal.returns-then-n-most
 unfolding scaled

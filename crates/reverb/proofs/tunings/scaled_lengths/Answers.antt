@@ -6,21 +6,21 @@ use Rattle.reverb.specs.Tunings.{comb_most, allpass_most, comb_tunings, allpass_
 use Rattle.reverb.proofs.Scaling.{ratio-fits, beside-capped}
 use Rattle.reverb.proofs.tunings.scaled_lengths.Goals as goal
 
-pub scale-requires-clause-tunings_value : goal.scale-requires-clause-tunings_value
+pub scale-requires-clause-all_tuned : goal.scale-requires-clause-all_tuned
 unfolding tuned
-scale-requires-clause-tunings_value c = refl
+scale-requires-clause-all_tuned c = refl
 
-pub scale-requires-clause-float_of_value : goal.scale-requires-clause-float_of_value
+pub scale-requires-clause-ratio_in_range : goal.scale-requires-clause-ratio_in_range
 unfolding ratio of_bits of_int
-scale-requires-clause-float_of_value c = ratio-fits c.args.rate (sym c.rate_fits.ensures ∙ c.if-not-rate_fits.false)
+scale-requires-clause-ratio_in_range c = ratio-fits c.args.rate (sym c.rate_fits.ensures ∙ c.if-not-rate_fits.false)
 
-pub scale-requires-2-clause-tunings_value : goal.scale-requires-2-clause-tunings_value
+pub scale-requires-2-clause-all_tuned : goal.scale-requires-2-clause-all_tuned
 unfolding tuned
-scale-requires-2-clause-tunings_value c = refl
+scale-requires-2-clause-all_tuned c = refl
 
-pub scale-requires-2-clause-float_of_value : goal.scale-requires-2-clause-float_of_value
+pub scale-requires-2-clause-ratio_in_range : goal.scale-requires-2-clause-ratio_in_range
 unfolding ratio of_bits of_int
-scale-requires-2-clause-float_of_value c = ratio-fits c.args.rate (sym c.rate_fits.ensures ∙ c.if-not-rate_fits.false)
+scale-requires-2-clause-ratio_in_range c = ratio-fits c.args.rate (sym c.rate_fits.ensures ∙ c.if-not-rate_fits.false)
 
 -- the right lengths, which the code works out by the spread held to the longest comb
 right-are : (most wide : ℕ) (r : Float) (tunings lengths : List ℕ) → most ≤ comb_most → wide ≡ min (spread r) comb_most

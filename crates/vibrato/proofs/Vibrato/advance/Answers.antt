@@ -45,42 +45,42 @@ handed audio depth mix frequency sine = tick_of (Set audio) (Set depth) (Set mix
 
 pub next-state-requires : goal.next-state-requires
 next-state-requires c =
-    let a = c.args in (taken (handed a.audio a.depth a.mix a.frequency a.sine) a.self a.mem.now a.n c.requires.n_value c.requires.self_value).inside
+    let a = c.args in (taken (handed a.audio a.depth a.mix a.frequency a.sine) a.self a.mem.now a.n c.requires.n_value c.requires.tick_accepted).inside
 
-pub distance-distance-requires-clause-rate_value : goal.distance-distance-requires-clause-rate_value
-distance-distance-requires-clause-rate_value c =
-    let a = c.args in (taken (handed a.audio a.depth a.mix a.frequency a.sine) a.self a.mem.now a.n c.requires.n_value c.requires.self_value).unit.rate
+pub distance-distance-requires-clause-rate_in_range : goal.distance-distance-requires-clause-rate_in_range
+distance-distance-requires-clause-rate_in_range c =
+    let a = c.args in (taken (handed a.audio a.depth a.mix a.frequency a.sine) a.self a.mem.now a.n c.requires.n_value c.requires.tick_accepted).unit.rate
 
 pub read_interpolated-delayed-requires-clause-w_in_bounds : goal.read_interpolated-delayed-requires-clause-w_in_bounds
 read_interpolated-delayed-requires-clause-w_in_bounds c =
     let a = c.args in
-    let k = taken (handed a.audio a.depth a.mix a.frequency a.sine) a.self a.mem.now a.n c.requires.n_value c.requires.self_value in
+    let k = taken (handed a.audio a.depth a.mix a.frequency a.sine) a.self a.mem.now a.n c.requires.n_value c.requires.tick_accepted in
     rw k.part k.inside
 
 pub read_interpolated-delayed-requires-clause-line_len_bound : goal.read_interpolated-delayed-requires-clause-line_len_bound
 read_interpolated-delayed-requires-clause-line_len_bound c =
     let a = c.args in
-    let k = taken (handed a.audio a.depth a.mix a.frequency a.sine) a.self a.mem.now a.n c.requires.n_value c.requires.self_value in
+    let k = taken (handed a.audio a.depth a.mix a.frequency a.sine) a.self a.mem.now a.n c.requires.n_value c.requires.tick_accepted in
     rw k.part (omega arith)
 
-pub read_interpolated-delayed-requires-clause-line_value : goal.read_interpolated-delayed-requires-clause-line_value
+pub read_interpolated-delayed-requires-clause-distance_on_line : goal.read_interpolated-delayed-requires-clause-distance_on_line
 unfolding is_number Ieee.fits is_nan of_bits of_int round
-read_interpolated-delayed-requires-clause-line_value c =
+read_interpolated-delayed-requires-clause-distance_on_line c =
     let a = c.args in
-    let k = taken (handed a.audio a.depth a.mix a.frequency a.sine) a.self a.mem.now a.n c.requires.n_value c.requires.self_value in
+    let k = taken (handed a.audio a.depth a.mix a.frequency a.sine) a.self a.mem.now a.n c.requires.n_value c.requires.tick_accepted in
     rw (k.part, c.distance-distance.ensures, c.clamp-amount.ensures, c.requires.n_value)
     (in-range (distance-in a.self.sample_rate _ a.sine k.unit.rate (control-in (Set a.depth) half k.curves.depth refl) k.curves.sine))
 
 pub offset_bounds-mem-w : goal.offset_bounds-mem-w
 offset_bounds-mem-w c =
     let a = c.args in
-    let k = taken (handed a.audio a.depth a.mix a.frequency a.sine) a.self a.mem.now a.n c.requires.n_value c.requires.self_value in
+    let k = taken (handed a.audio a.depth a.mix a.frequency a.sine) a.self a.mem.now a.n c.requires.n_value c.requires.tick_accepted in
     omega arith
 
 pub bounds-mem-w : goal.bounds-mem-w
 bounds-mem-w c =
     let a = c.args in
-    let k = taken (handed a.audio a.depth a.mix a.frequency a.sine) a.self a.mem.now a.n c.requires.n_value c.requires.self_value in
+    let k = taken (handed a.audio a.depth a.mix a.frequency a.sine) a.self a.mem.now a.n c.requires.n_value c.requires.tick_accepted in
     omega arith
 
 pub returns : goal.returns
@@ -90,7 +90,7 @@ returns c =
     let m = a.mem.now in
     let t = handed a.audio a.depth a.mix a.frequency a.sine in
     let e = c.requires.n_value in
-    let z = c.requires.self_value in
+    let z = c.requires.tick_accepted in
     let k = taken t a.self m a.n e z in
     let delayed = delayed-is t a.self m e k.room k.inside c.clamp-amount.ensures c.distance-distance.ensures c.read_interpolated-delayed.ensures in
     accepts vibrato (tick t) a.self m z

@@ -11,13 +11,13 @@ bounds : (n : ℕ) (rate : Float) → rate_fits rate ≡ true → n ≡ line_len
 bounds n rate h e = let l = length-fits rate h in (omega arith, omega arith)
 
 pub overflow_sub-n : goal.overflow_sub-n
-overflow_sub-n c = omega (arith, (bounds c.args.n c.args.rate c.requires.rate_value c.requires.n_value).0)
+overflow_sub-n c = omega (arith, (bounds c.args.n c.args.rate c.requires.rate_in_range c.requires.n_value).0)
 
 pub overflow_cast-n : goal.overflow_cast-n
-overflow_cast-n c = omega (arith, (bounds c.args.n c.args.rate c.requires.rate_value c.requires.n_value).1)
+overflow_cast-n c = omega (arith, (bounds c.args.n c.args.rate c.requires.rate_in_range c.requires.n_value).1)
 
 pub returns : goal.returns
 unfolding distance mul of_bits of_int round
 returns c =
-    let b = bounds c.args.n c.args.rate c.requires.rate_value c.requires.n_value in
+    let b = bounds c.args.n c.args.rate c.requires.rate_in_range c.requires.n_value in
     rw (c.held_to_line.ensures, ← c.requires.n_value) (clamped-halves _ (c.args.n - 1) (omega (arith, b.1)) (omega (arith, b.0)))
