@@ -2,9 +2,8 @@
  * room_effects.h: the room effects for C99 and C++11 hosts.
  *
  * Link with target/staticlib/libroom_effects.a, which `tools/archive room_effects` makes, and `make host` too. It is for
- * x86-64 Linux: the Rattle kit compiles for no other processor. On Arm the proofs can be checked, with the same verdict, and
- * what was compiled can be run in an emulator, but the archive links only into x86-64 programs. docs/DEMANDS.md has what is
- * promised of the calls, point by point, and what holds each point.
+ * Linux on processors of the level x86-64-v2 (SSE4.1 among it), for which the Rattle kit compiles. docs/DEMANDS.md has what
+ * is promised of the calls, point by point, and what holds each point.
  *
  * How to use an effect E
  *
