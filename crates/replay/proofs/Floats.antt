@@ -1,4 +1,4 @@
--- Floats as data and as bits: which patterns are a NaN's, and two floats with the same bits are one.
+-- Floats as data and as bits: which patterns are a NaN's, and two floats with the same bits are one. Assumes nothing.
 use Rattle.std.proofs.Common.{◌≡◌, ℕ, ◌%◌, ◌<◌, true, T, refl, sym, ap, subst, ◌∙◌}
 use Rattle.std.specs.Float.{binary64}
 use Rattle.std.specs.Float.Ieee.{Float, nan, inf, fin, fits, is_nan, of_bits, to_bits}

@@ -1,4 +1,4 @@
--- How a file of stored answers lies: a start, and then records. Definitions only.
+-- How a file of stored answers lies: a start, and then records. Definitions only. Assumes nothing.
 use Rattle.std.specs.Prelude.{ℕ, ◌-◌, ◌/◌, List, length}
 use Rattle.replay.specs.declared.units.Effect.{Effect}
 use Rattle.replay.specs.declared.units.Effect.TheVariants.{Tremolo, Vibrato, Chorus, Flanger, Delay, Reverb}

@@ -1,4 +1,4 @@
--- What a call has to answer, and the reverb to be after it, to be what a record says. Definitions only.
+-- What a call has to answer, and the reverb to be after it, to be what a record says. Definitions only. Assumes nothing.
 use Rattle.std.specs.Prelude.{ℕ, ◌≡◌, ◌+◌, ◌/◌, ◌%◌, ◌==◌, ⊤, List, [], ◌∷◌, ◌++◌}
 use Rattle.port.specs.Answer.{Reply, reply_number, reply_sample}
 use Rattle.reverb.specs.declared.Reverb as state

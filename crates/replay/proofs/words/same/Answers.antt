@@ -1,4 +1,4 @@
--- `replay::words::same`: two NaNs are equal, and two numbers are by their bits.
+-- `replay::words::same`: two NaNs are equal, and two numbers are by their bits. Assumes nothing.
 use Rattle.std.proofs.Common.{sym, ap, ◌∙◌, eqb-true, eq-eqb}
 use Rattle.std.specs.Float.{binary64}
 use Rattle.std.specs.Float.Ieee.{is_nan, to_bits}

@@ -1,4 +1,4 @@
--- `replay::words::Record::float`: the patterns above infinity's are those of a NaN, all others are a number's.
+-- `replay::words::Record::float`: the patterns above infinity's are those of a NaN, all others are a number's. Assumes nothing.
 use Rattle.std.proofs.Common.{sym, ap, ◌∙◌}
 use Rattle.std.specs.Float.{binary64}
 use Rattle.std.specs.Float.Ieee.{of_bits}

@@ -1,4 +1,4 @@
--- `replay::words::Record::new`: what is behind the copied bytes is still the zeros.
+-- `replay::words::Record::new`: what is behind the copied bytes is still the zeros. Assumes nothing.
 use Rattle.std.proofs.lemmas.List.{drop-replicate}
 use Rattle.replay.proofs.words.Record.new.Goals as goal
 
