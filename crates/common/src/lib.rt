@@ -23,19 +23,12 @@ pub fn blend(a: f64, b: f64, f: f64) -> f64
     a * (1.0 - f) + b * f
 }
 
-// The phase after one step: add; at 1 or more, subtract 1. The last arm is a NaN's. Tested in this order it compiles to a branch, which is nearly
-// always taken, and the next phase waits for the sum alone.
+// The phase after one step: add; at 1 or more, subtract 1.
 pub fn advance_phase(phase: f64, step: f64) -> f64
     ensures { result ≡ advanced phase step }
 {
     let next = phase + step;
-    if next < 1.0 {
-        next
-    } else if next >= 1.0 {
-        next - 1.0
-    } else {
-        next
-    }
+    if next >= 1.0 { next - 1.0 } else { next }
 }
 
 // Causes 5 and 6 of a tick: whether a control that it reads is NaN, and whether its curve numbers are in range.
