@@ -51,5 +51,5 @@ pub record Effect : Type 1 where
   pub next : Tick → State → List Float → State
   pub writes : Tick → State → List Float → List Write
   pub samples : Tick → State → List Float → List Float
-  -- whether every place in use is +0 or −0
+  -- whether the unit is silent: every place in use, of a phaser every number of its chains, is +0 or −0
   pub silence : State → List Float → Bool

@@ -5,8 +5,8 @@ use mathlib.Core.Bool.{true, false}
 use mathlib.Core.List.{List}
 use lib.Ieee.{Float, le, lt, of_int}
 use lib.Ieee as Ieee
-use Rattle.float64.specs.Number.{plus_zero, rate_fits, phase_fits, in_range, in_unit}
-use Rattle.common.proofs.Phases.{phase-stays}
+use Rattle.float64.specs.Number.{plus_zero, rate_fits, phase_fits, in_range}
+use Rattle.common.proofs.Phases.{zero-phase, phase-stays}
 use Rattle.common.proofs.Ring.{next-lt}
 use Rattle.effect.proofs.Table.{none_1}
 use Rattle.effect.proofs.Laws.{Laws, Below}
@@ -21,10 +21,6 @@ use Rattle.flanger.proofs.Laws.{fits-parts, fit, length-fits, tick-fits}
 blank-refused : state_fits blank ≡ false
 unfolding state_fits in_range le of_int Ieee.fits
 blank-refused = refl
-
-zero-phase : phase_fits plus_zero ≡ true
-unfolding in_unit le lt of_int Ieee.fits
-zero-phase = refl
 
 -- a clearing leaves a state that passes, with every phase that does
 cleared-fits : (phase rate : Float) → rate_fits rate ≡ true → phase_fits phase ≡ true → state_fits (cleared phase rate) ≡ true

@@ -15,9 +15,9 @@ yes h = subst T (sym h) tt
 pub no : {b : Bool} → b ≡ false → T (not b)
 no h = subst (λ (b : Bool). T (not b)) (sym h) tt
 
-passed : (b : Bool) → T b → b ≡ true
-passed true t = refl
-passed false t = absurd t
+pub is-true : (b : Bool) → T b → b ≡ true
+is-true true t = refl
+is-true false t = absurd t
 
 -- ---- numbers
 pub number_fits : (x : Float) → is_number x ≡ true → T (fits binary64 x)
@@ -36,11 +36,11 @@ pub finite_number : (x : Float) → is_finite x ≡ true → is_number x ≡ tru
 unfolding is_number
 finite_number x h =
     let f = finite-parts x h in
-    passed (fits binary64 x && not (is_nan x)) (and_i (fits binary64 x) (not (is_nan x)) f.0 (finite-num x f.1))
+    is-true (fits binary64 x && not (is_nan x)) (and_i (fits binary64 x) (not (is_nan x)) f.0 (finite-num x f.1))
 
 pub in-number : {lo hi x : Float} → In binary64 lo hi x → is_number x ≡ true
 unfolding is_number
-in-number {lo} {hi} {x} i = passed (fits binary64 x && not (is_nan x)) (and_i (fits binary64 x) (not (is_nan x)) i.fit (finite-num x (in-finite i)))
+in-number {lo} {hi} {x} i = is-true (fits binary64 x && not (is_nan x)) (and_i (fits binary64 x) (not (is_nan x)) i.fit (finite-num x (in-finite i)))
 
 -- ---- lo ≤ x ≤ hi
 pub range-in : {x lo hi : Float} → T (ends binary64 lo hi) → in_range x lo hi ≡ true → In binary64 lo hi x
@@ -51,7 +51,7 @@ range-in {x} {lo} {hi} t h =
 
 pub in-range : {x lo hi : Float} → In binary64 lo hi x → in_range x lo hi ≡ true
 unfolding in_range
-in-range {x} {lo} {hi} i = passed (fits binary64 x && (le lo x && le x hi)) (and_i (fits binary64 x) (le lo x && le x hi) i.fit (and_i (le lo x) (le x hi) i.lower i.upper))
+in-range {x} {lo} {hi} i = is-true (fits binary64 x && (le lo x && le x hi)) (and_i (fits binary64 x) (le lo x && le x hi) i.fit (and_i (le lo x) (le x hi) i.lower i.upper))
 
 -- ---- 0 ≤ x < 1
 pub unit-lt : (x : Float) → in_unit x ≡ true → T (lt x (float_of 1))
@@ -66,7 +66,7 @@ unit-in {x} h =
 
 pub in-unit : {x : Float} → In binary64 plus_zero (float_of 1) x → T (lt x (float_of 1)) → in_unit x ≡ true
 unfolding in_unit
-in-unit {x} i k = passed (fits binary64 x && (le plus_zero x && lt x (float_of 1))) (and_i (fits binary64 x) (le plus_zero x && lt x (float_of 1)) i.fit (and_i (le plus_zero x) (lt x (float_of 1)) i.lower k))
+in-unit {x} i k = is-true (fits binary64 x && (le plus_zero x && lt x (float_of 1))) (and_i (fits binary64 x) (le plus_zero x && lt x (float_of 1)) i.fit (and_i (le plus_zero x) (lt x (float_of 1)) i.lower k))
 
 -- ---- the accepted rates, frequencies and sines
 pub rate-in : {r : Float} → rate_fits r ≡ true → In binary64 (float_of 8000) (float_of 192000) r

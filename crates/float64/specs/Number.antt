@@ -39,6 +39,10 @@ in_range x lo hi = fits binary64 x && (le lo x && le x hi)
 unfoldable pub in_unit : Float → Bool
 in_unit x = fits binary64 x && (le plus_zero x && lt x (float_of 1))
 
+-- −1 ≤ x ≤ 1
+abbrev pub in_signed_unit : Float → Bool
+in_signed_unit x = in_range x (neg (float_of 1)) (float_of 1)
+
 -- +0, sign included: all its bits are 0
 unfoldable pub is_plus_zero : Float → Bool
 is_plus_zero x = fits binary64 x && to_bits binary64 x == 0
@@ -55,12 +59,15 @@ coefficient_fits c = in_unit c
 abbrev pub phase_fits : Float → Bool
 phase_fits p = in_unit p
 
--- a frequency in Hz, and a sine, cause 6
+-- a frequency in Hz, a sine, and the coefficient of an all-pass, cause 6
 abbrev pub frequency_fits : Float → Bool
 frequency_fits f = in_range f plus_zero (float_of 32)
 
 abbrev pub sine_fits : Float → Bool
-sine_fits s = in_range s (neg (float_of 1)) (float_of 1)
+sine_fits s = in_signed_unit s
+
+abbrev pub allpass_fits : Float → Bool
+allpass_fits c = in_signed_unit c
 
 -- ---- clamp
 

@@ -2,7 +2,7 @@
 #![tactic(auto)]
 
 ghost use Rattle.std.specs.Prelude.{◌≡◌, not};
-ghost use Rattle.float64.specs.Number.{float_of, is_number, is_finite, in_range, in_unit, is_plus_zero, rate_fits, coefficient_fits, phase_fits, frequency_fits, sine_fits, clamp_of, at_least, at_most, absolute, whole_part, significand_of, Small, round_half_away};
+ghost use Rattle.float64.specs.Number.{float_of, is_number, is_finite, in_range, in_unit, in_signed_unit, is_plus_zero, rate_fits, coefficient_fits, phase_fits, frequency_fits, sine_fits, allpass_fits, clamp_of, at_least, at_most, absolute, whole_part, significand_of, Small, round_half_away};
 
 // IEEE 754's exponent field, the eleven bits under the sign. The field of 1.0: a number with a lower one is below one.
 const FIELD_OF_ONE: u64 = 1023;
@@ -50,6 +50,13 @@ pub fn in_unit(x: f64) -> bool
     x >= 0.0 && x < 1.0
 }
 
+// Whether -1 <= x <= 1: no for a NaN, yes for both ends.
+fn in_signed_unit(x: f64) -> bool
+    ensures { result ≡ in_signed_unit x }
+{
+    in_range(x, -1.0, 1.0)
+}
+
 // Whether x is a sample rate that a start accepts: 8,000 to 192,000.
 pub fn rate_fits(x: f64) -> bool
     ensures { result ≡ rate_fits x }
@@ -78,11 +85,18 @@ pub fn frequency_fits(x: f64) -> bool
     in_range(x, 0.0, 32.0)
 }
 
-// Whether x lies from -1 to 1.
+// Whether x is a sine.
 pub fn sine_fits(x: f64) -> bool
     ensures { result ≡ sine_fits x }
 {
-    in_range(x, -1.0, 1.0)
+    in_signed_unit(x)
+}
+
+// Whether x is the coefficient of an all-pass.
+pub fn allpass_fits(x: f64) -> bool
+    ensures { result ≡ allpass_fits x }
+{
+    in_signed_unit(x)
 }
 
 // x held to lo..=hi. What lies between passes as it is, -0 and a NaN too.

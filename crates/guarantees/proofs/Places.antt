@@ -17,6 +17,7 @@ use Rattle.flanger.specs.Flanger.{flanger}
 use Rattle.vibrato.specs.Vibrato.{vibrato}
 use Rattle.tremolo.specs.Tremolo.{tremolo}
 use Rattle.reverb.specs.Reverb.{reverb}
+use Rattle.phaser.specs.Phaser.{phaser}
 use Rattle.needed.specs.Needed.{needed_by}
 use Rattle.guarantees.specs.PlacesNeeded.{StartNeeds, PlacesNeeded}
 
@@ -38,14 +39,14 @@ either_way false x = refl
 refused-is : (effect : ℕ) (rate maximum : Float) → rate_fits rate ≡ false → needed_by effect rate maximum ≡ no_places
 unfolding needed_by settings_number
 refused-is effect rate maximum h =
-    rw (h, either_way (eqb effect 6) no_places, either_way (eqb effect 5) no_places, either_way (eqb effect 4) no_places, either_way (eqb effect 3) no_places, either_way (eqb effect 2) no_places)
+    rw (h, either_way (eqb effect 7) no_places, either_way (eqb effect 6) no_places, either_way (eqb effect 5) no_places, either_way (eqb effect 4) no_places, either_way (eqb effect 3) no_places, either_way (eqb effect 2) no_places)
     (either_way (eqb effect 1) no_places)
 
--- a number that is none of the six
-other-is : (effect : ℕ) (rate maximum : Float) → 7 ≤ effect → needed_by effect rate maximum ≡ no_places
+-- a number that is none of the seven
+other-is : (effect : ℕ) (rate maximum : Float) → 8 ≤ effect → needed_by effect rate maximum ≡ no_places
 unfolding needed_by
 other-is effect rate maximum h =
-    rw (ne_eqb effect 1 (omega arith), ne_eqb effect 2 (omega arith), ne_eqb effect 3 (omega arith), ne_eqb effect 4 (omega arith), ne_eqb effect 5 (omega arith), ne_eqb effect 6 (omega arith))
+    rw (ne_eqb effect 1 (omega arith), ne_eqb effect 2 (omega arith), ne_eqb effect 3 (omega arith), ne_eqb effect 4 (omega arith), ne_eqb effect 5 (omega arith), ne_eqb effect 6 (omega arith), ne_eqb effect 7 (omega arith))
 
 pub places-needed : PlacesNeeded
 unfolding needed_by
@@ -57,9 +58,11 @@ places-needed =
       vibratos = λ maximum. record { accepted = start-needs vibrato };
       tremolos = λ maximum. record { accepted = start-needs tremolo };
       reverbs = λ maximum. record { accepted = start-needs reverb };
+      phasers = λ maximum. record { accepted = start-needs phaser };
       no-tremolo-places = λ rate maximum h. rw h;
+      no-phaser-places = λ rate maximum h. rw h;
       tank-places = λ rate maximum h. rw h;
       refused-rate = refused-is;
       number-0 = λ rate maximum. refl;
-      numbers-from-7 = other-is;
+      numbers-from-8 = other-is;
     }

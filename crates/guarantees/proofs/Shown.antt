@@ -13,6 +13,7 @@ use Rattle.vibrato.proofs.Demand1 as vibrato1
 use Rattle.vibrato.proofs.Demand3 as vibrato3
 use Rattle.tremolo.proofs.Demand1 as tremolo1
 use Rattle.reverb.proofs.Demand1 as reverb1
+use Rattle.phaser.proofs.Demand1 as phaser1
 use Rattle.guarantees.specs.CleanMemory.{CleanMemory}
 use Rattle.guarantees.specs.RecentPasts.{RecentPasts}
 use Rattle.guarantees.specs.WholePart.{WholePart}
@@ -27,6 +28,7 @@ clean-memory =
       vibratos = vibrato1.shown;
       tremolos = tremolo1.shown;
       reverbs = reverb1.shown;
+      phasers = phaser1.shown;
     }
 
 pub recent-pasts : RecentPasts

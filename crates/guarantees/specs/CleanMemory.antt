@@ -7,6 +7,7 @@ use Rattle.flanger.specs.Flanger.{flanger}
 use Rattle.vibrato.specs.Vibrato.{vibrato}
 use Rattle.tremolo.specs.Tremolo.{tremolo}
 use Rattle.reverb.specs.Reverb.{reverb}
+use Rattle.phaser.specs.Phaser.{phaser}
 
 pub record CleanMemory : Type 0 where
   pub delay-lines : Demand1 delay_line
@@ -15,3 +16,4 @@ pub record CleanMemory : Type 0 where
   pub vibratos : Demand1 vibrato
   pub tremolos : Demand1 tremolo
   pub reverbs : Demand1 reverb
+  pub phasers : Demand1 phaser

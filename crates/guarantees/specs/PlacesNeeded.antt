@@ -11,13 +11,14 @@ use Rattle.flanger.specs.Flanger.{flanger}
 use Rattle.vibrato.specs.Vibrato.{vibrato}
 use Rattle.tremolo.specs.Tremolo.{tremolo}
 use Rattle.reverb.specs.Reverb.{reverb}
+use Rattle.phaser.specs.Phaser.{phaser}
 use Rattle.needed.specs.Needed.{needed_by}
 
 -- `needed` is what the controller is answered for a start that is handed x
 pub record StartNeeds (E : Effect) (needed : E.Start → ℕ) : Type 0 where
   pub accepted : (x : E.Start) (n : ℕ) → E.settings_number (E.start_settings x) ≡ 0 → start_number E x n ≡ memory_number (needed x) n
 
--- the numbers of document 01; only the delay's count reads the maximum
+-- the numbers of documents 01 and 02; only the delay's count reads the maximum
 pub record PlacesNeeded : Type 0 where
   pub delay : StartNeeds delay_line (λ x. needed_by 1 x.rate x.maximum)
   pub choruses : (maximum : Float) → StartNeeds chorus (λ rate. needed_by 2 rate maximum)
@@ -25,10 +26,12 @@ pub record PlacesNeeded : Type 0 where
   pub vibratos : (maximum : Float) → StartNeeds vibrato (λ rate. needed_by 4 rate maximum)
   pub tremolos : (maximum : Float) → StartNeeds tremolo (λ rate. needed_by 5 rate maximum)
   pub reverbs : (maximum : Float) → StartNeeds reverb (λ rate. needed_by 6 rate maximum)
-  -- two of them are the same at every accepted rate
+  pub phasers : (maximum : Float) → StartNeeds phaser (λ rate. needed_by 7 rate maximum)
+  -- three of them are the same at every accepted rate
   pub no-tremolo-places : (rate maximum : Float) → rate_fits rate ≡ true → needed_by 5 rate maximum ≡ 0
+  pub no-phaser-places : (rate maximum : Float) → rate_fits rate ≡ true → needed_by 7 rate maximum ≡ 0
   pub tank-places : (rate maximum : Float) → rate_fits rate ≡ true → needed_by 6 rate maximum ≡ 87136
-  -- a refused rate, and a number that is none of the six
+  -- a refused rate, and a number that is none of the seven
   pub refused-rate : (effect : ℕ) (rate maximum : Float) → rate_fits rate ≡ false → needed_by effect rate maximum ≡ no_places
   pub number-0 : (rate maximum : Float) → needed_by 0 rate maximum ≡ no_places
-  pub numbers-from-7 : (effect : ℕ) (rate maximum : Float) → 7 ≤ effect → needed_by effect rate maximum ≡ no_places
+  pub numbers-from-8 : (effect : ℕ) (rate maximum : Float) → 8 ≤ effect → needed_by effect rate maximum ≡ no_places

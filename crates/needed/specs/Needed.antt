@@ -1,5 +1,5 @@
--- How many places an effect needs, by its number: 1 delay, 2 chorus, 3 flanger, 4 vibrato, 5 tremolo, 6 reverb. Only the delay's count reads the maximum.
--- Another number, and a rate that is refused, give 2 ^ 64 − 1. Definitions only. Assumes nothing.
+-- How many places an effect needs, by its number: 1 delay, 2 chorus, 3 flanger, 4 vibrato, 5 tremolo, 6 reverb, 7 phaser. Only the delay's count reads the
+-- maximum. Another number, and a rate that is refused, give 2 ^ 64 − 1. Definitions only. Assumes nothing.
 use Rattle.std.specs.Prelude.{ℕ, false, cond, eqb, Float}
 use Rattle.float64.specs.Number.{plus_zero}
 use Rattle.effect.specs.Needed.{no_places, places_needed}
@@ -9,6 +9,7 @@ use Rattle.flanger.specs.Flanger.{flanger}
 use Rattle.vibrato.specs.Vibrato.{vibrato}
 use Rattle.tremolo.specs.Tremolo.{tremolo}
 use Rattle.reverb.specs.Reverb.{reverb}
+use Rattle.phaser.specs.Phaser.{phaser}
 
 -- the delay's, with a coefficient and a mode that have no part in it
 abbrev pub delay_needs : Float → Float → ℕ
@@ -22,4 +23,5 @@ needed_by effect rate maximum =
     (cond (eqb effect 4) (places_needed vibrato rate)
     (cond (eqb effect 5) (places_needed tremolo rate)
     (cond (eqb effect 6) (places_needed reverb rate)
-    no_places)))))
+    (cond (eqb effect 7) (places_needed phaser rate)
+    no_places))))))

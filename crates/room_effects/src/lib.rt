@@ -6,6 +6,7 @@
 mod chorus_calls;
 mod delay_calls;
 mod flanger_calls;
+mod phaser_calls;
 mod places;
 mod reverb_calls;
 mod shared;

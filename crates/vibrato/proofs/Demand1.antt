@@ -4,8 +4,8 @@ use mathlib.Core.Path.{◌≡◌, refl}
 use mathlib.Core.Bool.{true, false}
 use lib.Ieee.{Float, le, lt, of_int}
 use lib.Ieee as Ieee
-use Rattle.float64.specs.Number.{plus_zero, rate_fits, phase_fits, in_range, in_unit}
-use Rattle.common.proofs.Phases.{phase-stays}
+use Rattle.float64.specs.Number.{rate_fits, in_range}
+use Rattle.common.proofs.Phases.{zero-phase, phase-stays}
 use Rattle.common.proofs.Ring.{next-lt}
 use Rattle.effect.proofs.Table.{none_1}
 use Rattle.effect.proofs.Laws.{Laws, Below}
@@ -20,10 +20,6 @@ use Rattle.vibrato.proofs.Laws.{fits-parts, fit, length-fits, tick-fits}
 blank-refused : state_fits blank ≡ false
 unfolding state_fits in_range le of_int Ieee.fits
 blank-refused = refl
-
-zero-phase : phase_fits plus_zero ≡ true
-unfolding in_unit le lt of_int Ieee.fits
-zero-phase = refl
 
 -- a clearing leaves a state that passes
 fresh-fits : (rate : Float) → rate_fits rate ≡ true → state_fits (fresh rate) ≡ true

@@ -27,7 +27,11 @@ pub returns-then-effect-eq6 : goal.returns-then-effect-eq6
 unfolding needed_by
 returns-then-effect-eq6 c = rw c.if-effect-eq6.true c.places_needed-then-effect-eq6.ensures
 
+pub returns-then-effect-eq7 : goal.returns-then-effect-eq7
+unfolding needed_by
+returns-then-effect-eq7 c = rw c.if-effect-eq7.true c.places_needed-then-effect-eq7.ensures
+
 pub returns : goal.returns
 unfolding needed_by
 returns c =
-    rw (ne_eqb _ _ c.if-effect-eq1.false, ne_eqb _ _ c.if-effect-eq2.false, ne_eqb _ _ c.if-effect-eq3.false, ne_eqb _ _ c.if-effect-eq4.false, ne_eqb _ _ c.if-effect-eq5.false, ne_eqb _ _ c.if-effect-eq6.false)
+    rw (ne_eqb _ _ c.if-effect-eq1.false, ne_eqb _ _ c.if-effect-eq2.false, ne_eqb _ _ c.if-effect-eq3.false, ne_eqb _ _ c.if-effect-eq4.false, ne_eqb _ _ c.if-effect-eq5.false, ne_eqb _ _ c.if-effect-eq6.false, ne_eqb _ _ c.if-effect-eq7.false)

@@ -1,0 +1,2 @@
+pub mod Allpass
+pub mod Phaser

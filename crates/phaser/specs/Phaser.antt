@@ -1,0 +1,135 @@
+-- The phaser: on each side a chain of six all-passes, of which a tick runs the first 2, 4 or 6, fed back from the last of these. It has no line and is lent no
+-- memory, so cause 3 never applies, and it has no retune: a new rate means a new start. Definitions only. Assumes nothing.
+use Rattle.std.specs.Prelude.{◌≡◌, ℕ, ◌-◌, ◌<◌, Bool, ◌&&◌, ◌||◌, cond, List, [], ◌∷◌, get_or, Float}
+use Rattle.std.specs.Float.{nan, binary64}
+use Rattle.std.specs.Float.Ieee.{add, mul, div, neg, lt}
+use Rattle.float64.specs.Number.{plus_zero, float_of, fraction, half, rate_fits, phase_fits, frequency_fits, allpass_fits, clamp_of}
+use Rattle.port.specs.declared.Port.{Port}
+use Rattle.port.specs.Port.{value_or, is_nan_set}
+use Rattle.port.specs.Answer.{Reply, played}
+use Rattle.common.specs.Signal.{sanitized, blended, advanced, cause_number}
+use Rattle.common.specs.Line.{zeros, all_zero}
+use Rattle.effect.specs.Effect.{Effect}
+use Rattle.phaser.specs.declared.Phaser.{Phaser}
+use Rattle.phaser.specs.Allpass.{Chain, chain_of, passed}
+
+-- what a tick is handed: its ports, and the curve numbers frequency and the all-pass coefficient of each side
+pub record Tick : Type 0 where
+  pub audio : Port
+  pub feedback : Port
+  pub mix : Port
+  pub stages : Port
+  pub frequency : Float
+  pub coef_l : Float
+  pub coef_r : Float
+
+abbrev pub tick_of : Port → Port → Port → Port → Float → Float → Float → Tick
+tick_of audio feedback mix stages frequency left right =
+    record { audio = audio; feedback = feedback; mix = mix; stages = stages; frequency = frequency; coef_l = left; coef_r = right }
+
+-- ---- states
+
+-- a state of these parts: the last inputs and the last outputs of the left chain and of the right one, the phase, the rate
+abbrev pub state_of : List Float → List Float → List Float → List Float → Float → Float → Phaser
+state_of x1l x1r y1l y1r phase rate =
+    record { allpass_x1_l = x1l; allpass_x1_r = x1r; allpass_y1_l = y1l; allpass_y1_r = y1r; lfo_phase = phase; sample_rate = rate }
+
+-- all-passes of each chain
+abbrev pub max_stages : ℕ
+max_stages = 6
+
+-- the state after a start and a reset, and the one that a refused start gives
+abbrev pub fresh : Float → Phaser
+fresh rate = state_of (zeros max_stages) (zeros max_stages) (zeros max_stages) (zeros max_stages) plus_zero rate
+
+abbrev pub blank : Phaser
+blank = fresh plus_zero
+
+-- the state test, cause 4: the chains may hold any floats
+unfoldable pub state_fits : Phaser → Bool
+state_fits s = rate_fits s.sample_rate && phase_fits s.lfo_phase
+
+-- silent: all 24 numbers of the chains are +0 or −0, those of idle stages too
+unfoldable pub silence : Phaser → Bool
+silence s = (all_zero s.allpass_x1_l && all_zero s.allpass_x1_r) && (all_zero s.allpass_y1_l && all_zero s.allpass_y1_r)
+
+-- causes 5 and 6
+unfoldable pub tick_number : Tick → ℕ
+tick_number t =
+    cause_number (is_nan_set t.feedback || (is_nan_set t.mix || is_nan_set t.stages)) (frequency_fits t.frequency && (allpass_fits t.coef_l && allpass_fits t.coef_r))
+
+-- ---- an accepted tick
+
+-- the audio under the input rule
+abbrev pub input : Tick → Float
+input t = sanitized (value_or t.audio plus_zero)
+
+abbrev pub feedback : Tick → Float
+feedback t = clamp_of (value_or t.feedback plus_zero) (neg (fraction 95 100)) (fraction 95 100)
+
+abbrev pub mix : Tick → Float
+mix t = clamp_of (value_or t.mix half) plus_zero (float_of 1)
+
+-- how many stages of each chain run: by the control below 0.33 two, below 0.66 four, else six
+unfoldable pub stages_at : Float → ℕ
+stages_at control = cond (lt control (fraction 33 100)) 2 (cond (lt control (fraction 66 100)) 4 max_stages)
+
+abbrev pub stages : Tick → ℕ
+stages t = stages_at (clamp_of (value_or t.stages (float_of 1)) plus_zero (float_of 1))
+
+-- what goes into a chain: the input, and times the feedback what the last stage that runs put out in the tick in which it last ran
+unfoldable pub fed : Float → Float → ℕ → List Float → Float
+fed input feedback n y1 = add binary64 input (mul binary64 (get_or y1 (n - 1) nan) feedback)
+
+-- a side's chain after the tick, with the side's wet sample as its signal
+unfoldable pub chain_after : Tick → Float → List Float → List Float → Chain
+chain_after t coef x1 y1 = passed coef (stages t) (chain_of x1 y1 (fed (input t) (feedback t) (stages t) y1))
+
+abbrev pub left : Tick → Phaser → Chain
+left t s = chain_after t t.coef_l s.allpass_x1_l s.allpass_y1_l
+
+abbrev pub right : Tick → Phaser → Chain
+right t s = chain_after t t.coef_r s.allpass_x1_r s.allpass_y1_r
+
+-- the phase moves on by frequency / rate
+unfoldable pub next : Tick → Phaser → Phaser
+next t s =
+    state_of (left t s).x1 (right t s).x1 (left t s).y1 (right t s).y1 (advanced s.lfo_phase (div binary64 t.frequency s.sample_rate)) s.sample_rate
+
+-- mono, which is left; left; right
+unfoldable pub samples : Tick → Phaser → List Float
+samples t s =
+    let l = blended (input t) (left t s).signal (mix t) in
+    l ∷ l ∷ blended (input t) (right t s).signal (mix t) ∷ []
+
+-- the tick leaves the state s' and answers a
+pub record Advances (t : Tick) (s s' : Phaser) (a : Reply) : Type 0 where
+  pub state : s' ≡ next t s
+  pub answer : a ≡ played (samples t s)
+
+-- ---- the effect
+
+abbrev pub phaser : Effect
+phaser =
+    record {
+      State = Phaser;
+      Settings = Float;
+      Start = Float;
+      Retune = ⊥;
+      Tick = Tick;
+      state_fits = state_fits;
+      settings = λ s. s.sample_rate;
+      start_settings = λ rate. rate;
+      retune_settings = λ none rate. rate;
+      settings_number = λ rate. cond (rate_fits rate) 0 1;
+      places = λ rate. 0;
+      InUse = λ rate p. p < 0;
+      tick_number = λ t rate. tick_number t;
+      blank = blank;
+      fresh = fresh;
+      retuned = λ rate s. fresh rate;
+      next = λ t s m. next t s;
+      writes = λ t s m. [];
+      samples = λ t s m. samples t s;
+      silence = λ s m. silence s;
+    }
