@@ -6,7 +6,7 @@ ghost use Rattle.phaser.specs.Phaser.{phaser, tick_of, state_of};
 ghost use Rattle.room_effects.specs.Lent.{StartReturns, CallReturns, TickReturns, AskReturns};
 ghost use Rattle.room_effects.specs.Ports.{port_at};
 
-use crate::shared::port_at;
+use crate::shared::{port_at, put_samples};
 use phaser::Phaser;
 use port::Outcome;
 
@@ -136,7 +136,7 @@ pub extern "C" fn room_raw_phaser_tick(
         coef_l,
         coef_r,
     );
-    *out = [answer.first(), answer.second(), answer.third()];
+    put_samples(answer, out);
     answer.number()
 }
 
