@@ -1,6 +1,8 @@
 -- The statements of specs/, each by what its effects show. Assumes nothing.
+use Rattle.std.proofs.Common.{ℕ, zero, suc, ◌≤◌, refl, sym}
 use Rattle.float64.proofs.Ranges.{yes, finite-parts}
 use Rattle.float64.proofs.Fields as fields
+use Rattle.effect.specs.Run.{tick, Device, if_none, number_at, changed}
 use Rattle.effect.proofs.Covers.{covers}
 use Rattle.delay_line.proofs.Demand1 as delay1
 use Rattle.chorus.specs.Chorus.{chorus}
@@ -13,11 +15,15 @@ use Rattle.vibrato.proofs.Demand1 as vibrato1
 use Rattle.vibrato.proofs.Demand3 as vibrato3
 use Rattle.tremolo.proofs.Demand1 as tremolo1
 use Rattle.reverb.proofs.Demand1 as reverb1
+use Rattle.phaser.specs.declared.Phaser.{Phaser}
+use Rattle.phaser.specs.Phaser.{phaser, Tick, stages, next, chain_after}
 use Rattle.phaser.proofs.Demand1 as phaser1
+use Rattle.phaser.proofs.Idle.{x1-kept, y1-kept}
 use Rattle.guarantees.specs.CleanMemory.{CleanMemory}
 use Rattle.guarantees.specs.RecentPasts.{RecentPasts}
 use Rattle.guarantees.specs.WholePart.{WholePart}
 use Rattle.guarantees.specs.OneLine.{OneLine}
+use Rattle.guarantees.specs.IdleStages.{SameStage, IdleStages}
 
 pub clean-memory : CleanMemory
 clean-memory =
@@ -58,3 +64,18 @@ one_line =
       pasts = three.shown3;
       apart = three.apart;
     }
+
+-- an accepted tick and a refused one
+stages-kept : (t : Tick) (u : Device Phaser) (i : ℕ) → stages t ≤ i → (number : ℕ) → SameStage i u.state (if_none number (changed phaser (tick t) u) u).state
+unfolding next chain_after
+stages-kept t u i h zero =
+    record {
+      x1_l = λ none. sym (x1-kept t.coef_l _ i none (stages t) h);
+      x1_r = λ none. sym (x1-kept t.coef_r _ i none (stages t) h);
+      y1_l = λ none. sym (y1-kept t.coef_l _ i none (stages t) h);
+      y1_r = λ none. sym (y1-kept t.coef_r _ i none (stages t) h);
+    }
+stages-kept t u i h (suc k) = record { x1_l = λ none. refl; x1_r = λ none. refl; y1_l = λ none. refl; y1_r = λ none. refl }
+
+pub idle_stages : IdleStages
+idle_stages = record { kept = λ t u i h. stages-kept t u i h (number_at phaser (tick t) u) }

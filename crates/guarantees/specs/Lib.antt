@@ -4,3 +4,4 @@ pub mod Starred
 pub mod PlacesNeeded
 pub mod WholePart
 pub mod OneLine
+pub mod IdleStages

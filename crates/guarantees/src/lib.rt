@@ -8,6 +8,7 @@ ghost use Rattle.guarantees.specs.PlacesNeeded.{PlacesNeeded};
 ghost use Rattle.guarantees.specs.Starred.{Starred};
 ghost use Rattle.guarantees.specs.WholePart.{WholePart};
 ghost use Rattle.guarantees.specs.OneLine.{OneLine};
+ghost use Rattle.guarantees.specs.IdleStages.{IdleStages};
 
 // Lent memory holds only what accepted calls put there, over whole runs of each effect.
 pub fn clean_memory()
@@ -37,4 +38,9 @@ pub fn whole_part()
 // A chorus with one line and one with three correspond over whole runs.
 pub fn one_line()
     ensures { OneLine }
+{}
+
+// A phaser's stages that do not run keep what they hold.
+pub fn idle_stages()
+    ensures { IdleStages }
 {}

@@ -1,2 +1,3 @@
 pub mod Laws
+pub mod Idle
 pub mod Demand1
