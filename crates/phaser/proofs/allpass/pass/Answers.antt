@@ -1,5 +1,5 @@
 -- `allpass::pass` takes the signal through a stage a turn. Assumes nothing.
-use Rattle.std.proofs.Common.{refl, ap, ◌∙◌, arith}
+use Rattle.std.proofs.Common.{◌≡◌, refl, ap, ◌∙◌, arith}
 use Rattle.std.proofs.lemmas.List.{length-set}
 use Rattle.phaser.specs.Allpass.{stage, passed}
 use Rattle.phaser.proofs.Laws.{passed-more}
@@ -19,3 +19,8 @@ loop-i-preserved c =
       length-set l.y1 l.i _ ∙ h.2,
       rw c.allpass-output.ensures refl ∙ ap (stage c.args.coef l.i) h.3 ∙ passed-more c.args.coef l.i _,
     )
+
+pub returns : goal.returns
+returns c =
+    let l = c.loop-i in
+    let e : l.i ≡ c.args.stages = omega (arith, c.loop-i-test.false, l.invariant.0) in rw e at l.invariant.3
