@@ -43,11 +43,14 @@ impl Chorus {
 
     pub const BASE_DELAY_MS: f64 = 7.0;
 
+    // Both together as a whole number, for the line's length.
+    const LINE_MS: u32 = 32;
+
     // The places of the line; 0 at a refused rate.
     fn line_length(rate: f64) -> u64
         ensures { result ≡ cond (rate_fits rate) (line_length rate) 0 }
     {
-        common::line_length(rate, Chorus::MAX_MOD_DELAY_MS + Chorus::BASE_DELAY_MS)
+        common::line_length(rate, Chorus::LINE_MS)
     }
 
     // The places that a start needs at the rate; 2^64 - 1 for a rate that is refused.

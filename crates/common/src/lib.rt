@@ -44,18 +44,18 @@ pub fn tick_causes(control_nan: bool, curves_fit: bool) -> Outcome
     Outcome::Accepted
 }
 
-// The places of a swept line. A refused rate gives 0, so that no position fits. The milliseconds are a constant of the effect's: their test is gone in
-// the compiled code.
-pub fn line_length(rate: f64, milliseconds: f64) -> u64
+// The places of a swept line. A refused rate gives 0, so that no position fits. The milliseconds are a constant of the effect's, and whole: their test is
+// gone in the compiled code, where a test of a float would stay.
+pub fn line_length(rate: f64, milliseconds: u32) -> u64
     ensures { result ≡ cond (rate_fits rate && sweep_fits milliseconds) (swept_length milliseconds rate) 0 }
 {
-    if !(float64::rate_fits(rate) & float64::in_range(milliseconds, 1.0, 100.0)) {
+    if !(float64::rate_fits(rate) & ((1 <= milliseconds) & (milliseconds <= 100))) {
         return 0;
     }
-    float64::whole_part_small(rate * milliseconds / 1000.0) + 10
+    float64::whole_part_small(rate * float64::from_u32(milliseconds) / 1000.0) + 10
 }
 
-// A distance held to a line: at least 1, and at most the last place. Two instructions, where a clamp has branches.
+// A distance held to a line: at least 1, and at most the last place.
 pub fn held_to_line(distance: f64, last: u32) -> f64
     ensures { result ≡ at_most (at_least distance (float_of 1)) (float_of last) }
 {
@@ -128,7 +128,7 @@ pub fn clear(mem: &mut [f64])
     }
 }
 
-// Whether every place of a part is +0 or -0. It reads them all, with no exit on the way, which compiles to vector instructions.
+// Whether every place of a part is +0 or -0. It reads them all, with no exit on the way.
 fn part_zero(part: &[f64]) -> bool
     ensures { result ≡ all_zero part.now }
 {

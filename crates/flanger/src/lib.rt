@@ -40,11 +40,14 @@ pub struct Ticked {
 impl Flanger {
     pub const MAX_DELAY_MS: f64 = 10.0;
 
+    // The same as a whole number, for a line's length.
+    const LINE_MS: u32 = 10;
+
     // The places of a line; 0 at a refused rate.
     fn line_length(rate: f64) -> u64
         ensures { result ≡ cond (rate_fits rate) (line_length rate) 0 }
     {
-        common::line_length(rate, Flanger::MAX_DELAY_MS)
+        common::line_length(rate, Flanger::LINE_MS)
     }
 
     // The places that a start needs at the rate; 2^64 - 1 for a rate that is refused.

@@ -126,7 +126,7 @@ pub fn at_most(x: f64, hi: f64) -> f64
     if x > hi { hi } else { x }
 }
 
-// The absolute value: +0 for either zero, and a NaN for a NaN. In this form it compiles to clearing the sign.
+// The absolute value: +0 for either zero, and a NaN for a NaN.
 pub fn abs(x: f64) -> f64
     ensures { result ≡ absolute x }
 {

@@ -40,11 +40,14 @@ pub struct Ticked {
 impl Vibrato {
     pub const MAX_DELAY_MS: f64 = 20.0;
 
+    // The same as a whole number, for the line's length.
+    const LINE_MS: u32 = 20;
+
     // The places of the line; 0 at a refused rate.
     fn line_length(rate: f64) -> u64
         ensures { result ≡ cond (rate_fits rate) (line_length rate) 0 }
     {
-        common::line_length(rate, Vibrato::MAX_DELAY_MS)
+        common::line_length(rate, Vibrato::LINE_MS)
     }
 
     // The places that a start needs at the rate; 2^64 - 1 for a rate that is refused.
