@@ -19,8 +19,8 @@
  *   room_E_silent(&state, memory, places, &silent)
  *                                        asks whether the unit still sounds
  *
- * Calls of an effect without lines, as the tremolo, have no `memory, places`. Between calls the host leaves the state as the
- * last call returned it.
+ * Calls of an effect without lines, as the tremolo and the phaser, have no `memory, places`. Between calls the host leaves the
+ * state as the last call returned it.
  *
  * What a call returns
  *
@@ -31,7 +31,7 @@
  *   3  the memory has fewer places than the effect needs at its rate, for a retune at the new one (effects with lines)
  *   4  a field of the state is outside what its struct's comments say
  *   5  a control that this tick reads is set and is NaN
- *   6  a curve number is NaN, a sine is outside -1 to 1, or a frequency is outside 0 to 32
+ *   6  a curve number is NaN, a sine or an all-pass coefficient is outside -1 to 1, or a frequency is outside 0 to 32
  *
  * Where several apply, the first in this order is returned: start 1, 2, 3; retune 4, 1, 2, 3; reset and silent 4, 3; tick 4,
  * 3, 5, 6.
@@ -68,6 +68,12 @@
  * than to 0, so the sample stays as it is and goes round for good. (x 0.5 it is a tie, which goes to the even neighbour, 0.)
  * That is more than 6,000 dB below full scale; but "silent?" says no, and ticks over subnormal numbers take longer, the
  * reverb's twice as long. The remedy is a reset, once nothing can be heard any more.
+ *
+ * The phaser's answer reads the 24 numbers of its state, those of all-passes that are not in use too, which no tick changes. It
+ * hardly ever falls silent by itself, with no feedback either: an all-pass multiplies its own last output by its coefficient,
+ * and one above 0.5 or below -0.5 keeps it as above. At 0.7 it ends at 2^-1074 and -2^-1074 in turns, for good; a host's
+ * coefficients (see "Curve numbers") are all above 0.5 at rates from 40,000 on. A phaser that overflowed plays NaN and is
+ * not silent either. Again the remedy is a reset.
  *
  * Floating-point mode
  *
@@ -109,6 +115,16 @@
  * The host computes them before the tick: a frequency in Hz from its rate control, and the sine of 2 pi times the phase that
  * the state holds before the tick. (The flanger's second sine is of a phase further on: see there.) The delay has one, a time
  * in milliseconds. (Its glide coefficient goes to start and retune, and is cause 2.) The reverb has none.
+ *
+ * The phaser has a frequency and, instead of sines, an all-pass coefficient for each side, which the host makes of a sine, the
+ * sample rate and its depth control, 0 to 1:
+ *
+ *   F = 200 + ((((sine x 0.5) + 0.5) x depth) x 3800)     in Hz, 200 to 4,000
+ *   t = tan(((TAU x F) / rate) x 0.5)                     TAU is 2 pi
+ *   coefficient = (1 - t) / (1 + t)
+ *
+ * The left sine is that of 2 pi times the phase; the right one is of the phase plus spread x 0.5, not wrapped, where the spread
+ * is another control of the host, 0 to 1: with 0 both sides play alike.
  */
 #ifndef ROOM_EFFECTS_H
 #define ROOM_EFFECTS_H
@@ -122,8 +138,8 @@
  * built with the header and the archive of one version.
  */
 #define ROOM_EFFECTS_VERSION_MAJOR 1
-#define ROOM_EFFECTS_VERSION_MINOR 0
-#define ROOM_EFFECTS_VERSION_PATCH 1
+#define ROOM_EFFECTS_VERSION_MINOR 1
+#define ROOM_EFFECTS_VERSION_PATCH 0
 
 /* The effects by their numbers, for room_places_needed. */
 enum room_effect {
@@ -132,7 +148,8 @@ enum room_effect {
     ROOM_FLANGER = 3,
     ROOM_VIBRATO = 4,
     ROOM_TREMOLO = 5,
-    ROOM_REVERB = 6
+    ROOM_REVERB = 6,
+    ROOM_PHASER = 7
 };
 
 /* What a call returns: that it was accepted, or why it was refused. */
@@ -280,11 +297,22 @@ uint32_t room_raw_reverb_silent(const uint64_t comb_pos_l[8], const uint64_t com
                                 const uint64_t allpass_pos_l[4], const uint64_t allpass_pos_r[4], uint64_t predelay_pos,
                                 double sample_rate, const double *memory, uint64_t places, uint32_t *out);
 
+uint32_t room_raw_phaser_start(double new_sample_rate, double allpass_x1_l[6], double allpass_x1_r[6],
+                               double allpass_y1_l[6], double allpass_y1_r[6], double *lfo_phase, double *sample_rate);
+uint32_t room_raw_phaser_reset(double allpass_x1_l[6], double allpass_x1_r[6], double allpass_y1_l[6],
+                               double allpass_y1_r[6], double *lfo_phase, double sample_rate);
+uint32_t room_raw_phaser_tick(double allpass_x1_l[6], double allpass_x1_r[6], double allpass_y1_l[6],
+                              double allpass_y1_r[6], double *lfo_phase, double sample_rate, uint32_t set, double audio,
+                              double feedback, double mix, double stages, double frequency, double coef_l, double coef_r,
+                              double out[3]);
+uint32_t room_raw_phaser_silent(const double allpass_x1_l[6], const double allpass_x1_r[6], const double allpass_y1_l[6],
+                                const double allpass_y1_r[6], double lfo_phase, double sample_rate, uint32_t *out);
+
 /*
  * How many places an effect needs at this rate, for a controller that asks at power-up. effect: 1 delay, 2 chorus, 3 flanger,
- * 4 vibrato, 5 tremolo, 6 reverb (enum room_effect). max_delay_secs: the delay's alone, held as its start holds it; the others'
- * counts don't read it. The tremolo needs 0. For another number, and for a rate that is refused, 2^64 - 1. A host calls this
- * one as it is.
+ * 4 vibrato, 5 tremolo, 6 reverb, 7 phaser (enum room_effect). max_delay_secs: the delay's alone, held as its start holds it;
+ * the others' counts don't read it. Tremolo and phaser need 0. For another number, and for a rate that is refused, 2^64 - 1. A
+ * host calls this one as it is.
  */
 uint64_t room_places_needed(uint32_t effect, double sample_rate, double max_delay_secs);
 
@@ -651,6 +679,65 @@ static inline uint32_t room_reverb_silent(const room_reverb *state, const double
         room_raw_reverb_silent(state->comb_pos_l, state->comb_pos_r, state->comb_filter_state_l,
                                state->comb_filter_state_r, state->allpass_pos_l, state->allpass_pos_r, state->predelay_pos,
                                state->sample_rate, memory, places, &yes);
+    *silent = yes != 0u;
+    return number;
+}
+
+/* The phaser. Two chains, left and right, of six all-passes each, whose 24 numbers are in the state: it has no lines. */
+
+typedef struct room_phaser {
+    double allpass_x1_l[6]; /* each all-pass's last input, left and right: any floats */
+    double allpass_x1_r[6];
+    double allpass_y1_l[6]; /* each all-pass's last output, left and right: any floats */
+    double allpass_y1_r[6];
+    double lfo_phase;   /* at least 0 and below 1 */
+    double sample_rate; /* 8,000 to 192,000 */
+} room_phaser;
+
+/* A phaser at this rate: all 24 numbers +0, phase +0. Refusal: 1. There is no retune: a new rate means a new start. */
+static inline uint32_t room_phaser_start(room_phaser *state, double sample_rate)
+{
+    return room_raw_phaser_start(sample_rate, state->allpass_x1_l, state->allpass_x1_r, state->allpass_y1_l,
+                                 state->allpass_y1_r, &state->lfo_phase, &state->sample_rate);
+}
+
+/* All 24 numbers +0, phase +0; the rate stays. Refusal: 4. */
+static inline uint32_t room_phaser_reset(room_phaser *state)
+{
+    return room_raw_phaser_reset(state->allpass_x1_l, state->allpass_x1_r, state->allpass_y1_l, state->allpass_y1_r,
+                                 &state->lfo_phase, state->sample_rate);
+}
+
+/*
+ * Three samples, mono, left and right: `audio` blended with what the two chains play; mono is left. Audio that is NaN or
+ * infinite counts as +0. A chain is handed the audio plus the feedback times the last output of its last all-pass in use, as
+ * that was before this tick. An all-pass plays (coefficient x input) + its last input - (coefficient x its last output). Those
+ * not in use keep both numbers: once they are in use again, the first tick feeds back the old output of the last one. The phase
+ * moves on by frequency / rate. With huge audio, and with any where the feedback is large and the coefficients jump, a number
+ * may overflow: from then on the unit plays infinities and NaN, until a reset.
+ * feedback: -0.95 to 0.95; 0 if unset. mix: 0 dry to 1 wet; 0.5 if unset. stages: how many all-passes of each chain are in use,
+ * the first two below 0.33, the first four below 0.66, else all six; 1 if unset. Audio is 0 if unset. coef_l and coef_r: each
+ * chain's coefficient, -1 to 1.
+ * Refusals: 4, 5, 6.
+ */
+static inline uint32_t room_phaser_tick(room_phaser *state, room_port audio, room_port feedback, room_port mix,
+                                        room_port stages, double frequency, double coef_l, double coef_r, double out[3])
+{
+    return room_raw_phaser_tick(state->allpass_x1_l, state->allpass_x1_r, state->allpass_y1_l, state->allpass_y1_r,
+                                &state->lfo_phase, state->sample_rate,
+                                room_set_mask(audio, feedback, mix) | room_set_bit(stages, 8u), audio.value, feedback.value,
+                                mix.value, stages.value, frequency, coef_l, coef_r, out);
+}
+
+/*
+ * Whether the unit is silent: each of its 24 numbers is +0 or -0, those of all-passes that are not in use too. On a refusal
+ * *silent is 0. Refusal: 4.
+ */
+static inline uint32_t room_phaser_silent(const room_phaser *state, int *silent)
+{
+    uint32_t yes = 0u;
+    const uint32_t number = room_raw_phaser_silent(state->allpass_x1_l, state->allpass_x1_r, state->allpass_y1_l,
+                                                   state->allpass_y1_r, state->lfo_phase, state->sample_rate, &yes);
     *silent = yes != 0u;
     return number;
 }
