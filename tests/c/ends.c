@@ -1,6 +1,6 @@
 /* Document 01's bench cases of rates and memory: 8,000 and 192,000 start, the next float outside each gives 1; one place short
    gives 3. For every effect, and for every call that has the rate or the memory among its causes. */
-#include "six.h"
+#include "effects.h"
 
 #include <stdlib.h>
 #include <string.h>
@@ -11,14 +11,14 @@ static const struct {
     double maximum;
     uint64_t low, high;
 } units[] = {
-    {SIX_DELAY, 0.001, 9, 193},
-    {SIX_DELAY, 2.0, 16001, 384001},
-    {SIX_DELAY, 60.0, 480001, 11520001},
-    {SIX_CHORUS, 0.0, 266, 6154},
-    {SIX_FLANGER, 0.0, 2 * 90, 2 * 1930},
-    {SIX_VIBRATO, 0.0, 170, 3850},
-    {SIX_TREMOLO, 0.0, 0, 0},
-    {SIX_REVERB, 0.0, 87136, 87136},
+    {ROOM_DELAY, 0.001, 9, 193},
+    {ROOM_DELAY, 2.0, 16001, 384001},
+    {ROOM_DELAY, 60.0, 480001, 11520001},
+    {ROOM_CHORUS, 0.0, 266, 6154},
+    {ROOM_FLANGER, 0.0, 2 * 90, 2 * 1930},
+    {ROOM_VIBRATO, 0.0, 170, 3850},
+    {ROOM_TREMOLO, 0.0, 0, 0},
+    {ROOM_REVERB, 0.0, 87136, 87136},
 };
 
 /* The most that is lent, and one place behind it. */
@@ -26,16 +26,16 @@ static const struct {
 
 /* One call: its number, and whether the last place that was lent and the one behind are +0 or as they were. A tick here is the
  * first after a clearing, which writes the first place of each line. */
-static void numbered(struct six_state *state, const struct six_call *c, uint32_t number, const char *what, unsigned i)
+static void numbered(struct effect_state *state, const struct effect_call *c, uint32_t number, const char *what, unsigned i)
 {
-    const int clears = number == 0u && c->call <= SIX_RESET;
+    const int clears = number == 0u && c->call <= RESET;
     double *behind = c->lent + c->places;
     double out[3] = {JUNK, JUNK, JUNK};
     *behind = JUNK;
     if (c->places > 0u) {
         behind[-1] = JUNK;
     }
-    check(six_make(state, c, out) == number, what, i);
+    check(effect_make(state, c, out) == number, what, i);
     check(same(*behind, JUNK), "the place behind is left", i);
     if (c->places > 0u) {
         check(same(behind[-1], clears ? 0.0 : JUNK), "the last place, cleared or left", i);
@@ -46,18 +46,18 @@ static void numbered(struct six_state *state, const struct six_call *c, uint32_t
 static void memory_at(unsigned which, double *lent, double rate, uint64_t places)
 {
     const int effect = units[which].effect;
-    struct six_state state;
+    struct effect_state state;
     int call;
     memset(&state, 0, sizeof state);
-    for (call = SIX_START; call < SIX_CALLS; call++) {
+    for (call = START; call < CALLS; call++) {
         const unsigned i = 100u * which + 10u * (unsigned)call + (rate > 8000.0);
-        struct six_call c = six_good(effect, call, lent, places, rate, units[which].maximum);
-        if (!six_has(effect, call)) {
+        struct effect_call c = effect_good(effect, call, lent, places, rate, units[which].maximum);
+        if (!effect_has(effect, call)) {
             continue;
         }
         numbered(&state, &c, 0, "at the end of the rates, with the places needed", i);
-        if (places > 0u && call != SIX_START) {
-            struct six_state kept;
+        if (places > 0u && call != START) {
+            struct effect_state kept;
             c.places = places - 1u;
             memcpy(&kept, &state, sizeof kept);
             numbered(&state, &c, 3, "one place short", i);
@@ -65,7 +65,7 @@ static void memory_at(unsigned which, double *lent, double rate, uint64_t places
         }
     }
     if (places > 0u) {
-        const struct six_call c = six_good(effect, SIX_START, lent, places - 1u, rate, units[which].maximum);
+        const struct effect_call c = effect_good(effect, START, lent, places - 1u, rate, units[which].maximum);
         numbered(&state, &c, 3, "a start one place short", which);
     }
 }
@@ -74,45 +74,45 @@ static void memory_at(unsigned which, double *lent, double rate, uint64_t places
 static void outside(unsigned which, double *lent, double rate)
 {
     const int effect = units[which].effect;
-    struct six_call c = six_good(effect, SIX_START, lent, units[which].high, 8000.0, units[which].maximum);
-    struct six_state state;
+    struct effect_call c = effect_good(effect, START, lent, units[which].high, 8000.0, units[which].maximum);
+    struct effect_state state;
     memset(&state, 0, sizeof state);
     numbered(&state, &c, 0, "a start to retune from", which);
     c.rate = rate;
-    if (six_has(effect, SIX_RETUNE)) {
-        c.call = SIX_RETUNE;
+    if (effect_has(effect, RETUNE)) {
+        c.call = RETUNE;
         numbered(&state, &c, 1, "a retune to the next float outside", which);
     }
-    c.call = SIX_START;
+    c.call = START;
     numbered(&state, &c, 1, "a start at the next float outside", which);
 }
 
 /* No memory at all, at no address: every call refuses it as too short, and leaves the state; a start leaves zeros. */
 static void lent_nothing(int effect)
 {
-    struct six_call c = six_good(effect, SIX_START, NULL, 0, 8000.0, 0.001);
+    struct effect_call c = effect_good(effect, START, NULL, 0, 8000.0, 0.001);
     const double none[3] = {0.0, 0.0, 0.0};
-    struct six_state started, state, zeros;
+    struct effect_state started, state, zeros;
     double out[3];
     int call;
     c.lent = calloc(87136u, sizeof *c.lent);
     c.places = 87136u;
     memset(&started, 0, sizeof started);
     memset(&zeros, 0, sizeof zeros);
-    check(c.lent != NULL && six_make(&started, &c, out) == ROOM_ACCEPTED, "a start in memory", (unsigned)effect);
+    check(c.lent != NULL && effect_make(&started, &c, out) == ROOM_ACCEPTED, "a start in memory", (unsigned)effect);
     free(c.lent);
-    for (call = SIX_START; call < SIX_CALLS; call++) {
+    for (call = START; call < CALLS; call++) {
         const unsigned i = 10u * (unsigned)effect + (unsigned)call;
-        const unsigned answers = call == SIX_TICK ? six_samples(effect) : call == SIX_SILENT ? 1u : 0u;
-        c = six_good(effect, call, NULL, 0, 8000.0, 0.001);
+        const unsigned answers = call == TICK ? effect_samples(effect) : call == SILENT ? 1u : 0u;
+        c = effect_good(effect, call, NULL, 0, 8000.0, 0.001);
         memcpy(&state, &started, sizeof state);
         out[0] = out[1] = out[2] = JUNK;
-        check(six_make(&state, &c, out) == ROOM_REFUSED_MEMORY, "no memory, at NULL", i);
-        check(memcmp(&state, call == SIX_START ? &zeros : &started, sizeof state) == 0, "no memory: the state is left", i);
+        check(effect_make(&state, &c, out) == ROOM_REFUSED_MEMORY, "no memory, at NULL", i);
+        check(memcmp(&state, call == START ? &zeros : &started, sizeof state) == 0, "no memory: the state is left", i);
         check(all_same(out, none, answers), "no memory: it plays +0 and answers no", i);
     }
-    c = six_good(effect, SIX_START, NULL, 0, nearer(8000.0), 0.001);
-    check(six_make(&state, &c, out) == ROOM_REFUSED_SAMPLE_RATE, "no memory and a wrong rate", (unsigned)effect);
+    c = effect_good(effect, START, NULL, 0, nearer(8000.0), 0.001);
+    check(effect_make(&state, &c, out) == ROOM_REFUSED_SAMPLE_RATE, "no memory and a wrong rate", (unsigned)effect);
 }
 
 void ends(void)
@@ -130,9 +130,9 @@ void ends(void)
               "places at 192,000", i);
     }
     free(lent);
-    lent_nothing(SIX_DELAY);
-    lent_nothing(SIX_CHORUS);
-    lent_nothing(SIX_FLANGER);
-    lent_nothing(SIX_VIBRATO);
-    lent_nothing(SIX_REVERB);
+    lent_nothing(ROOM_DELAY);
+    lent_nothing(ROOM_CHORUS);
+    lent_nothing(ROOM_FLANGER);
+    lent_nothing(ROOM_VIBRATO);
+    lent_nothing(ROOM_REVERB);
 }

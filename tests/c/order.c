@@ -1,6 +1,6 @@
 /* Where several causes of a refusal apply at once the first in the call's order is given: every set of causes, for every call
    of every effect, each cause brought about in several ways. */
-#include "six.h"
+#include "effects.h"
 
 #include <string.h>
 
@@ -12,16 +12,16 @@ static double lent[ORDER_ROOM];
 static double as_lent[ORDER_ROOM];
 
 /* The places at 8,000 by document 01, of the chorus by A.4 of document 02; the delay's with that maximum. */
-static const uint64_t places_at_8000[SIX_END] = {0, 501, 266, 180, 170, 0, 87136};
+static const uint64_t places_at_8000[EFFECTS_END] = {0, 501, 266, 180, 170, 0, 87136};
 
 /* "start 1, 2, 3; retune 4, 1, 2, 3; reset and silent 4, 3; tick 4, 3, 5, 6" */
-static const char *const orders[SIX_CALLS] = {"123", "4123", "43", "4356", "43"};
+static const char *const orders[CALLS] = {"123", "4123", "43", "4356", "43"};
 
 /* 2 is the delay's alone, the tremolo is lent no memory, and the reverb has no curve number. */
 static int can_apply(int effect, char cause)
 {
-    return !((cause == '2' && effect != SIX_DELAY) || (cause == '3' && effect == SIX_TREMOLO) ||
-             (cause == '6' && effect == SIX_REVERB));
+    return !((cause == '2' && effect != ROOM_DELAY) || (cause == '3' && effect == ROOM_TREMOLO) ||
+             (cause == '6' && effect == ROOM_REVERB));
 }
 
 static void set_wrong_reverb(room_reverb *state, unsigned way)
@@ -56,22 +56,22 @@ static void set_wrong_delay(room_delay *state, unsigned way)
 }
 
 /* Cause 4: one number of the state that no start leads to. */
-static void set_wrong_state(int effect, struct six_state *s, unsigned way)
+static void set_wrong_state(int effect, struct effect_state *s, unsigned way)
 {
     const double phases[] = {1.0, -SMALLEST, ODD_NAN};
     const double phase = phases[way % 3u];
     const uint64_t position = UINT64_C(6154) << way;
-    if (effect == SIX_DELAY) {
+    if (effect == ROOM_DELAY) {
         set_wrong_delay(&s->delay, way);
-    } else if (effect == SIX_REVERB) {
+    } else if (effect == ROOM_REVERB) {
         set_wrong_reverb(&s->reverb, way);
-    } else if (effect == SIX_TREMOLO) {
+    } else if (effect == ROOM_TREMOLO) {
         *(way % 2u == 0u ? &s->tremolo.lfo_phase : &s->tremolo.sample_rate) = phase;
-    } else if (effect == SIX_CHORUS && way % 2u == 0u) {
+    } else if (effect == ROOM_CHORUS && way % 2u == 0u) {
         s->chorus.lfo_phases[way / 2u % 3u] = phase;
-    } else if (effect == SIX_CHORUS) {
+    } else if (effect == ROOM_CHORUS) {
         *(way % 4u == 1u ? &s->chorus.sample_rate : &s->chorus.lfo_phases[2]) = phase;
-    } else if (effect == SIX_FLANGER) {
+    } else if (effect == ROOM_FLANGER) {
         s->flanger.write_pos = way % 2u == 0u ? position : 0u;
         s->flanger.lfo_phase = way % 2u == 0u ? 0.0 : phase;
     } else {
@@ -81,12 +81,12 @@ static void set_wrong_state(int effect, struct six_state *s, unsigned way)
 }
 
 /* The other causes, in the call's arguments. The delay is in exponential mode, where the time, its port 1, is not read. */
-static void set_wrong_argument(struct six_call *c, char cause, unsigned way)
+static void set_wrong_argument(struct effect_call *c, char cause, unsigned way)
 {
     const struct numbers rates = rates_refused();
     const double coefficients[] = {1.0, -SMALLEST, ODD_NAN};
-    const unsigned first = c->effect == SIX_DELAY ? 2u : 1u;
-    const unsigned curve = six_curves(c->effect) == 0u ? 0u : way % six_curves(c->effect);
+    const unsigned first = c->effect == ROOM_DELAY ? 2u : 1u;
+    const unsigned curve = effect_curves(c->effect) == 0u ? 0u : way % effect_curves(c->effect);
     if (cause == '1') {
         c->rate = rates.list[way % rates.count];
     } else if (cause == '2') {
@@ -94,28 +94,28 @@ static void set_wrong_argument(struct six_call *c, char cause, unsigned way)
     } else if (cause == '3') {
         c->places = way % 3u == 0u ? 0u : c->places - (way % 3u == 1u ? 1u : c->places / 2u);
     } else if (cause == '5') {
-        c->ports[first + way % (six_ports(c->effect) - first)] = room_set(way % 2u == 0u ? (double)NAN : ODD_NAN);
+        c->ports[first + way % (effect_ports(c->effect) - first)] = room_set(way % 2u == 0u ? (double)NAN : ODD_NAN);
     } else {
-        c->curves[curve] = c->effect == SIX_DELAY || way % 2u == 0u ? ODD_NAN : curve == 0u ? farther(32.0) : farther(-1.0);
+        c->curves[curve] = c->effect == ROOM_DELAY || way % 2u == 0u ? ODD_NAN : curve == 0u ? farther(32.0) : farther(-1.0);
     }
 }
 
 /* A state after a start and a tick, in memory that sounds from then on. */
-static void begin(int effect, struct six_state *state)
+static void begin(int effect, struct effect_state *state)
 {
-    struct six_call c = six_good(effect, SIX_START, lent, places_at_8000[effect], RATE, MAXIMUM);
+    struct effect_call c = effect_good(effect, START, lent, places_at_8000[effect], RATE, MAXIMUM);
     double out[3];
     memset(state, 0, sizeof *state);
-    check(six_make(state, &c, out) == 0, "start for an order", (unsigned)effect);
-    c.call = SIX_TICK;
-    check(six_make(state, &c, out) == 0, "tick for an order", (unsigned)effect);
+    check(effect_make(state, &c, out) == 0, "start for an order", (unsigned)effect);
+    c.call = TICK;
+    check(effect_make(state, &c, out) == 0, "tick for an order", (unsigned)effect);
 }
 
 /* Brings about the causes of a set, bit n for the n-th of the call's order: the number by the table, or NONE if one of them
    can't apply to the effect. */
 #define NONE 99u
 
-static uint32_t bring_about(struct six_call *c, struct six_state *state, unsigned set, unsigned way)
+static uint32_t bring_about(struct effect_call *c, struct effect_state *state, unsigned set, unsigned way)
 {
     const char *const causes = orders[c->call];
     uint32_t number = 0;
@@ -141,10 +141,10 @@ static uint32_t bring_about(struct six_call *c, struct six_state *state, unsigne
 static void attempt(int effect, int call, unsigned set, unsigned way)
 {
     const unsigned i = 10000u * (unsigned)effect + 1000u * (unsigned)call + 10u * set + way;
-    const unsigned answers = call == SIX_TICK ? six_samples(effect) : call == SIX_SILENT ? 1u : 0u;
-    struct six_call c = six_good(effect, call, lent, places_at_8000[effect], RATE, MAXIMUM);
+    const unsigned answers = call == TICK ? effect_samples(effect) : call == SILENT ? 1u : 0u;
+    struct effect_call c = effect_good(effect, call, lent, places_at_8000[effect], RATE, MAXIMUM);
     const double none[3] = {0.0, 0.0, 0.0};
-    struct six_state state, left;
+    struct effect_state state, left;
     double out[3] = {JUNK, JUNK, JUNK};
     uint32_t number;
     begin(effect, &state);
@@ -154,10 +154,10 @@ static void attempt(int effect, int call, unsigned set, unsigned way)
     }
     memcpy(&left, &state, sizeof left);
     memcpy(as_lent, lent, sizeof lent);
-    if (call == SIX_START) {
+    if (call == START) {
         memset(&left, 0, sizeof left);
     }
-    check(six_make(&state, &c, out) == number, "the first cause in the call's order is given", i);
+    check(effect_make(&state, &c, out) == number, "the first cause in the call's order is given", i);
     if (number != 0u) {
         check(memcmp(&state, &left, sizeof state) == 0, "a refused call leaves the state, of a start zeros", i);
         check(memcmp(as_lent, lent, sizeof lent) == 0, "a refused call leaves the memory", i);
@@ -169,9 +169,9 @@ void order_of_causes(void)
 {
     int effect, call;
     unsigned set, way;
-    for (effect = SIX_DELAY; effect < SIX_END; effect++) {
-        for (call = SIX_START; call < SIX_CALLS; call++) {
-            for (set = 0; six_has(effect, call) && set < 1u << strlen(orders[call]); set++) {
+    for (effect = ROOM_DELAY; effect < EFFECTS_END; effect++) {
+        for (call = START; call < CALLS; call++) {
+            for (set = 0; effect_has(effect, call) && set < 1u << strlen(orders[call]); set++) {
                 for (way = 0; way < 8u; way++) {
                     attempt(effect, call, set, way);
                 }

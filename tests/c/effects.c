@@ -1,33 +1,34 @@
-/* The calls of the six effects in one form. */
-#include "six.h"
+/* The calls of all effects in one form. */
+#include "effects.h"
 
 #include <string.h>
 
-unsigned six_ports(int effect)
+unsigned effect_ports(int effect)
 {
-    return effect == SIX_REVERB ? 5u : effect == SIX_DELAY || effect == SIX_FLANGER ? 4u : 3u;
-}
-
-unsigned six_curves(int effect)
-{
-    static const unsigned counts[SIX_END] = {0, 1, 4, 3, 2, 2, 0};
+    static const unsigned counts[EFFECTS_END] = {0, 4, 3, 4, 3, 3, 5};
     return counts[effect];
 }
 
-unsigned six_samples(int effect)
+unsigned effect_curves(int effect)
 {
-    static const unsigned counts[SIX_END] = {0, 1, 3, 3, 1, 1, 2};
+    static const unsigned counts[EFFECTS_END] = {0, 1, 4, 3, 2, 2, 0};
     return counts[effect];
 }
 
-int six_has(int effect, int call)
+unsigned effect_samples(int effect)
 {
-    return !(effect == SIX_TREMOLO && call == SIX_RETUNE);
+    static const unsigned counts[EFFECTS_END] = {0, 1, 3, 3, 1, 1, 2};
+    return counts[effect];
 }
 
-struct six_call six_good(int effect, int call, double *lent, uint64_t places, double rate, double maximum)
+int effect_has(int effect, int call)
 {
-    struct six_call c;
+    return !(effect == ROOM_TREMOLO && call == RETUNE);
+}
+
+struct effect_call effect_good(int effect, int call, double *lent, uint64_t places, double rate, double maximum)
+{
+    struct effect_call c;
     unsigned i;
     memset(&c, 0, sizeof c);
     c.effect = effect;
@@ -44,116 +45,116 @@ struct six_call six_good(int effect, int call, double *lent, uint64_t places, do
     return c;
 }
 
-static uint32_t made_delay(room_delay *s, const struct six_call *c, double *out, int *yes)
+static uint32_t made_delay(room_delay *s, const struct effect_call *c, double *out, int *yes)
 {
     const room_port *p = c->ports;
     switch (c->call) {
-    case SIX_START:
+    case START:
         return room_delay_start(s, c->lent, c->places, c->rate, c->maximum, c->coefficient, 0u);
-    case SIX_RETUNE:
+    case RETUNE:
         return room_delay_retune(s, c->lent, c->places, c->rate, c->coefficient);
-    case SIX_RESET:
+    case RESET:
         return room_delay_reset(s, c->lent, c->places);
-    case SIX_TICK:
+    case TICK:
         return room_delay_tick(s, c->lent, c->places, p[0], p[1], p[2], p[3], c->curves[0], out);
     default:
         return room_delay_silent(s, c->lent, c->places, yes);
     }
 }
 
-static uint32_t made_chorus(room_chorus *s, const struct six_call *c, double *out, int *yes)
+static uint32_t made_chorus(room_chorus *s, const struct effect_call *c, double *out, int *yes)
 {
     const room_port *p = c->ports;
     switch (c->call) {
-    case SIX_START:
+    case START:
         return room_chorus_start(s, c->lent, c->places, c->rate);
-    case SIX_RETUNE:
+    case RETUNE:
         return room_chorus_retune(s, c->lent, c->places, c->rate);
-    case SIX_RESET:
+    case RESET:
         return room_chorus_reset(s, c->lent, c->places);
-    case SIX_TICK:
+    case TICK:
         return room_chorus_tick(s, c->lent, c->places, p[0], p[1], p[2], c->curves[0], c->curves + 1, out);
     default:
         return room_chorus_silent(s, c->lent, c->places, yes);
     }
 }
 
-static uint32_t made_flanger(room_flanger *s, const struct six_call *c, double *out, int *yes)
+static uint32_t made_flanger(room_flanger *s, const struct effect_call *c, double *out, int *yes)
 {
     const room_port *p = c->ports;
     switch (c->call) {
-    case SIX_START:
+    case START:
         return room_flanger_start(s, c->lent, c->places, c->rate);
-    case SIX_RETUNE:
+    case RETUNE:
         return room_flanger_retune(s, c->lent, c->places, c->rate);
-    case SIX_RESET:
+    case RESET:
         return room_flanger_reset(s, c->lent, c->places);
-    case SIX_TICK:
+    case TICK:
         return room_flanger_tick(s, c->lent, c->places, p[0], p[1], p[2], p[3], c->curves[0], c->curves + 1, out);
     default:
         return room_flanger_silent(s, c->lent, c->places, yes);
     }
 }
 
-static uint32_t made_vibrato(room_vibrato *s, const struct six_call *c, double *out, int *yes)
+static uint32_t made_vibrato(room_vibrato *s, const struct effect_call *c, double *out, int *yes)
 {
     const room_port *p = c->ports;
     switch (c->call) {
-    case SIX_START:
+    case START:
         return room_vibrato_start(s, c->lent, c->places, c->rate);
-    case SIX_RETUNE:
+    case RETUNE:
         return room_vibrato_retune(s, c->lent, c->places, c->rate);
-    case SIX_RESET:
+    case RESET:
         return room_vibrato_reset(s, c->lent, c->places);
-    case SIX_TICK:
+    case TICK:
         return room_vibrato_tick(s, c->lent, c->places, p[0], p[1], p[2], c->curves[0], c->curves[1], out);
     default:
         return room_vibrato_silent(s, c->lent, c->places, yes);
     }
 }
 
-static uint32_t made_tremolo(room_tremolo *s, const struct six_call *c, double *out, int *yes)
+static uint32_t made_tremolo(room_tremolo *s, const struct effect_call *c, double *out, int *yes)
 {
     const room_port *p = c->ports;
     switch (c->call) {
-    case SIX_START:
+    case START:
         return room_tremolo_start(s, c->rate);
-    case SIX_RESET:
+    case RESET:
         return room_tremolo_reset(s);
-    case SIX_TICK:
+    case TICK:
         return room_tremolo_tick(s, p[0], p[1], p[2], c->curves[0], c->curves[1], out);
     default:
         return room_tremolo_silent(s, yes);
     }
 }
 
-static uint32_t made_reverb(room_reverb *s, const struct six_call *c, double *out, int *yes)
+static uint32_t made_reverb(room_reverb *s, const struct effect_call *c, double *out, int *yes)
 {
     const room_port *p = c->ports;
     switch (c->call) {
-    case SIX_START:
+    case START:
         return room_reverb_start(s, c->lent, c->places, c->rate);
-    case SIX_RETUNE:
+    case RETUNE:
         return room_reverb_retune(s, c->lent, c->places, c->rate);
-    case SIX_RESET:
+    case RESET:
         return room_reverb_reset(s, c->lent, c->places);
-    case SIX_TICK:
+    case TICK:
         return room_reverb_tick(s, c->lent, c->places, p[0], p[1], p[2], p[3], p[4], out);
     default:
         return room_reverb_silent(s, c->lent, c->places, yes);
     }
 }
 
-uint32_t six_make(struct six_state *state, const struct six_call *c, double out[3])
+uint32_t effect_make(struct effect_state *state, const struct effect_call *c, double out[3])
 {
     int yes = 7;
-    const uint32_t number = c->effect == SIX_DELAY     ? made_delay(&state->delay, c, out, &yes)
-                            : c->effect == SIX_CHORUS  ? made_chorus(&state->chorus, c, out, &yes)
-                            : c->effect == SIX_FLANGER ? made_flanger(&state->flanger, c, out, &yes)
-                            : c->effect == SIX_VIBRATO ? made_vibrato(&state->vibrato, c, out, &yes)
-                            : c->effect == SIX_TREMOLO ? made_tremolo(&state->tremolo, c, out, &yes)
-                                                       : made_reverb(&state->reverb, c, out, &yes);
-    if (c->call == SIX_SILENT) {
+    const uint32_t number = c->effect == ROOM_DELAY     ? made_delay(&state->delay, c, out, &yes)
+                            : c->effect == ROOM_CHORUS  ? made_chorus(&state->chorus, c, out, &yes)
+                            : c->effect == ROOM_FLANGER ? made_flanger(&state->flanger, c, out, &yes)
+                            : c->effect == ROOM_VIBRATO ? made_vibrato(&state->vibrato, c, out, &yes)
+                            : c->effect == ROOM_TREMOLO ? made_tremolo(&state->tremolo, c, out, &yes)
+                                                        : made_reverb(&state->reverb, c, out, &yes);
+    if (c->call == SILENT) {
         out[0] = yes;
     }
     return number;

@@ -1,16 +1,16 @@
-/* The calls of the six effects in one form, for what document 01 says of all of them at once. */
-#ifndef SIX_H
-#define SIX_H
+/* The calls of all effects in one form, for what the documents say of all of them at once. */
+#ifndef EFFECTS_H
+#define EFFECTS_H
 
 #include "calls.h"
 
-/* Document 01's numbers of the effects. */
-enum { SIX_DELAY = 1, SIX_CHORUS, SIX_FLANGER, SIX_VIBRATO, SIX_TREMOLO, SIX_REVERB, SIX_END };
+/* One more than the last effect's number. */
+enum { EFFECTS_END = ROOM_REVERB + 1 };
 
-enum { SIX_START, SIX_RETUNE, SIX_RESET, SIX_TICK, SIX_SILENT, SIX_CALLS };
+enum { START, RETUNE, RESET, TICK, SILENT, CALLS };
 
 /* One of each; an effect reads its own. */
-struct six_state {
+struct effect_state {
     room_delay delay;
     room_chorus chorus;
     room_flanger flanger;
@@ -20,7 +20,7 @@ struct six_state {
 };
 
 /* A call's arguments, the state apart. What a call does not take is not read. */
-struct six_call {
+struct effect_call {
     int effect, call;
     double *lent;
     uint64_t places;
@@ -30,17 +30,17 @@ struct six_call {
 };
 
 /* A call with nothing wrong in it: audio 4, every control set. */
-struct six_call six_good(int effect, int call, double *lent, uint64_t places, double rate, double maximum);
+struct effect_call effect_good(int effect, int call, double *lent, uint64_t places, double rate, double maximum);
 
 /* How many ports and curve numbers an effect's tick has, and how many samples it answers. */
-unsigned six_ports(int effect);
-unsigned six_curves(int effect);
-unsigned six_samples(int effect);
+unsigned effect_ports(int effect);
+unsigned effect_curves(int effect);
+unsigned effect_samples(int effect);
 
 /* Whether the effect has the call: the tremolo has no retune. */
-int six_has(int effect, int call);
+int effect_has(int effect, int call);
 
 /* Makes the call. A tick's samples go into `out`; a question's answer goes into out[0], as 1 or 0. */
-uint32_t six_make(struct six_state *state, const struct six_call *c, double out[3]);
+uint32_t effect_make(struct effect_state *state, const struct effect_call *c, double out[3]);
 
 #endif
