@@ -130,10 +130,11 @@ static void ports(void)
     check(unset.set == 0, "an unset port is not set", 0);
 }
 
-/* The header's names, by document 01's numbers. */
+/* The header's names, by the documents' numbers. */
 static void names(void)
 {
-    const unsigned effects[] = {ROOM_DELAY, ROOM_CHORUS, ROOM_FLANGER, ROOM_VIBRATO, ROOM_TREMOLO, ROOM_REVERB};
+    const unsigned effects[] = {ROOM_DELAY,   ROOM_CHORUS, ROOM_FLANGER, ROOM_VIBRATO,
+                                ROOM_TREMOLO, ROOM_REVERB, ROOM_PHASER};
     const unsigned causes[] = {ROOM_ACCEPTED,      ROOM_REFUSED_SAMPLE_RATE, ROOM_REFUSED_GLIDE_COEFFICIENT,
                                ROOM_REFUSED_MEMORY, ROOM_REFUSED_STATE,       ROOM_REFUSED_CONTROL,
                                ROOM_REFUSED_CURVE};
@@ -162,6 +163,7 @@ int main(void)
     test("flanger", flanger);
     test("delay", delay);
     test("reverb", reverb);
+    test("phaser", phaser);
     test("places", places);
     test("order of causes", order_of_causes);
     test("ends", ends);

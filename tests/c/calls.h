@@ -43,7 +43,7 @@ struct numbers rates_refused(void);
 struct numbers phases_accepted(void);
 struct numbers phases_refused(void);
 struct numbers frequencies_refused(void);
-struct numbers sines_refused(void);
+struct numbers sines_refused(void); /* and an all-pass coefficient's */
 struct numbers at_least_one(void);
 struct numbers at_most_zero(void);
 
@@ -56,6 +56,7 @@ void chorus(void);
 void flanger(void);
 void delay(void);
 void reverb(void);
+void phaser(void);
 void places(void);
 void order_of_causes(void);
 void ends(void);

@@ -5,25 +5,30 @@
 
 unsigned effect_ports(int effect)
 {
-    static const unsigned counts[EFFECTS_END] = {0, 4, 3, 4, 3, 3, 5};
+    static const unsigned counts[EFFECTS_END] = {0, 4, 3, 4, 3, 3, 5, 4};
     return counts[effect];
 }
 
 unsigned effect_curves(int effect)
 {
-    static const unsigned counts[EFFECTS_END] = {0, 1, 4, 3, 2, 2, 0};
+    static const unsigned counts[EFFECTS_END] = {0, 1, 4, 3, 2, 2, 0, 3};
     return counts[effect];
 }
 
 unsigned effect_samples(int effect)
 {
-    static const unsigned counts[EFFECTS_END] = {0, 1, 3, 3, 1, 1, 2};
+    static const unsigned counts[EFFECTS_END] = {0, 1, 3, 3, 1, 1, 2, 3};
     return counts[effect];
+}
+
+int effect_lined(int effect)
+{
+    return effect != ROOM_TREMOLO && effect != ROOM_PHASER;
 }
 
 int effect_has(int effect, int call)
 {
-    return !(effect == ROOM_TREMOLO && call == RETUNE);
+    return effect_lined(effect) || call != RETUNE;
 }
 
 struct effect_call effect_good(int effect, int call, double *lent, uint64_t places, double rate, double maximum)
@@ -145,6 +150,21 @@ static uint32_t made_reverb(room_reverb *s, const struct effect_call *c, double 
     }
 }
 
+static uint32_t made_phaser(room_phaser *s, const struct effect_call *c, double *out, int *yes)
+{
+    const room_port *p = c->ports;
+    switch (c->call) {
+    case START:
+        return room_phaser_start(s, c->rate);
+    case RESET:
+        return room_phaser_reset(s);
+    case TICK:
+        return room_phaser_tick(s, p[0], p[1], p[2], p[3], c->curves[0], c->curves[1], c->curves[2], out);
+    default:
+        return room_phaser_silent(s, yes);
+    }
+}
+
 uint32_t effect_make(struct effect_state *state, const struct effect_call *c, double out[3])
 {
     int yes = 7;
@@ -153,7 +173,8 @@ uint32_t effect_make(struct effect_state *state, const struct effect_call *c, do
                             : c->effect == ROOM_FLANGER ? made_flanger(&state->flanger, c, out, &yes)
                             : c->effect == ROOM_VIBRATO ? made_vibrato(&state->vibrato, c, out, &yes)
                             : c->effect == ROOM_TREMOLO ? made_tremolo(&state->tremolo, c, out, &yes)
-                                                        : made_reverb(&state->reverb, c, out, &yes);
+                            : c->effect == ROOM_REVERB  ? made_reverb(&state->reverb, c, out, &yes)
+                                                        : made_phaser(&state->phaser, c, out, &yes);
     if (c->call == SILENT) {
         out[0] = yes;
     }

@@ -5,7 +5,7 @@
 #include "calls.h"
 
 /* One more than the last effect's number. */
-enum { EFFECTS_END = ROOM_REVERB + 1 };
+enum { EFFECTS_END = ROOM_PHASER + 1 };
 
 enum { START, RETUNE, RESET, TICK, SILENT, CALLS };
 
@@ -17,6 +17,7 @@ struct effect_state {
     room_vibrato vibrato;
     room_tremolo tremolo;
     room_reverb reverb;
+    room_phaser phaser;
 };
 
 /* A call's arguments, the state apart. What a call does not take is not read. */
@@ -26,7 +27,7 @@ struct effect_call {
     uint64_t places;
     double rate, maximum, coefficient; /* of a start or a retune */
     room_port ports[5];                /* in the tick's order, the audio first */
-    double curves[4];                  /* frequency and sines, or milliseconds */
+    double curves[4];                  /* frequency and sines or coefficients, or milliseconds */
 };
 
 /* A call with nothing wrong in it: audio 4, every control set. */
@@ -37,7 +38,10 @@ unsigned effect_ports(int effect);
 unsigned effect_curves(int effect);
 unsigned effect_samples(int effect);
 
-/* Whether the effect has the call: the tremolo has no retune. */
+/* Whether the effect has lines, and so memory. */
+int effect_lined(int effect);
+
+/* Whether the effect has the call: one without lines has no retune. */
 int effect_has(int effect, int call);
 
 /* Makes the call. A tick's samples go into `out`; a question's answer goes into out[0], as 1 or 0. */

@@ -19,6 +19,7 @@ static const struct {
     {ROOM_VIBRATO, 0.0, 170, 3850},
     {ROOM_TREMOLO, 0.0, 0, 0},
     {ROOM_REVERB, 0.0, 87136, 87136},
+    {ROOM_PHASER, 0.0, 0, 0},
 };
 
 /* The most that is lent, and one place behind it. */
@@ -119,6 +120,7 @@ void ends(void)
 {
     double *lent = calloc(WIDEST, sizeof *lent);
     unsigned i;
+    int effect;
     check(lent != NULL, "memory for the longest line", 0);
     for (i = 0; lent != NULL && i < COUNT(units); i++) {
         memory_at(i, lent, 8000.0, units[i].low);
@@ -130,9 +132,9 @@ void ends(void)
               "places at 192,000", i);
     }
     free(lent);
-    lent_nothing(ROOM_DELAY);
-    lent_nothing(ROOM_CHORUS);
-    lent_nothing(ROOM_FLANGER);
-    lent_nothing(ROOM_VIBRATO);
-    lent_nothing(ROOM_REVERB);
+    for (effect = ROOM_DELAY; effect < EFFECTS_END; effect++) {
+        if (effect_lined(effect)) {
+            lent_nothing(effect);
+        }
+    }
 }

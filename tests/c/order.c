@@ -11,16 +11,16 @@
 static double lent[ORDER_ROOM];
 static double as_lent[ORDER_ROOM];
 
-/* The places at 8,000 by document 01, of the chorus by A.4 of document 02; the delay's with that maximum. */
-static const uint64_t places_at_8000[EFFECTS_END] = {0, 501, 266, 180, 170, 0, 87136};
+/* The places at 8,000 by document 01, of chorus and phaser by document 02; the delay's with that maximum. */
+static const uint64_t places_at_8000[EFFECTS_END] = {0, 501, 266, 180, 170, 0, 87136, 0};
 
 /* "start 1, 2, 3; retune 4, 1, 2, 3; reset and silent 4, 3; tick 4, 3, 5, 6" */
 static const char *const orders[CALLS] = {"123", "4123", "43", "4356", "43"};
 
-/* 2 is the delay's alone, the tremolo is lent no memory, and the reverb has no curve number. */
+/* 2 is the delay's alone, tremolo and phaser are lent no memory, and the reverb has no curve number. */
 static int can_apply(int effect, char cause)
 {
-    return !((cause == '2' && effect != ROOM_DELAY) || (cause == '3' && effect == ROOM_TREMOLO) ||
+    return !((cause == '2' && effect != ROOM_DELAY) || (cause == '3' && !effect_lined(effect)) ||
              (cause == '6' && effect == ROOM_REVERB));
 }
 
@@ -67,6 +67,8 @@ static void set_wrong_state(int effect, struct effect_state *s, unsigned way)
         set_wrong_reverb(&s->reverb, way);
     } else if (effect == ROOM_TREMOLO) {
         *(way % 2u == 0u ? &s->tremolo.lfo_phase : &s->tremolo.sample_rate) = phase;
+    } else if (effect == ROOM_PHASER) {
+        *(way % 2u == 0u ? &s->phaser.lfo_phase : &s->phaser.sample_rate) = phase;
     } else if (effect == ROOM_CHORUS && way % 2u == 0u) {
         s->chorus.lfo_phases[way / 2u % 3u] = phase;
     } else if (effect == ROOM_CHORUS) {

@@ -26,6 +26,7 @@ static void by_the_rate(void)
         needed(ROOM_VIBRATO, 192000.0, maxima[i], 3850u, i);
         for (k = 0; k < rates.count; k++) {
             needed(ROOM_TREMOLO, rates.list[k], maxima[i], 0u, k);
+            needed(ROOM_PHASER, rates.list[k], maxima[i], 0u, k);
             needed(ROOM_REVERB, rates.list[k], maxima[i], 87136u, k);
         }
     }
@@ -47,13 +48,13 @@ static void by_the_maximum(void)
 
 void places(void)
 {
-    const uint32_t others[] = {0u, 7u, 8u, 256u + 6u, UINT32_C(0x80000001), UINT32_MAX};
+    const uint32_t others[] = {0u, 8u, 9u, 256u + 7u, UINT32_C(0x80000001), UINT32_MAX};
     const struct numbers wrong = rates_refused();
     unsigned i, k;
     by_the_rate();
     by_the_maximum();
     for (i = 0; i < wrong.count; i++) {
-        for (k = ROOM_DELAY; k <= ROOM_REVERB; k++) {
+        for (k = ROOM_DELAY; k <= ROOM_PHASER; k++) {
             needed(k, wrong.list[i], 2.0, none, 10u * i + k);
         }
     }
