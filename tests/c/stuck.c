@@ -1,5 +1,5 @@
 /* What feeds back with more than one half may never fall silent by itself: a subnormal sample times the feedback rounds back to
-   itself. A reset ends it. */
+   itself. So does an all-pass's last output times its coefficient. A reset ends it. */
 #include "calls.h"
 
 enum { DELAY_PLACES = 9, TANK_PLACES = 87136 };
@@ -83,8 +83,58 @@ static void rooms_stick(void)
     check(room_reverb_silent(&state, lent, TANK_PLACES, &silent) == 0 && silent == 1, "a reset makes it silent", 3);
 }
 
+/* An impulse, and so many ticks of audio 0, through six all-passes a side. */
+static void phaser_rings(room_phaser *state, double coef, double audio, unsigned ticks)
+{
+    uint32_t refused = 0;
+    double out[3];
+    unsigned i;
+    for (i = 0; i < ticks; i++) {
+        refused |= room_phaser_tick(state, room_set(i == 0u ? audio : 0.0), room_unset(), room_unset(), room_unset(), 1.0, coef,
+                                    coef, out);
+    }
+    check(refused == 0u, "ticks of a phaser that may stick", 0);
+}
+
+static int phaser_silent(const room_phaser *state)
+{
+    int silent = 7;
+    check(room_phaser_silent(state, &silent) == 0, "silent after a phaser rang", 0);
+    return silent;
+}
+
+/* In the end each last output is this many times the smallest float; with a coefficient above 0 its sign changes at every
+   tick. */
+static void phaser_stuck_at(double coef, unsigned steps, unsigned i)
+{
+    room_phaser state;
+    double last;
+    check(room_phaser_start(&state, 8000.0) == 0, "start for a phaser that may stick", i);
+    phaser_rings(&state, coef, 1.0, 100000u);
+    last = state.allpass_y1_l[5];
+    check(bits(fabs(last)) == steps, "the phaser has come to where it stays", i);
+    phaser_rings(&state, coef, 0.0, 1u);
+    check(steps == 0u || same(state.allpass_y1_l[5], coef < 0.0 ? last : -last), "its sign", i);
+    phaser_rings(&state, coef, 0.0, 100000u);
+    check(bits(fabs(state.allpass_y1_l[0])) == steps && bits(fabs(state.allpass_y1_r[5])) == steps, "it no longer changes", i);
+    check(phaser_silent(&state) == (steps == 0u), "it is silent only if it came to 0", i);
+    check(room_phaser_reset(&state) == 0 && phaser_silent(&state) == 1, "a reset makes it silent", i);
+}
+
+static void phasers_stick(void)
+{
+    phaser_stuck_at(0.5, 0, 0);
+    phaser_stuck_at(farther(0.5), 1, 1);
+    phaser_stuck_at(0.7, 1, 2);
+    phaser_stuck_at(0.9, 5, 3);
+    phaser_stuck_at(0.99, 49, 4);
+    phaser_stuck_at(-0.5, 0, 5);
+    phaser_stuck_at(farther(-0.5), 1, 6);
+}
+
 void stuck(void)
 {
     echoes_stick();
     rooms_stick();
+    phasers_stick();
 }
