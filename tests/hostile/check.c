@@ -3,7 +3,7 @@
 
 #include <string.h>
 
-/* To the bit; after an accepted tick a damping store that is NaN may be any NaN. */
+/* To the bit; after an accepted tick a store that is NaN may be any NaN. */
 static int state_is(int effect, const struct state *is, const struct state *should, int any_nan)
 {
     unsigned i;

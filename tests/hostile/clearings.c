@@ -1,4 +1,4 @@
-/* Document 01: what an accepted start, retune or reset leaves, and the question. */
+/* Document 01, of the phaser document 02: what an accepted start, retune or reset leaves, and the question. */
 #include "hostile.h"
 
 /* "Start phases: chorus 0, 0.33, 0.67; others 0. Reset restores them. Retune keeps the phases of chorus and flanger and zeroes
@@ -12,7 +12,8 @@ static double phase_after(const struct call *c, unsigned word)
 }
 
 /* "Start, reset and retune all set positions to 0, unprime the delay's glide with distance +0, and set the reverb's damping
-   stores to +0"; what is no setting of the call stays. */
+   stores to +0", and of the phaser "all 24 stored numbers of its chains, +0 after start and reset"; what is no setting of the
+   call stays. */
 struct state cleared_by_the_paper(const struct call *c)
 {
     struct state s = c->state;
@@ -47,11 +48,26 @@ static int all_zero(const double *from, uint64_t count)
     return 1;
 }
 
+/* The phaser: "silent exactly when all 24 stored numbers of its chains .. are +0 or -0". */
+static int chains_zero(const struct call *c)
+{
+    unsigned i;
+    for (i = 0; i < 24u; i++) {
+        if (of_bits(c->state.word[i]) != 0.0) {
+            return 0;
+        }
+    }
+    return 1;
+}
+
 /* "yes when every place in use of the unit's lines is +0 or -0. The tremolo has no line and is always silent." */
 int silent_by_the_paper(const struct call *c)
 {
     const double rate = of_bits(c->state.word[word_of(c->effect, 'r')]);
     unsigned line;
+    if (c->effect == PHASER) {
+        return chains_zero(c);
+    }
     if (c->effect != REVERB) {
         return all_zero(c->memory, needed(c->effect, rate, c->effect == DELAY ? of_bits(c->state.word[5]) : 0.0));
     }

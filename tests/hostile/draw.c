@@ -238,7 +238,7 @@ static int draw_kind(const struct unit *unit)
     }
     if (one_in(6u * rarer)) {
         const int kind = (int)below(3);
-        return kind == RETUNE && unit->effect == TREMOLO ? START : kind;
+        return kind == RETUNE && lines_of(unit->effect) == 0u ? START : kind;
     }
     return TICK;
 }
@@ -263,6 +263,6 @@ struct call draw_call(const struct unit *unit)
     for (; wrong > 0u; wrong--) {
         set_wrong_argument(&c, unit->arena);
     }
-    c.places = unit->effect == TREMOLO ? 0u : c.places; /* it is lent none */
+    c.places = lines_of(unit->effect) == 0u ? 0u : c.places; /* it is lent none */
     return c;
 }

@@ -11,8 +11,8 @@
 
 #define COUNT(list) (sizeof(list) / sizeof((list)[0]))
 
-/* Document 01's numbers of the effects. */
-enum { DELAY = 1, CHORUS, FLANGER, VIBRATO, TREMOLO, REVERB, EFFECTS };
+/* The effects' numbers in documents 01 and 02. */
+enum { DELAY = 1, CHORUS, FLANGER, VIBRATO, TREMOLO, REVERB, PHASER, EFFECTS };
 
 enum { START, RETUNE, RESET, TICK, SILENT, CALLS };
 
@@ -29,7 +29,7 @@ extern const char *const call_names[CALLS];
 /*
  * A state in one form for all effects: the bits of its numbers in the order of the header's struct. What each word is stands
  * in a string: w a position, p a phase, r the rate, d the delay's distance, f a flag (32 bits), c the coefficient, m the
- * maximum, s a damping store.
+ * maximum, s a store that may be any float: a damping store, an all-pass's last input or output.
  */
 struct state {
     uint64_t word[WORDS];
@@ -86,7 +86,7 @@ double good_coefficient(void);
 int rate_holds(double rate);
 double held_maximum(double maximum);
 uint64_t line_length(int effect, double rate, double maximum);
-unsigned lines_of(int effect);
+unsigned lines_of(int effect); /* 0: it is lent no memory and has no retune */
 uint64_t needed(int effect, double rate, double maximum);
 int state_passes(int effect, const struct state *state);
 uint32_t number_for(const struct call *c);

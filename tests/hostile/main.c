@@ -83,13 +83,16 @@ static uint64_t at_an_end(const struct unit *unit)
     return start + (one_in(3) ? 0u : length - below(2));
 }
 
-/* The host's own hand: a place of the memory holds something else from now on. */
-static void disturb(const struct unit *unit)
+/* The host's own hand: a place of the memory, or a number of the phaser's chains, holds something else from now on. */
+static void disturb(struct unit *unit)
 {
     const uint64_t offset = (uint64_t)(unit->memory - unit->arena->first);
-    const int has_lines = unit->effect != TREMOLO && state_passes(unit->effect, &unit->state);
+    const int has_lines = lines_of(unit->effect) > 0u && state_passes(unit->effect, &unit->state);
     uint64_t place = below(unit->arena->places);
     const double x = one_in(2) ? of_bits(any_bits() & UINT64_C(0x8000000000000001)) : any_float();
+    if (unit->effect == PHASER) {
+        unit->state.word[below(24)] = bits(x);
+    }
     if (has_lines && !one_in(4)) {
         place = (offset + at_an_end(unit)) % unit->arena->places;
     }
@@ -100,7 +103,7 @@ static void disturb(const struct unit *unit)
 static void count_length(const struct call *c)
 {
     const uint64_t need = call_needs(c);
-    if (c->effect != TREMOLO && need != UINT64_MAX) {
+    if (lines_of(c->effect) > 0u && need != UINT64_MAX) {
         lengths[c->places == 0u          ? NO_PLACES
                 : c->places + 1u < need  ? FEWER
                 : c->places + 1u == need ? ONE_SHORT
@@ -144,10 +147,10 @@ static void one_call(struct unit *unit)
 /* The question at power-up. */
 static void one_places_call(void)
 {
-    const uint32_t effect = one_in(8) ? (uint32_t)any_bits() : (uint32_t)below(8);
+    const uint32_t effect = one_in(8) ? (uint32_t)any_bits() : (uint32_t)below(EFFECTS + 1);
     const double rate = one_in(3) ? any_float() : good_rate();
     const double maximum = one_in(2) ? any_float() : good_maximum();
-    const uint64_t should = needed(effect <= REVERB ? (int)effect : 0, rate, held_maximum(maximum));
+    const uint64_t should = needed(effect < EFFECTS ? (int)effect : 0, rate, held_maximum(maximum));
     const uint64_t is = room_places_needed(effect, rate, maximum);
     places_made++;
     made++;
@@ -162,10 +165,10 @@ static void one_places_call(void)
 static int has_cell(int effect, int kind, int number)
 {
     static const char *const numbers[CALLS] = {"0123", "04123", "043", "04356", "043"};
-    if (kind == RETUNE && effect == TREMOLO) {
+    if (kind == RETUNE && lines_of(effect) == 0u) {
         return 0;
     }
-    if ((number == 2 && effect != DELAY) || (number == 3 && effect == TREMOLO) || (number == 6 && effect == REVERB)) {
+    if ((number == 2 && effect != DELAY) || (number == 3 && lines_of(effect) == 0u) || (number == 6 && effect == REVERB)) {
         return 0;
     }
     return strchr(numbers[kind], '0' + number) != NULL;
@@ -209,7 +212,7 @@ static void print_table(void)
 {
     int effect, kind;
     printf("%-16s %11s %11s %11s %11s %11s %11s %11s\n", "", "accepted", "by 1", "by 2", "by 3", "by 4", "by 5", "by 6");
-    for (effect = DELAY; effect <= REVERB; effect++) {
+    for (effect = DELAY; effect < EFFECTS; effect++) {
         for (kind = START; kind < CALLS; kind++) {
             if (has_cell(effect, kind, 0)) {
                 print_row(effect, kind);
@@ -239,7 +242,7 @@ int main(int argc, char **argv)
     seed_random(seed);
     while (made < calls) {
         const int long_line = made == 0u || one_in(30000); /* 60 s at 192,000: a clearing takes long */
-        struct unit unit = draw_unit(long_line ? DELAY : (int)(1u + below(6)), long_line);
+        struct unit unit = draw_unit(long_line ? DELAY : (int)(1u + below(EFFECTS - 1)), long_line);
         const uint64_t end = made + (long_line ? LONG_CHAIN : 20u + below(300));
         while (made < end) {
             one_call(&unit);

@@ -169,10 +169,27 @@ static uint32_t reverb(const struct call *c, double *out, uint32_t *yes)
     }
 }
 
+static uint32_t phaser(const struct call *c, double *out, uint32_t *yes)
+{
+    double *in_l = lend(c, 0, 6), *in_r = lend(c, 6, 6);
+    double *out_l = lend(c, 12, 6), *out_r = lend(c, 18, 6);
+    switch (c->kind) {
+    case START:
+        return room_raw_phaser_start(c->rate, in_l, in_r, out_l, out_r, lend(c, 24, 1), lend(c, 25, 1));
+    case RESET:
+        return room_raw_phaser_reset(in_l, in_r, out_l, out_r, lend(c, 24, 1), number(c, 25));
+    case TICK:
+        return room_raw_phaser_tick(in_l, in_r, out_l, out_r, lend(c, 24, 1), number(c, 25), c->set, c->ports[0], c->ports[1],
+                                    c->ports[2], c->ports[3], c->curves[0], c->curves[1], c->curves[2], out);
+    default:
+        return room_raw_phaser_silent(in_l, in_r, out_l, out_r, number(c, 24), number(c, 25), yes);
+    }
+}
+
 struct answer make(const struct call *c)
 {
     static uint32_t (*const effects[EFFECTS])(const struct call *, double *, uint32_t *) = {
-        0, delay, chorus, flanger, vibrato, tremolo, reverb};
+        0, delay, chorus, flanger, vibrato, tremolo, reverb, phaser};
     const unsigned samples = samples_of(c->effect);
     double *out = spot(OUT_SPOT, samples * 8u, one_in(2));
     uint32_t *yes = spot(SILENT_SPOT, 4u, one_in(2));

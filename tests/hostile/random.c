@@ -44,7 +44,7 @@ double near(double x)
 static double at_a_limit(void)
 {
     static const double limits[] = {0.0,  1.0,   0.001, 60.0, 2.0,  0.95,   0.99,    32.0,     8000.0,     44100.0,
-                                    0.33, 48000, 0.5,   0.67, 61.0, 1000.0, 96000.0, 192000.0, 4503599627370496.0};
+                                    0.33, 48000, 0.5,   0.66, 0.67, 61.0, 1000.0, 96000.0, 192000.0, 4503599627370496.0};
     const double x = limits[below(COUNT(limits))];
     if (x == 0.0) {
         return of_bits(below(3) | (any_bits() & (UINT64_C(1) << 63)));

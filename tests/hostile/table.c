@@ -1,14 +1,16 @@
-/* Document 01: lengths, places needed, the state test, and the table of refusals with its orders. Of document 02, A.4. */
+/* Document 01: lengths, places needed, the state test, and the table of refusals with its orders. Of document 02, A.1 and
+   A.4. */
 #include "hostile.h"
 
 #include <string.h>
 
-const char *const effect_names[EFFECTS] = {"", "delay", "chorus", "flanger", "vibrato", "tremolo", "reverb"};
+const char *const effect_names[EFFECTS] = {"", "delay", "chorus", "flanger", "vibrato", "tremolo", "reverb", "phaser"};
 const char *const call_names[CALLS] = {"start", "retune", "reset", "tick", "silent"};
 
-/* The reverb: comb positions, left and right; stores, left and right; all-pass positions, left and right; predelay; rate. */
-const char *const state_words[EFFECTS] = {"",    "wdfrcmf", "wpppr", "wpr",
-                                          "wpr", "pr",      "wwwwwwwwwwwwwwwwsssssssssssssssswwwwwwwwwr"};
+/* The reverb: comb positions, left and right; stores, left and right; all-pass positions, left and right; predelay; rate. The
+   phaser: last inputs, left and right; last outputs, left and right; phase; rate. */
+const char *const state_words[EFFECTS] = {
+    "", "wdfrcmf", "wpppr", "wpr", "wpr", "pr", "wwwwwwwwwwwwwwwwsssssssssssssssswwwwwwwwwr", "sssssssssssssssssssssssspr"};
 
 unsigned words_of(int effect)
 {
@@ -56,16 +58,18 @@ uint64_t line_length(int effect, double rate, double maximum)
     }
 }
 
-/* Of the chorus document 02 says: "Keep one line of L places and let the three voices read it." */
+/* Of the chorus document 02 says: "Keep one line of L places and let the three voices read it." Of the phaser: "It has no
+   retune and no lent lines; to the controller it is effect 7, with 0 places." */
 unsigned lines_of(int effect)
 {
-    return effect == FLANGER ? 2u : effect == TREMOLO ? 0u : effect == REVERB ? TANK_LINES : 1u;
+    static const unsigned lines[EFFECTS] = {0, 1, 1, 2, 1, 0, TANK_LINES, 0};
+    return lines[effect];
 }
 
 /* "A refused rate or another effect number gives 2 to the power 64 minus 1." The maximum is one that is held. */
 uint64_t needed(int effect, double rate, double maximum)
 {
-    if (effect < DELAY || effect > REVERB || !rate_holds(rate)) {
+    if (effect < DELAY || effect > PHASER || !rate_holds(rate)) {
         return UINT64_MAX;
     }
     return effect == REVERB ? 87136u : lines_of(effect) * line_length(effect, rate, maximum);
@@ -142,8 +146,8 @@ static int controls_hold(const struct call *c)
     return 1;
 }
 
-/* 6: "curve number NaN, a sine outside -1 to 1, a frequency outside 0 to 32". The delay's is milliseconds, for exponential mode
-   alone; of the others the first is the frequency. */
+/* 6: "curve number NaN, a sine outside -1 to 1, a frequency outside 0 to 32", and by document 02 "a coefficient outside -1 to
+   1". The delay's is milliseconds, for exponential mode alone; of the others the first is the frequency. */
 static int curves_hold(const struct call *c)
 {
     unsigned i;

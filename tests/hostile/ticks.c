@@ -1,22 +1,25 @@
-/* Document 01, of the chorus's line document 02: what an accepted tick answers, writes and leaves. Products go from left to
-   right, sums start at +0. */
+/* Document 01, of the chorus's line and the phaser document 02: what an accepted tick answers, writes and leaves. Products go
+   from left to right, sums start at +0. */
 #include "hostile.h"
 
 #include <math.h>
 
 unsigned samples_of(int effect)
 {
-    return effect == CHORUS || effect == FLANGER ? 3u : effect == REVERB ? 2u : 1u;
+    static const unsigned samples[EFFECTS] = {0, 1, 3, 3, 1, 1, 2, 3};
+    return samples[effect];
 }
 
 unsigned ports_of(int effect)
 {
-    return effect == DELAY || effect == FLANGER ? 4u : effect == REVERB ? 5u : 3u;
+    static const unsigned ports[EFFECTS] = {0, 4, 3, 4, 3, 3, 5, 4};
+    return ports[effect];
 }
 
 unsigned curves_of(int effect)
 {
-    return effect == DELAY ? 1u : effect == CHORUS ? 4u : effect == FLANGER ? 3u : effect == REVERB ? 0u : 2u;
+    static const unsigned curves[EFFECTS] = {0, 1, 4, 3, 2, 2, 0, 3};
+    return curves[effect];
 }
 
 double port(const struct call *c, unsigned which, double unset)
@@ -149,10 +152,37 @@ static void tremolo_tick(struct ticked *t, const struct call *c)
     advance(t, 0, c->curves[0] / of_bits(c->state.word[1]));
 }
 
+/* "two chains of six all-passes, feedback from the last active stage": the words of its last inputs and outputs begin here. */
+static double chain(struct ticked *t, const struct call *c, unsigned inputs, unsigned outputs, double audio, double coefficient)
+{
+    const double stages = port(c, 3, 1.0);
+    const unsigned active = stages < 0.33 ? 2u : stages < 0.66 ? 4u : 6u;
+    double in = audio + of_bits(c->state.word[outputs + active - 1u]) * clamped(port(c, 1, 0.0), -0.95, 0.95);
+    unsigned i;
+    for (i = 0; i < active; i++) {
+        const double last_in = of_bits(c->state.word[inputs + i]);
+        const double last_out = of_bits(c->state.word[outputs + i]);
+        const double out = coefficient * in + last_in - coefficient * last_out;
+        t->state.word[inputs + i] = bits(in);
+        t->state.word[outputs + i] = bits(out);
+        in = out;
+    }
+    return blended(audio, in, clamped(port(c, 2, 0.5), 0.0, 1.0));
+}
+
+static void phaser_tick(struct ticked *t, const struct call *c)
+{
+    const double audio = input_rule(port(c, 0, 0.0));
+    t->out[1] = chain(t, c, 0, 12, audio, c->curves[1]);
+    t->out[2] = chain(t, c, 6, 18, audio, c->curves[2]);
+    t->out[0] = t->out[1];
+    advance(t, 24, c->curves[0] / of_bits(c->state.word[25]));
+}
+
 struct ticked tick_by_the_paper(const struct call *c)
 {
     static void (*const ticks[EFFECTS])(struct ticked *, const struct call *) = {
-        0, delay_tick, chorus_tick, flanger_tick, vibrato_tick, tremolo_tick, 0};
+        0, delay_tick, chorus_tick, flanger_tick, vibrato_tick, tremolo_tick, 0, phaser_tick};
     struct ticked t;
     if (c->effect == REVERB) {
         return reverb_tick_by_the_paper(c);
