@@ -122,7 +122,7 @@ static void number_facts(const struct room *room)
 {
     const double *phases = room->chorus.lfo_phases;
     fact(in_unit(phases[0]) && in_unit(phases[1]) && in_unit(phases[2]) && in_unit(room->flanger.lfo_phase) &&
-             in_unit(room->vibrato.lfo_phase) && in_unit(room->tremolo.lfo_phase),
+             in_unit(room->vibrato.lfo_phase) && in_unit(room->tremolo.lfo_phase) && in_unit(room->phaser.lfo_phase),
          "each phase is at least 0 and below 1");
     fact(room->ticks == 0u || (within(&room->delay) && room->delay.delay_primed == 1u && within(&room->linear)),
          "the delays' distances are 1 to L - 1");
@@ -134,10 +134,8 @@ static void spare_facts(const struct room *room)
 {
     int good = 1;
     unsigned i;
-    for (i = 0; i < UNITS; i++) {
-        if (i != TREMOLO) {
-            good = good && plus_zero(room->lent[i] + room->places[i] - SPARE, SPARE);
-        }
+    for (i = 0; i < LINED; i++) {
+        good = good && plus_zero(room->lent[i] + room->places[i] - SPARE, SPARE);
     }
     fact(good, "spare places are +0");
     for (good = 1, i = 0; i < 25u; i++) {
@@ -173,17 +171,21 @@ void cleared_facts(const struct room *room)
     const double *phases = room->chorus.lfo_phases;
     int good = 1;
     unsigned i;
-    for (i = 0; i < UNITS; i++) {
-        good = good && (i == TREMOLO || plus_zero(room->lent[i], room->places[i]));
+    for (i = 0; i < LINED; i++) {
+        good = good && plus_zero(room->lent[i], room->places[i]);
     }
     fact(good, "after a reset every place is +0, spare ones too");
     fact(delay_cleared(&room->delay) && delay_cleared(&room->linear) && room->delay.linear_time == 0u &&
              room->linear.linear_time == 1u,
          "after a reset the delays are not primed, their distances +0");
     fact(plus_zero(phases, 1) && phases[1] == 0.33 && phases[2] == 0.67 && plus_zero(&room->flanger.lfo_phase, 1) &&
-             plus_zero(&room->vibrato.lfo_phase, 1) && plus_zero(&room->tremolo.lfo_phase, 1),
+             plus_zero(&room->vibrato.lfo_phase, 1) && plus_zero(&room->tremolo.lfo_phase, 1) &&
+             plus_zero(&room->phaser.lfo_phase, 1),
          "after a reset the phases are those of a start");
     fact(plus_zero(room->reverb.comb_filter_state_l, 8) && plus_zero(room->reverb.comb_filter_state_r, 8),
          "after a reset the damping stores are +0");
+    fact(plus_zero(room->phaser.allpass_x1_l, 6) && plus_zero(room->phaser.allpass_x1_r, 6) &&
+             plus_zero(room->phaser.allpass_y1_l, 6) && plus_zero(room->phaser.allpass_y1_r, 6),
+         "after a reset the phaser's last inputs and outputs are +0");
     line_facts(room);
 }

@@ -21,8 +21,11 @@
 /* Each is lent some places more than it needs. */
 #define SPARE 64u
 
-/* The units: the delay stands for two, one in each mode. */
-enum { DELAY, LINEAR, CHORUS, FLANGER, VIBRATO, TREMOLO, REVERB, UNITS };
+/* The units with lines: the delay stands for two, one in each mode. Tremolo and phaser have no lines. */
+enum { DELAY, LINEAR, CHORUS, FLANGER, VIBRATO, REVERB, LINED };
+
+/* Samples of one tick of every unit: delays, chorus, flanger, vibrato, tremolo, reverb, phaser. */
+enum { AT_DELAY, AT_LINEAR, AT_CHORUS, AT_FLANGER = 5, AT_VIBRATO = 8, AT_TREMOLO, AT_REVERB, AT_PHASER = 12, SAMPLES = 15 };
 
 /* How many samples of the recent past are kept, a power of two and more than the longest of the lines that are compared. */
 #define PAST 16384u
@@ -34,14 +37,15 @@ struct room {
     room_vibrato vibrato;
     room_tremolo tremolo;
     room_reverb reverb;
-    double *lent[UNITS];
-    uint64_t places[UNITS];
+    room_phaser phaser;
+    double *lent[LINED];
+    uint64_t places[LINED];
     uint64_t ticks;     /* since the last clearing */
     double past[PAST];  /* audio as it came, +0 if unset: of tick t at t modulo PAST */
     double heard[PAST]; /* the same under the input rule */
-    double samples[12]; /* of the last tick: delays, chorus, flanger, vibrato, tremolo, reverb */
-    uint32_t refused;   /* all numbers that ticks returned */
-    double unsound;     /* NaN once an effect with the input rule has played what is not finite */
+    double samples[SAMPLES]; /* of the last tick */
+    uint32_t refused;        /* all numbers that ticks returned */
+    double unsound;          /* NaN once an effect with the input rule has played what is not finite */
 };
 
 /* What the host hands to every effect in one tick. */
@@ -60,7 +64,7 @@ double sine_of(double phase); /* of 2 pi times the phase, by a table */
 void open_room(struct room *room); /* every effect started in memory that held something */
 void tick_room(struct room *room, const struct controls *c);
 void reset_room(struct room *room);
-int room_sounds(const struct room *room); /* whether every effect with lines says that it sounds */
+int room_sounds(const struct room *room); /* whether every effect but the tremolo says that it sounds */
 int room_silent(const struct room *room); /* whether every effect says that it is silent */
 
 /* facts.c */

@@ -20,7 +20,7 @@ static struct room room, fresh;
 /* A take without a sound: whatever the hire left would be heard here. */
 static void silent_take(void)
 {
-    static const double zeros[12];
+    static const double zeros[SAMPLES];
     int good = 1;
     unsigned i;
     for (i = 0; i < TAKE; i++) {
@@ -37,7 +37,7 @@ static void silent_take(void)
 static int plays_alike(const double *a, const double *b)
 {
     unsigned i;
-    for (i = 0; i < 12u; i++) {
+    for (i = 0; i < SAMPLES; i++) {
         if (memcmp(&a[i], &b[i], sizeof *a) != 0 && !(a[i] != a[i] && b[i] != b[i])) {
             return 0;
         }
@@ -82,7 +82,7 @@ int main(int argc, char **argv)
         }
     }
     line_facts(&room);
-    fact(room_sounds(&room), "at the end of the hire every unit with lines sounds");
+    fact(room_sounds(&room), "at the end of the hire every unit but the tremolo sounds");
     reset_room(&room);
     cleared_facts(&room);
     fact(room_silent(&room), "after the reset every unit is silent");

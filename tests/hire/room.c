@@ -22,14 +22,14 @@ static double *lend(uint64_t places)
 
 void open_room(struct room *room)
 {
-    static const uint64_t needed[UNITS] = {
-        DELAY_LENGTH, DELAY_LENGTH, CHORUS_LENGTH, 2u * FLANGER_LENGTH, VIBRATO_LENGTH, 0, TANK};
+    static const uint64_t needed[LINED] = {
+        DELAY_LENGTH, DELAY_LENGTH, CHORUS_LENGTH, 2u * FLANGER_LENGTH, VIBRATO_LENGTH, TANK};
     const double coefficient = exp(-1.0 / (0.005 * RATE));
     double *const *m = room->lent;
     const uint64_t *n = room->places;
     uint32_t refused;
     unsigned i;
-    for (i = 0; i < UNITS; i++) {
+    for (i = 0; i < LINED; i++) {
         room->places[i] = needed[i] + SPARE;
         room->lent[i] = lend(room->places[i]);
     }
@@ -38,7 +38,8 @@ void open_room(struct room *room)
               room_chorus_start(&room->chorus, m[CHORUS], n[CHORUS], RATE) |
               room_flanger_start(&room->flanger, m[FLANGER], n[FLANGER], RATE) |
               room_vibrato_start(&room->vibrato, m[VIBRATO], n[VIBRATO], RATE) |
-              room_tremolo_start(&room->tremolo, RATE) | room_reverb_start(&room->reverb, m[REVERB], n[REVERB], RATE);
+              room_reverb_start(&room->reverb, m[REVERB], n[REVERB], RATE) | room_tremolo_start(&room->tremolo, RATE) |
+              room_phaser_start(&room->phaser, RATE);
     fact(refused == 0u, "every start is accepted");
     room->ticks = 0;
     room->refused = 0;
@@ -51,9 +52,9 @@ static void tick_delays(struct room *room, const struct controls *c)
     const room_port feedback = room_set(c->moving[1]);
     const room_port mix = room_set(c->moving[2]);
     room->refused |= room_delay_tick(&room->delay, room->lent[DELAY], room->places[DELAY], c->audio, time, feedback, mix,
-                                     c->moving[3] * MAXIMUM * 1000.0, &room->samples[0]);
+                                     c->moving[3] * MAXIMUM * 1000.0, &room->samples[AT_DELAY]);
     room->refused |= room_delay_tick(&room->linear, room->lent[LINEAR], room->places[LINEAR], c->audio, time, feedback, mix,
-                                     0.0, &room->samples[1]);
+                                     0.0, &room->samples[AT_LINEAR]);
 }
 
 static void tick_sweeps(struct room *room, const struct controls *c)
@@ -64,20 +65,39 @@ static void tick_sweeps(struct room *room, const struct controls *c)
     const double chorus[] = {sine_of(phases[0]), sine_of(phases[1]), sine_of(phases[2])};
     const double flanger[] = {sine_of(room->flanger.lfo_phase), sine_of(room->flanger.lfo_phase + 0.25)};
     room->refused |= room_chorus_tick(&room->chorus, room->lent[CHORUS], room->places[CHORUS], c->audio, depth, mix,
-                                      c->frequency, chorus, &room->samples[2]);
+                                      c->frequency, chorus, &room->samples[AT_CHORUS]);
     room->refused |= room_flanger_tick(&room->flanger, room->lent[FLANGER], room->places[FLANGER], c->audio, depth,
-                                       room_set(c->moving[3] * 2.0 - 1.0), mix, c->frequency, flanger, &room->samples[5]);
+                                       room_set(c->moving[3] * 2.0 - 1.0), mix, c->frequency, flanger,
+                                       &room->samples[AT_FLANGER]);
     room->refused |= room_vibrato_tick(&room->vibrato, room->lent[VIBRATO], room->places[VIBRATO], c->audio, depth, mix,
-                                       c->frequency, sine_of(room->vibrato.lfo_phase), &room->samples[8]);
+                                       c->frequency, sine_of(room->vibrato.lfo_phase), &room->samples[AT_VIBRATO]);
     room->refused |= room_tremolo_tick(&room->tremolo, c->audio, depth, room_set(c->moving[5]), c->frequency,
-                                       sine_of(room->tremolo.lfo_phase), &room->samples[9]);
+                                       sine_of(room->tremolo.lfo_phase), &room->samples[AT_TREMOLO]);
 }
 
 static void tick_reverb(struct room *room, const struct controls *c)
 {
     room->refused |= room_reverb_tick(&room->reverb, room->lent[REVERB], room->places[REVERB], c->audio,
                                       room_set(c->moving[5]), room_set(c->moving[2]), room_set(c->moving[4]),
-                                      room_set(c->moving[3]), &room->samples[10]);
+                                      room_set(c->moving[3]), &room->samples[AT_REVERB]);
+}
+
+/* The coefficient of an all-pass that sweeps, as the header has it. */
+static double coefficient(double phase, double depth)
+{
+    const double frequency = 200.0 + (sine_of(phase) * 0.5 + 0.5) * depth * 3800.0;
+    const double t = tan(3.141592653589793 * frequency / RATE);
+    return (1.0 - t) / (1.0 + t);
+}
+
+/* Its stages move fastest, so that any take goes through two, four and six. */
+static void tick_phaser(struct room *room, const struct controls *c)
+{
+    const double depth = fmin(fmax(c->moving[2], 0.0), 1.0);
+    const double phase = room->phaser.lfo_phase;
+    room->refused |= room_phaser_tick(&room->phaser, c->audio, room_set(c->moving[3] * 2.0 - 1.0), room_set(c->moving[4]),
+                                      room_set(c->moving[0]), c->frequency, coefficient(phase, depth),
+                                      coefficient(phase + 0.25, depth), &room->samples[AT_PHASER]);
 }
 
 void tick_room(struct room *room, const struct controls *c)
@@ -87,11 +107,13 @@ void tick_room(struct room *room, const struct controls *c)
     tick_delays(room, c);
     tick_sweeps(room, c);
     tick_reverb(room, c);
+    tick_phaser(room, c);
     room->past[room->ticks % PAST] = audio;
     room->heard[room->ticks % PAST] = isfinite(audio) ? audio : 0.0;
     room->ticks++;
-    for (i = 0; i < 12u; i++) {
-        if (i != 8u && i != 9u) {
+    /* Of the phaser no bound is promised: it may overflow. */
+    for (i = 0; i < AT_PHASER; i++) {
+        if (i != AT_VIBRATO && i != AT_TREMOLO) {
             room->unsound += room->samples[i] - room->samples[i];
         }
     }
@@ -106,26 +128,27 @@ void reset_room(struct room *room)
                              room_chorus_reset(&room->chorus, m[CHORUS], n[CHORUS]) |
                              room_flanger_reset(&room->flanger, m[FLANGER], n[FLANGER]) |
                              room_vibrato_reset(&room->vibrato, m[VIBRATO], n[VIBRATO]) |
-                             room_tremolo_reset(&room->tremolo) | room_reverb_reset(&room->reverb, m[REVERB], n[REVERB]);
+                             room_reverb_reset(&room->reverb, m[REVERB], n[REVERB]) |
+                             room_tremolo_reset(&room->tremolo) | room_phaser_reset(&room->phaser);
     fact(refused == 0u, "every reset is accepted");
     room->ticks = 0;
 }
 
-/* How many of the six units with lines say that they are silent; the tremolo, which has none, must. */
+/* How many of the units with lines, and of the phaser, say that they are silent; the tremolo, which keeps no sound, must. */
 static int silent_units(const struct room *room)
 {
     double *const *m = room->lent;
     const uint64_t *n = room->places;
-    int yes[UNITS] = {0};
+    int yes[LINED] = {0}, phaser = 0, tremolo = 0;
     const uint32_t refused = room_delay_silent(&room->delay, m[DELAY], n[DELAY], &yes[DELAY]) |
                              room_delay_silent(&room->linear, m[LINEAR], n[LINEAR], &yes[LINEAR]) |
                              room_chorus_silent(&room->chorus, m[CHORUS], n[CHORUS], &yes[CHORUS]) |
                              room_flanger_silent(&room->flanger, m[FLANGER], n[FLANGER], &yes[FLANGER]) |
                              room_vibrato_silent(&room->vibrato, m[VIBRATO], n[VIBRATO], &yes[VIBRATO]) |
-                             room_tremolo_silent(&room->tremolo, &yes[TREMOLO]) |
-                             room_reverb_silent(&room->reverb, m[REVERB], n[REVERB], &yes[REVERB]);
-    fact(refused == 0u && yes[TREMOLO] == 1, "every question is accepted, and the tremolo is silent");
-    return yes[DELAY] + yes[LINEAR] + yes[CHORUS] + yes[FLANGER] + yes[VIBRATO] + yes[REVERB];
+                             room_reverb_silent(&room->reverb, m[REVERB], n[REVERB], &yes[REVERB]) |
+                             room_tremolo_silent(&room->tremolo, &tremolo) | room_phaser_silent(&room->phaser, &phaser);
+    fact(refused == 0u && tremolo == 1, "every question is accepted, and the tremolo is silent");
+    return yes[DELAY] + yes[LINEAR] + yes[CHORUS] + yes[FLANGER] + yes[VIBRATO] + yes[REVERB] + phaser;
 }
 
 int room_sounds(const struct room *room)
@@ -135,5 +158,5 @@ int room_sounds(const struct room *room)
 
 int room_silent(const struct room *room)
 {
-    return silent_units(room) == UNITS - 1;
+    return silent_units(room) == LINED + 1;
 }
