@@ -16,7 +16,7 @@ static int unknown_effect(const char *name, size_t length, trouble *why)
 {
     if (length == 0)
         return trouble_say(why, "the chain has an empty place between its commas");
-    return trouble_say(why, "unknown effect '%.*s': there are delay, chorus, flanger, vibrato, tremolo and reverb",
+    return trouble_say(why, "unknown effect '%.*s': there are delay, chorus, flanger, vibrato, tremolo, reverb and phaser",
                        (int)(length < 60 ? length : 60), name);
 }
 

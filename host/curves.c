@@ -59,3 +59,18 @@ double phase_sine(double phase)
 {
     return sin(phase * tau);
 }
+
+/*
+ * It needs no clamp. Half of omega is above 0, does not fall where the frequency grows, nor grow where the rate does; at its
+ * largest, of 4,000 Hz at 8,000, it is the float next below pi / 2, whose tangent is some 1.6e16. So tan_w is finite and not
+ * below 0, and then |1 - tan_w| is at most 1 + tan_w, rounded too.
+ */
+double phaser_coefficient(double sine, double depth, double sample_rate)
+{
+    const double min_freq = 200.0;
+    const double max_freq = 4000.0;
+    const double freq = min_freq + (sine * 0.5 + 0.5) * depth * (max_freq - min_freq);
+    const double omega = tau * freq / sample_rate;
+    const double tan_w = tan(omega * 0.5);
+    return (1.0 - tan_w) / (1.0 + tan_w);
+}

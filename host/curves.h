@@ -1,6 +1,6 @@
 /*
- * The curve numbers of the effects, as quiver's timefx.rs maps its controls. The ticks have no powers, exponentials or sines
- * of their own: they are handed these.
+ * The curve numbers of the effects, as quiver's timefx.rs maps its controls. The ticks have no powers, exponentials, sines or
+ * tangents of their own: they are handed these.
  */
 #ifndef HOST_CURVES_H
 #define HOST_CURVES_H
@@ -10,7 +10,7 @@ double clamp(double x, double low, double high);
 
 /* LFO frequencies in Hz from a rate control, 0 to 1. */
 double chorus_frequency(double rate_cv);  /* 0.1 to 5 */
-double flanger_frequency(double rate_cv); /* 0.05 to 5 */
+double flanger_frequency(double rate_cv); /* 0.05 to 5, the phaser's too */
 double vibrato_frequency(double rate_cv); /* 0.1 to 15 */
 double tremolo_frequency(double rate_cv); /* 0.1 to 20 */
 
@@ -25,5 +25,8 @@ double delay_coefficient(double sample_rate);
 
 /* The sine of a phase, which counts in whole turns. */
 double phase_sine(double phase);
+
+/* The coefficient of the phaser's all-passes, -1 to 1: of a sweep from 200 Hz up to 4,000, by a sine and a depth, 0 to 1. */
+double phaser_coefficient(double sine, double depth, double sample_rate);
 
 #endif

@@ -23,6 +23,7 @@ static const showing showings[] = {
     {"vibrato", "vibrato", {"vibrato.rate=0.75", "vibrato.depth=0.2", NULL}},
     {"tremolo", "tremolo", {"tremolo.rate=0.75", "tremolo.depth=1", NULL}},
     {"reverb", "reverb", {"reverb.size=0.8", "reverb.predelay=0.2", NULL}},
+    {"phaser", "phaser", {"phaser.rate=0.5", "phaser.feedback=0.7", NULL}},
     {"room", "chorus,delay,reverb", {"delay.time=0.75", "delay.feedback=0.4", "delay.mix=0.3", NULL}},
 };
 enum { SHOWING_COUNT = sizeof showings / sizeof showings[0] };
@@ -103,9 +104,10 @@ static take play(unit *u, phrase *song)
     return t;
 }
 
-/* A song, a clearing, and a take of silence after it; `rate` 0 is a reset, another a retune to it. */
+/* A song, a clearing, and a take of silence after it; `rate` 0 is a reset, another a retune to it, or a start anew. */
 static int next_hirer(unit *u, phrase *song, uint32_t rate, trouble *why)
 {
+    const char *const call = rate == 0 ? "reset" : u->kind->retune == u->kind->start ? "start" : "retune";
     int silent_before = 0;
     int silent = 0;
     phrase_begin(song, DEMO_RATE);
@@ -114,9 +116,9 @@ static int next_hirer(unit *u, phrase *song, uint32_t rate, trouble *why)
     refused |= rate == 0 ? u->kind->reset(u) : u->kind->retune(u, rate);
     refused |= u->kind->silent(u, &silent);
     const take next = play(u, NULL);
-    printf("  %-8s %-6s  song: %llu of %llu samples sound; next take: %llu of %llu are not +0\n", u->kind->name,
-           rate == 0 ? "reset" : "retune", (unsigned long long)first.sounding, (unsigned long long)first.samples,
-           (unsigned long long)next.sounding, (unsigned long long)next.samples);
+    printf("  %-8s %-6s  song: %llu of %llu samples sound; next take: %llu of %llu are not +0\n", u->kind->name, call,
+           (unsigned long long)first.sounding, (unsigned long long)first.samples, (unsigned long long)next.sounding,
+           (unsigned long long)next.samples);
     if ((refused | next.refused) != 0)
         return trouble_say(why, "%s refused a call", u->kind->name);
     if (first.sounding == 0 || silent_before)
@@ -126,7 +128,7 @@ static int next_hirer(unit *u, phrase *song, uint32_t rate, trouble *why)
     return 1;
 }
 
-/* An effect with lines. It is started at the higher rate, so that what it is lent is enough for both. */
+/* An effect that keeps sound. It is started at the higher rate, so that what it is lent is enough for both. */
 static int clears(const showing *s, phrase *song, trouble *why)
 {
     chain c;
@@ -151,7 +153,7 @@ int demo(const char *folder, trouble *why)
     puts("  effect     peak     RMS  places lent  asked for by");
     for (int i = 0; i < SHOWING_COUNT && good; i++)
         good = show(folder, &showings[i], why);
-    puts("\nThe next hirer: a song, then a reset (or a retune to another rate), then a take of silence\n");
+    puts("\nThe next hirer: a song, then a reset (or a retune or start at another rate), then a take of silence\n");
     for (int i = 0; i < EFFECT_COUNT && good; i++)
         for (int s = 0; s < SHOWING_COUNT && good; s++)
             if (strcmp(showings[s].chain, effects[i].name) == 0 && strcmp(effects[i].name, "tremolo") != 0)

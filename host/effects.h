@@ -1,4 +1,4 @@
-/* The six effects in one form: their names, their controls, and a unit with its state and the places it is lent. */
+/* The effects in one form: their names, their controls, and a unit with its state and the places it is lent. */
 #ifndef HOST_EFFECTS_H
 #define HOST_EFFECTS_H
 
@@ -7,7 +7,7 @@
 
 #include <stddef.h>
 
-enum { MOST_CONTROLS = 5, EFFECT_COUNT = 6 };
+enum { MOST_CONTROLS = 6, EFFECT_COUNT = 7 };
 
 /* A control as the command line has it. An effect's list ends where `name` is NULL. */
 typedef struct control {
@@ -19,7 +19,8 @@ typedef struct control {
 
 typedef struct unit unit;
 
-/* The calls of room_effects.h, each with its curve numbers worked out. They return 0 or the refusal's number. */
+/* The calls of room_effects.h, each with its curve numbers worked out. They return 0 or the refusal's number. Where an effect
+   has no retune, its start stands there: a new rate means a new start. */
 typedef struct effect {
     const char *name;
     uint32_t number; /* in room_places_needed */
@@ -44,10 +45,13 @@ struct unit {
         room_vibrato vibrato;
         room_tremolo tremolo;
         room_reverb reverb;
+        room_phaser phaser;
     } state;
-    /* Curve numbers that stay while the controls do, so one power serves all ticks; the Rust keeps its last one likewise. */
+    /* Curve numbers, and what goes into them, that stay while the controls do, so one power serves all ticks; the Rust keeps
+       its last one likewise. */
     double frequency;
     double phase_offset;
+    double depth; /* the phaser's, which its tick does not read */
     double milliseconds;
 };
 

@@ -146,7 +146,7 @@ static uint32_t vibrato_tick(unit *u, double audio, double out[3])
                              u->controls[VIBRATO_MIX], u->frequency, phase_sine(state->lfo_phase), out);
 }
 
-/* Tremolo. It has no lines and no retune: a new rate means a new start. */
+/* Tremolo. It has no lines and no retune. */
 
 enum { TREMOLO_RATE, TREMOLO_DEPTH, TREMOLO_SHAPE };
 
@@ -203,6 +203,38 @@ static uint32_t reverb_tick(unit *u, double audio, double out[3])
                             u->controls[REVERB_DAMPING], u->controls[REVERB_MIX], u->controls[REVERB_PREDELAY], out);
 }
 
+/* Phaser. It has no lines and no retune. Depth and spread are the host's: they go into the coefficients. */
+
+enum { PHASER_RATE, PHASER_DEPTH, PHASER_FEEDBACK, PHASER_MIX, PHASER_STAGES, PHASER_SPREAD };
+
+static uint32_t phaser_start(unit *u, double rate)
+{
+    u->frequency = flanger_frequency(control_value(u, PHASER_RATE));
+    u->depth = clamp(control_value(u, PHASER_DEPTH), 0.0, 1.0);
+    u->phase_offset = clamp(control_value(u, PHASER_SPREAD), 0.0, 1.0) * 0.5;
+    return room_phaser_start(&u->state.phaser, rate);
+}
+
+static uint32_t phaser_reset(unit *u)
+{
+    return room_phaser_reset(&u->state.phaser);
+}
+
+static uint32_t phaser_silent(const unit *u, int *silent)
+{
+    return room_phaser_silent(&u->state.phaser, silent);
+}
+
+static uint32_t phaser_tick(unit *u, double audio, double out[3])
+{
+    room_phaser *state = &u->state.phaser;
+    const double left = phase_sine(state->lfo_phase);
+    const double right = phase_sine(state->lfo_phase + u->phase_offset);
+    return room_phaser_tick(state, room_set(audio), u->controls[PHASER_FEEDBACK], u->controls[PHASER_MIX],
+                            u->controls[PHASER_STAGES], u->frequency, phaser_coefficient(left, u->depth, state->sample_rate),
+                            phaser_coefficient(right, u->depth, state->sample_rate), out);
+}
+
 uint64_t unit_places(const unit *u, double sample_rate)
 {
     const int is_delay = u->kind->start == delay_start;
@@ -253,4 +285,11 @@ const effect effects[EFFECT_COUNT] = {
       {"damping", 0.0, 1.0, 0.5, "0 bright to 1 dark"},
       {"mix", 0.0, 1.0, 0.5, "0 dry to 1 wet"},
       {"predelay", 0.0, 1.0, 0.0, "0 to 100 ms"}}},
+    {"phaser", ROOM_PHASER, 3, phaser_start, phaser_start, phaser_reset, phaser_silent, phaser_tick,
+     {{"rate", 0.0, 1.0, 0.3, "0.05 to 5 Hz, exponential"},
+      {"depth", 0.0, 1.0, 0.7, "how far the sweep goes, from 200 Hz up to 4000"},
+      {"feedback", -0.95, 0.95, 0.0, "how much is fed back, upside down if below 0"},
+      {"mix", 0.0, 1.0, 0.5, "0 dry to 1 wet"},
+      {"stages", 0.0, 1.0, 1.0, "two all-passes a side below 0.33, four below 0.66, else six"},
+      {"spread", 0.0, 1.0, 0.5, "how far the right sweep runs ahead of the left, up to half a turn"}}},
 };

@@ -1,8 +1,10 @@
 /*
  * The host's curve numbers against the maps of quiver's timefx.rs, worked out to 60 digits from its formulas and rounded
- * once: 0.1 x 50^c, 0.05 x 100^c, 0.1 x 150^c, 0.1 x 200^c, (maximum in ms)^c, exp(-1 / (0.005 x rate)), sin(2 pi phase).
- * A pow or sin may miss the last digits, as may 0.3 or 0.33, which no float is; so they may differ by 4e-16 of the number.
- * Then that each unit has its own: from its rate control, set and unset, and the delay's after a start and a retune.
+ * once: 0.1 x 50^c, 0.05 x 100^c, 0.1 x 150^c, 0.1 x 200^c, (maximum in ms)^c, exp(-1 / (0.005 x rate)), sin(2 pi phase), and
+ * (1 - t) / (1 + t) with t = tan(pi f / rate). A pow, sin or tan may miss the last digits, as may 0.3 or 0.33, which no float
+ * is; so they may differ by 4e-16 of the number, and a coefficient, which 1 - t may make small, by 4e-16.
+ * Then that each unit has its own: from its rate control, set and unset, the delay's after a start and a retune, and the
+ * phaser's in every tick, bit for bit.
  * The last line is `N passed, M failed`.
  */
 #include "curves.h"
@@ -14,14 +16,19 @@
 
 static unsigned passed, failed;
 
-static void near(const char *what, double is, double should)
+static void within(const char *what, double is, double should, double most)
 {
-    if (fabs(is - should) <= 4e-16 * fabs(should)) {
+    if (fabs(is - should) <= most) {
         passed++;
     } else {
         failed++;
         printf("FAILED: %s: %.17g, should be %.17g\n", what, is, should);
     }
+}
+
+static void near(const char *what, double is, double should)
+{
+    within(what, is, should, 4e-16 * fabs(should));
 }
 
 static const double controls[5] = {0.0, 0.3, 0.5, 0.75, 1.0};
@@ -94,6 +101,39 @@ static void sines(void)
     near("sine at 1.25", phase_sine(1.25), 1.0);
 }
 
+static void coefficients(void)
+{
+    const struct {
+        double rate, depth, sine, should;
+    } all[] = {
+        {8000.0, 0.0, 1.0, 0.8540806854634666},     {8000.0, 1.0, -1.0, 0.8540806854634666},
+        {8000.0, 0.5, 0.5, 0.14833598753834742},    {8000.0, 1.0, 0.0, -0.03929010700766964},
+        {8000.0, 0.7, 1.0, -0.35117500451501343},   {8000.0, 1.0, 1.0, -1.0},
+        {44100.0, 0.7, 0.5, 0.7276315105167329},    {44100.0, 1.0, 1.0, 0.5468823211246735},
+        {48000.0, 0.7, -1.0, 0.974156870921681},    {48000.0, 0.5, 0.0, 0.8597561929934433},
+        {192000.0, 0.5, 0.5, 0.9481874330744166},   {192000.0, 1.0, 1.0, 0.8769764629927569},
+    };
+    for (size_t i = 0; i < sizeof all / sizeof all[0]; i++)
+        within("coefficient", phaser_coefficient(all[i].sine, all[i].depth, all[i].rate), all[i].should, 4e-16);
+}
+
+/* Coefficients are what a tick accepts: where 4,000 Hz are half of the rate, t is the tangent of all but a quarter turn. */
+static void coefficients_accepted(void)
+{
+    unsigned outside = 0;
+    double rate = 8000.0;
+    for (int i = 0; i < 3000; i++) {
+        double sine = 1.0;
+        for (int k = 0; k < 300; k++) {
+            const double coefficient = phaser_coefficient(sine, 1.0, rate);
+            outside += !(coefficient >= -1.0 && coefficient <= 1.0);
+            sine = nextafter(sine, 0.0);
+        }
+        rate = i < 1500 ? nextafter(rate, 9000.0) : rate * 1.0021; /* up to some 185,000 */
+    }
+    near("coefficients outside -1 to 1", outside, 0.0);
+}
+
 static double memory[100000];
 
 static void begin(unit *u, const char *name)
@@ -115,6 +155,54 @@ static void rate_of(const char *name, double unset, double half)
     near(name, u.frequency, half);
 }
 
+/* The phaser's curve numbers, from its controls: document 02's formulas in their order. */
+static double swept(double phase, double depth, double rate)
+{
+    const double tau = 6.283185307179586;
+    const double frequency = 200.0 + ((((sin(phase * tau) * 0.5) + 0.5) * depth) * 3800.0);
+    const double t = tan(((tau * frequency) / rate) * 0.5);
+    return (1.0 - t) / (1.0 + t);
+}
+
+static unsigned refused;
+
+/* How many of the samples of so many ticks are not those of a phaser that is handed these numbers. */
+static unsigned phaser_differs(unit *u, double depth, double spread, double rate)
+{
+    room_phaser beside;
+    double is[3], should[3];
+    unsigned wrong = 0;
+    refused = u->kind->start(u, rate) | room_phaser_start(&beside, rate);
+    for (int i = 0; i < 20000 && refused == 0; i++) {
+        const double audio = i % 7 - 3.0;
+        const double left = swept(beside.lfo_phase, depth, rate);
+        const double right = swept(beside.lfo_phase + spread * 0.5, depth, rate);
+        refused = u->kind->tick(u, audio, is) | room_phaser_tick(&beside, room_set(audio), room_unset(), room_unset(),
+                                                                 room_unset(), u->frequency, left, right, should);
+        wrong += memcmp(is, should, sizeof is) != 0;
+    }
+    return wrong;
+}
+
+/* At 8,000 with the whole depth, 4,000 Hz are half of the rate. */
+static void phasers(void)
+{
+    const double rates[3] = {8000.0, 44100.0, 192000.0};
+    unit u;
+    begin(&u, "phaser");
+    for (int i = 0; i < 3; i++) {
+        near("phaser by its initial depth and spread", phaser_differs(&u, 0.7, 0.5, rates[i]), 0.0);
+        near("phaser is accepted", refused, 0.0);
+    }
+    u.controls[effect_control(u.kind, "rate")] = room_set(1.0);
+    u.controls[effect_control(u.kind, "depth")] = room_set(1.0);
+    u.controls[effect_control(u.kind, "spread")] = room_set(0.75);
+    for (int i = 0; i < 3; i++) {
+        near("phaser by its depth and spread", phaser_differs(&u, 1.0, 0.75, rates[i]), 0.0);
+        near("phaser with the whole depth is accepted", refused, 0.0);
+    }
+}
+
 static void units(void)
 {
     unit u;
@@ -122,6 +210,7 @@ static void units(void)
     rate_of("flanger", 0.19905358527674863, 0.5);
     rate_of("vibrato", 0.44960111304799183, 1.224744871391589);
     rate_of("tremolo", 0.4901274189394899, 1.4142135623730951);
+    rate_of("phaser", 0.19905358527674863, 0.5);
     begin(&u, "delay");
     near("delay starts", u.kind->start(&u, 8000.0), 0.0);
     near("delay's time", u.milliseconds, 44.721359549995796);
@@ -136,7 +225,10 @@ int main(void)
     delays();
     glides();
     sines();
+    coefficients();
+    coefficients_accepted();
     units();
+    phasers();
     printf("%u passed, %u failed\n", passed, failed);
     return failed > 0;
 }
