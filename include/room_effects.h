@@ -70,10 +70,11 @@
  * reverb's twice as long. The remedy is a reset, once nothing can be heard any more.
  *
  * The phaser's answer reads the 24 numbers of its state, those of all-passes that are not in use too, which no tick changes. It
- * hardly ever falls silent by itself, with no feedback either: an all-pass multiplies its own last output by its coefficient,
- * and one above 0.5 or below -0.5 keeps it as above. At 0.7 it ends at 2^-1074 and -2^-1074 in turns, for good; a host's
- * coefficients (see "Curve numbers") are all above 0.5 at rates from 40,000 on. A phaser that overflowed plays NaN and is
- * not silent either. Again the remedy is a reset.
+ * need not feed back to go on for good: an all-pass multiplies its own last output by its coefficient, and one above 0.5 or
+ * below -0.5 keeps it as above. At 0.7 it ends at 2^-1074 and -2^-1074 in turns. At rates from 40,000 on the coefficients that
+ * a host makes (see "Curve numbers") are all above 0.5, so that a phaser that has sounded hardly ever falls silent there. Each
+ * tick then takes some 35 times as long: 1.1 us where it took 31 ns, on the machine below. A phaser that overflowed plays NaN
+ * and is not silent either. Again the remedy is a reset.
  *
  * Floating-point mode
  *
