@@ -2,7 +2,7 @@
 that they answer and leave: one number. A wrong program that prints another is seen to do something else, and so what it is to be proved of is false."""
 
 # crates whose calls the program makes
-CRATES = "float64 port common effect tremolo vibrato chorus flanger delay_line reverb".split()
+CRATES = "float64 port common effect tremolo vibrato chorus flanger delay_line phaser reverb".split()
 
 COMMON = """// Made by tests/attack/seen.py.
 #![tactic(auto)]
@@ -10,6 +10,7 @@ COMMON = """// Made by tests/attack/seen.py.
 use chorus::Chorus;
 use delay_line::DelayLine;
 use flanger::Flanger;
+use phaser::Phaser;
 use port::Answer;
 use port::Outcome;
 use port::Port;
@@ -114,7 +115,7 @@ fn float64_calls() -> u64 {
         let x = special(i);
         h = flag(flag(flag(flag(h, float64::is_nan(x)), float64::is_finite(x)), float64::is_plus_zero(x)), float64::in_unit(x));
         h = flag(flag(flag(h, float64::rate_fits(x)), float64::coefficient_fits(x)), float64::phase_fits(x));
-        h = flag(flag(h, float64::frequency_fits(x)), float64::sine_fits(x));
+        h = flag(flag(flag(h, float64::frequency_fits(x)), float64::sine_fits(x)), float64::allpass_fits(x));
         h = mix(mix(float(h, float64::abs(x)), float64::whole_part(x)), float64::round_half_away(x));
         if x >= 1.0 && x < 4503599627370496.0 {
             h = mix(h, float64::whole_part_small(x));
@@ -223,6 +224,9 @@ fn line_calls() -> u64 {
 }
 """
 
+# the numbers of a phaser's chains
+CHAINS = " ".join(f"allpass_{number}_{side}[{stage}]" for number in ("x1", "y1") for side in "lr" for stage in range(6))
+
 # For each effect: its type, fields, the arguments of a start and of a retune (R a rate, X a number), the places at 8,000, and a tick's arguments
 EFFECTS = [
     ("tremolo", "Tremolo", "lfo_phase sample_rate", "new(R)", "", 0, "audio(k), port(k + 1), port(k + 2), frequency(k), sine(k)"),
@@ -235,6 +239,8 @@ EFFECTS = [
     ("delay_line", "DelayLine", "write_pos sample_rate max_delay_secs linear_time smoothed_delay delay_smooth_coef delay_primed",
      "with_max_delay(R, X, fraction(k + 5), k % 2 == 0, mem)", "set_sample_rate(R, X, mem)", 401,
      "mem, audio(k), port(k + 1), port(k + 2), port(k + 3), milliseconds(k)"),
+    ("phaser", "Phaser", f"{CHAINS} lfo_phase sample_rate", "new(R)", "", 0,
+     "audio(k), port(k + 1), port(k + 2), port(k + 3), frequency(k), sine(k), sine(k + 1)"),
 ]
 
 # NAME crate, TYPE its type, LEFT sums its fields, START and RETUNE calls, TICK arguments, N the places, MEM and MEMS the memory where there is one
