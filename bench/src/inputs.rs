@@ -8,7 +8,8 @@ pub struct Input {
     /// Audio and three controls; what each control is, and whether there is a third, depends on the effect.
     pub ports: [f64; MOST_PORTS],
     pub frequency: f64,
-    pub sines: [f64; MOST],
+    /// From −1 to 1: sines, or coefficients of all-passes.
+    pub curves: [f64; MOST],
     /// Up to a second: the delay's curve number.
     pub milliseconds: f64,
 }
@@ -18,7 +19,7 @@ impl Input {
     #[inline(always)]
     pub fn hand<const SINES: usize>(&self, rust: &mut impl Effect) {
         rust.plant_frequency(self.frequency);
-        set_sines::<SINES>(std::array::from_fn(|i| self.sines[i]));
+        set_sines::<SINES>(std::array::from_fn(|i| self.curves[i]));
     }
 
     /// The arguments of our tick, every port set.
@@ -28,7 +29,7 @@ impl Input {
             set: (1 << MOST_PORTS) - 1,
             ports: self.ports,
             frequency: self.frequency,
-            sines: self.sines,
+            curves: self.curves,
         }
     }
 }
@@ -51,7 +52,7 @@ pub fn inputs() -> Vec<Input> {
         Input {
             ports: [audio, first, second, third],
             frequency,
-            sines: [(); 3].map(|()| within(-1.0, 1.0)),
+            curves: [(); 3].map(|()| within(-1.0, 1.0)),
             milliseconds: frequency * 50.0,
         }
     };

@@ -10,7 +10,8 @@
 //!   `tick_generic` with the cheapest frames (every port set, nothing to test) and in the release profile (fat LTO), so
 //!   nothing between the call and its tick is left. The flanger's is `tick`, which reads its ports from quiver's map and
 //!   answers in one: it looks up nine, each found at once since they lie in order. That is part of its row, and so is writing
-//!   and reading the slots before and after, without a look-up.
+//!   and reading the slots before and after, without a look-up. The row flanger_plain has the body of this `tick` on the cheapest
+//!   frames (quiver_oracle's build.rs puts it there), and is to be read beside the others.
 //! - Curve numbers are handed to both, to each in its own way. Ours gets them as arguments. For the Rust the driver leaves them
 //!   in memory before the call: the frequency in the memo, under the key that the tick will ask for, and the sines where the shim
 //!   of libm takes each by one load. "Rust, curves still" is the Rust without these stores, its curve numbers the same in every
@@ -29,6 +30,7 @@ mod inputs;
 mod lines;
 mod reverb;
 mod tremolo;
+mod unlined;
 mod vibrato;
 
 use chorus::Chorus;
@@ -39,8 +41,9 @@ use lines::Row;
 use reverb::Reverb;
 use std::hint::black_box;
 use std::time::Instant;
-use tremolo::Tremolo;
 use vibrato::Vibrato;
+
+type Tremolo = unlined::Row<tremolo::Tremolo, { room_effects::tremolo::STORES }, 1>;
 
 /// The rate of every row.
 pub const SAMPLE_RATE: f64 = 48_000.0;
@@ -81,7 +84,8 @@ fn main() {
             time::<Tremolo, 1>();
             time::<Row<Vibrato, 1>, 1>();
             time::<Row<Chorus, 3>, 3>();
-            time::<Row<Flanger, 3>, 3>();
+            time::<Row<Flanger<false>, 3>, 3>();
+            time::<Row<Flanger<true>, 3>, 3>();
             time::<Delay<false>, 1>();
             time::<Delay<true>, 1>();
             time::<Reverb, 2>();
@@ -90,7 +94,8 @@ fn main() {
         ["count", "tremolo", side, ticks] => count::<Tremolo, 1>(side, ticks),
         ["count", "vibrato", side, ticks] => count::<Row<Vibrato, 1>, 1>(side, ticks),
         ["count", "chorus", side, ticks] => count::<Row<Chorus, 3>, 3>(side, ticks),
-        ["count", "flanger", side, ticks] => count::<Row<Flanger, 3>, 3>(side, ticks),
+        ["count", "flanger", side, ticks] => count::<Row<Flanger<false>, 3>, 3>(side, ticks),
+        ["count", "flanger_plain", side, ticks] => count::<Row<Flanger<true>, 3>, 3>(side, ticks),
         ["count", "delay", side, ticks] => count::<Delay<false>, 1>(side, ticks),
         ["count", "linear_delay", side, ticks] => count::<Delay<true>, 1>(side, ticks),
         ["count", "reverb", side, ticks] => count::<Reverb, 2>(side, ticks),
@@ -167,7 +172,7 @@ fn time<E: Effect<N>, const N: usize>() {
 
 fn print_row(name: &str, columns: [String; 5]) {
     let [driver, still, rust, ours, ratio] = columns;
-    println!("{name:12} {driver:>20} {still:>20} {rust:>20} {ours:>20} {ratio:>20}");
+    println!("{name:13} {driver:>20} {still:>20} {rust:>20} {ours:>20} {ratio:>20}");
 }
 
 /// Named columns of one row.

@@ -29,11 +29,11 @@ extern "C" fn quiver_reverb_tick(
     *out = unit.tick_plain([audio, size, damping, mix, predelay]);
 }
 
-/// The predelay is the input's last sine, folded to 0 to 1.
+/// The predelay is the input's last curve number, folded to 0 to 1.
 #[inline(always)]
 fn ports(input: &Input) -> [f64; PORTS] {
     let [audio, size, damping, mix] = input.ports;
-    [audio, size, damping, mix, input.sines[2].abs()]
+    [audio, size, damping, mix, input.curves[2].abs()]
 }
 
 impl Effect<2> for Reverb {

@@ -5,6 +5,10 @@
 //!
 //! A file is wrapped as `pub mod NAME { FILE, our child module }`, since only a child module sees private fields, and the
 //! files' own text must stay. (A file's inner doc comment may stand right after the brace; its line numbers stay too.)
+//!
+//! The flanger has no `tick_generic`, so that its tick can't be timed on plain frames as the others' are. Behind timefx.rs stands
+//! one: the text of the body of `tick`, cut out of the file, under the signature of the others'.
+//!
 //! port.rs exports a macro, which rustc takes only from a file that lib.rs names itself: target/quiver/port.rs is a copy.
 
 use std::fs::File;
@@ -15,8 +19,12 @@ use std::{env, fs};
 /// Where the repository's root lies, seen from this crate.
 const ROOT: &str = "../..";
 
-/// Files of `src/modules`, each with whether a child module of ours, `src/inside/NAME.rs`, goes in.
-const MODULES: [(&str, bool); 3] = [("common", true), ("nonlinear", false), ("timefx", true)];
+/// Files of `src/modules`: whether a child module of ours, `src/inside/NAME.rs`, goes in, and which effects get a `tick_generic`.
+const MODULES: [(&str, bool, &[&str]); 3] = [
+    ("common", true, &[]),
+    ("nonlinear", false, &[]),
+    ("timefx", true, &["Flanger"]),
+];
 
 fn main() {
     println!("cargo::rerun-if-env-changed=QUIVER_SRC");
@@ -80,20 +88,35 @@ fn copy(file: &Path, to: &Path) {
 /// The text of `crate::{analog, modules}`.
 fn quiver(src: &Path, inside: &Path) -> String {
     let mut modules = String::new();
-    for (name, child) in MODULES {
+    for (name, child, effects) in MODULES {
+        let text = read(&src.join("modules"), name);
+        let more: String = effects.iter().map(|of| generic_tick(&text, of)).collect();
         let child = child.then(|| inside.join(name).with_extension("rs"));
-        modules += &wrapped(
-            name,
-            &src.join("modules").join(name).with_extension("rs"),
-            child.as_deref(),
-        );
+        modules += &wrapped(name, &(text + &more), child.as_deref());
     }
-    let analog = wrapped("analog", &src.join("analog.rs"), None);
+    let analog = wrapped("analog", &read(src, "analog"), None);
     format!("{analog}pub mod modules {{\npub use crate::shims::oversample;\npub use nonlinear::Wavefolder;\n{modules}}}\n")
 }
 
-fn wrapped(name: &str, file: &Path, child: Option<&Path>) -> String {
-    let text = fs::read_to_string(file).unwrap();
+fn read(folder: &Path, name: &str) -> String {
+    fs::read_to_string(folder.join(name).with_extension("rs")).unwrap()
+}
+
+/// The body of the effect's `tick` as the body of a `tick_generic`.
+fn generic_tick(text: &str, effect: &str) -> String {
+    const TICK: &str = "    fn tick(&mut self, inputs: &PortValues, outputs: &mut PortValues) {\n";
+    let head = format!("impl GraphModule for {effect} {{\n");
+    let block = text
+        .split_once(&head)
+        .and_then(|(_, rest)| rest.split_once("\n}\n"));
+    let body = block
+        .and_then(|(block, _)| block.split_once(TICK))
+        .and_then(|(_, rest)| rest.split_once("\n    }\n"));
+    let (body, _) = body.unwrap_or_else(|| panic!("quiver has no tick of the {effect}"));
+    format!("impl {effect} {{\n#[inline(always)]\nfn tick_generic<I: InputFrame, O: OutputFrame>(&mut self, inputs: &I, outputs: &mut O) {{\n{body}\n}}\n}}\n")
+}
+
+fn wrapped(name: &str, text: &str, child: Option<&Path>) -> String {
     let child = child
         .map(|path| format!("#[path = {path:?}]\npub mod inside;\n"))
         .unwrap_or_default();

@@ -1,7 +1,7 @@
 //! The chorus: ours, with one line for its three voices, beside the Rust's, which has a line for each.
 
 use crate::lines::Effect;
-use crate::tick::{Form, AS_IT_IS, DEPTH, MIX};
+use crate::tick::{Form, AS_IT_IS, DEPTH, MIX, SINE};
 
 pub struct Chorus;
 
@@ -14,6 +14,7 @@ impl Effect for Chorus {
     const SAMPLES: usize = 3;
     const FORM: Form = Form {
         controls: &[DEPTH, MIX],
+        curve: SINE,
         sines: &[(0, AS_IT_IS), (1, AS_IT_IS), (2, AS_IT_IS)],
     };
     const STEPS: &'static [f64] = &[0.9, 1.0, 1.1];

@@ -1,8 +1,10 @@
 //! The flanger: ours beside the Rust's.
 
-use crate::lines::Effect;
-use crate::tick::{Form, DEPTH, FEEDBACK, MIX};
-use quiver_oracle::flanger::SPREAD;
+use crate::frames;
+use crate::lines::{Effect, Lines};
+use crate::run;
+use crate::tick::{Form, DEPTH, FEEDBACK, MIX, SIDES, SINE};
+use quiver_oracle::flanger::Unit;
 
 pub struct Flanger;
 
@@ -12,13 +14,21 @@ impl Effect for Flanger {
     const N_OF_LENGTH: f64 = 10.0;
     const LINES: usize = 2;
     const SAMPLES: usize = 3;
-    /// The Rust adds 0 to the left phase: its angle for −0 is +0.
     const FORM: Form = Form {
         controls: &[DEPTH, FEEDBACK, MIX],
-        sines: &[(0, 0.0), (0, SPREAD * 0.5)],
+        curve: SINE,
+        sines: SIDES,
     };
     const STEPS: &'static [f64] = &[1.0];
     const FEEDS_BACK: bool = true;
     type Ours = room_effects::flanger::Flanger;
-    type Rust = quiver_oracle::flanger::Unit;
+    type Rust = Unit;
+}
+
+/// The Rust's tick on plain frames, then a random run.
+pub fn run(ticks: u64, seed: u64) -> Result<String, String> {
+    frames::agree::<Unit>(seed, &Flanger::FORM, |unit, t, tick| {
+        Flanger::FORM.with_sines(unit, t, Flanger::FORM.curves_of(t), tick)
+    })?;
+    run::run::<Lines<Flanger>>(ticks, seed)
 }

@@ -11,6 +11,7 @@ mod bits;
 mod chorus;
 mod delay;
 mod flanger;
+mod frames;
 mod lines;
 mod memory;
 mod random;
@@ -19,12 +20,14 @@ mod run;
 mod table;
 mod tick;
 mod tremolo;
+mod unlined;
 mod vibrato;
 mod whole_part;
 
 use lines::Lines;
 use std::process::exit;
 use std::{env, fs};
+use unlined::Unlined;
 
 /// One effect of this program, or a leaf, whose ticks are its calls.
 struct Effect {
@@ -36,7 +39,7 @@ struct Effect {
 const EFFECTS: [Effect; 9] = [
     Effect {
         name: "tremolo",
-        run: run::run::<tremolo::Tremolo>,
+        run: run::run::<Unlined<tremolo::Tremolo, 0>>,
         record: tremolo::record,
     },
     Effect {
@@ -51,7 +54,7 @@ const EFFECTS: [Effect; 9] = [
     },
     Effect {
         name: "flanger",
-        run: run::run::<Lines<flanger::Flanger>>,
+        run: flanger::run,
         record: lines::record::<flanger::Flanger>,
     },
     Effect {

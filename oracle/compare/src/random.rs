@@ -190,7 +190,7 @@ impl Random {
         }
     }
 
-    pub fn sine(&mut self) -> f64 {
+    pub fn curve(&mut self) -> f64 {
         match self.below(16) {
             0 => self.of(&ZEROS),
             1 => self.of(&[1.0, -1.0, 1.0f64.next_down(), -(1.0f64.next_down())]),
@@ -341,7 +341,7 @@ impl Random {
         }
     }
 
-    pub fn wrong_sine(&mut self) -> f64 {
+    pub fn wrong_curve(&mut self) -> f64 {
         let wrong = [1.000_000_1, 1.0f64.next_up(), 2.0, 1e308, f64::INFINITY];
         let wrong = self.of(&wrong);
         let nan = self.nan();

@@ -1,19 +1,33 @@
 //! A tick's arguments, drawn, shown, held against the table, and handed to the Rust.
 
-use crate::bits::{agree, shown};
+use crate::bits::{agree, shown, word};
 use crate::random::Random;
 use crate::table;
-use libm::script::{asked_angles, hand_sines};
-use quiver_oracle::Effect;
+use libm::script::{asked_angles, hand, SINES};
+use quiver_oracle::{Effect, SPREAD};
 use room_effects::{Tick, MOST, MOST_PORTS};
 use std::f64::consts::TAU;
 
 /// What an effect's tick takes beside audio and a frequency.
 pub struct Form {
     pub controls: &'static [Control],
-    /// Of each sine, the phase that it belongs to and what is added to that before the sine is taken.
+    pub curve: Curve,
+    /// Of each sine that the Rust's tick asks for, the phase that it belongs to and what is added to that before the sine is taken.
+    /// To each belongs one of our tick's curve numbers.
     pub sines: &'static [(usize, f64)],
 }
+
+/// What the curve numbers beside the frequency are: all of them lie in −1 to 1.
+pub struct Curve {
+    name: &'static str,
+    /// Document 01's cause.
+    refused: fn(f64) -> bool,
+}
+
+pub const SINE: Curve = Curve {
+    name: "sine",
+    refused: table::sine,
+};
 
 pub struct Control {
     name: &'static str,
@@ -44,6 +58,12 @@ pub const FEEDBACK: Control = Control {
 /// Of a sine, that nothing is added to its phase: −0 leaves every float as it is.
 pub const AS_IT_IS: f64 = -0.0;
 
+/// The sines of a left and a right side. The Rust adds 0 to the left phase: its angle for −0 is +0.
+pub const SIDES: &[(usize, f64)] = &[(0, 0.0), (0, SPREAD * 0.5)];
+
+/// A tick of the Rust's effect, with ports set or unset.
+pub type Ticks<R> = fn(&mut R, [Option<f64>; MOST_PORTS]) -> [f64; MOST];
+
 impl Form {
     /// Audio and the controls.
     fn ports(&self) -> usize {
@@ -56,12 +76,8 @@ impl Form {
     }
 
     /// The tick's own numbers.
-    pub fn ports_of<'a>(&self, t: &'a Tick) -> &'a [f64] {
-        &t.ports[..self.ports()]
-    }
-
-    pub fn sines_of<'a>(&self, t: &'a Tick) -> &'a [f64] {
-        &t.sines[..self.sines.len()]
+    pub fn curves_of<'a>(&self, t: &'a Tick) -> &'a [f64] {
+        &t.curves[..self.sines.len()]
     }
 
     /// The ports as document 01 has them, each a number or unset.
@@ -73,8 +89,8 @@ impl Form {
     pub fn causes(&self, t: &Tick) -> [(u32, bool); 2] {
         let [_audio, controls @ ..] = self.ports_read(t);
         let control = controls.into_iter().any(table::control);
-        let curve =
-            table::frequency(t.frequency) || self.sines_of(t).iter().copied().any(table::sine);
+        let mut curves = self.curves_of(t).iter().copied();
+        let curve = table::frequency(t.frequency) || curves.any(self.curve.refused);
         [(table::CONTROL, control), (table::CURVE, curve)]
     }
 
@@ -83,7 +99,8 @@ impl Form {
         let mut numbers: Vec<(&str, f64)> = vec![("audio", t.ports[0])];
         numbers.extend(names.zip(t.ports[1..].iter().copied()));
         numbers.push(("frequency", t.frequency));
-        numbers.extend(self.sines_of(t).iter().map(|sine| ("sine", *sine)));
+        let curves = self.curves_of(t).iter();
+        numbers.extend(curves.map(|curve| (self.curve.name, *curve)));
         format!("set {:#x}\n  {}", t.set, shown(&numbers))
     }
 
@@ -103,7 +120,7 @@ impl Form {
             set,
             ports,
             frequency: random.frequency(),
-            sines: self.drawn_sines(random, Random::sine),
+            curves: self.drawn_curves(random, Random::curve),
         };
         for (i, value) in t.ports[..self.ports()].iter_mut().enumerate() {
             if random.one_in(5) {
@@ -115,7 +132,7 @@ impl Form {
         t
     }
 
-    /// Controls and sines at the ends of their range: the audio is multiplied by exactly 0 or 1, which makes a NaN of an
+    /// Controls and curve numbers at the ends of their range: the audio is multiplied by exactly 0 or 1, which makes a NaN of an
     /// infinity, and a line is read at its nearest or farthest.
     fn draw_at_ends(&self, random: &mut Random) -> Tick {
         let ports = self.drawn_ports(random, Random::extreme, |control, random| {
@@ -125,7 +142,7 @@ impl Form {
             set: self.all_set(),
             ports,
             frequency: random.of(&[0.0, 32.0]),
-            sines: self.drawn_sines(random, |random| random.of(&[-1.0, 1.0])),
+            curves: self.drawn_curves(random, |random| random.of(&[-1.0, 1.0])),
         }
     }
 
@@ -143,10 +160,10 @@ impl Form {
         ports
     }
 
-    fn drawn_sines(&self, random: &mut Random, sine: fn(&mut Random) -> f64) -> [f64; MOST] {
-        let mut sines = [0.0; MOST];
-        sines[..self.sines.len()].fill_with(|| sine(random));
-        sines
+    fn drawn_curves(&self, random: &mut Random, curve: fn(&mut Random) -> f64) -> [f64; MOST] {
+        let mut curves = [0.0; MOST];
+        curves[..self.sines.len()].fill_with(|| curve(random));
+        curves
     }
 
     /// Some of the arguments wrong, several at once too, so that the order of the causes shows; now and then none.
@@ -161,18 +178,42 @@ impl Form {
             t.frequency = random.wrong_frequency();
         }
         if random.one_in(4) {
-            t.sines[random.below(self.sines.len() as u64) as usize] = random.wrong_sine();
+            t.curves[random.below(self.sines.len() as u64) as usize] = random.wrong_curve();
         }
         t
     }
 
-    /// The Rust's tick. The sines that it asks for must be those that a host would hand in.
-    pub fn in_rust(&self, rust: &mut impl Effect, t: &Tick) -> Result<[f64; MOST], String> {
+    /// The words of an accepted tick's arguments in a record: the mask, the ports, the frequency, the other curve numbers.
+    pub fn words(&self, t: &Tick) -> Result<Vec<u64>, String> {
+        if table::first(&self.causes(t)) != 0 {
+            return Err("a tick that is refused is not to be recorded".into());
+        }
+        let mut words = vec![u64::from(t.set & self.all_set())];
+        words.extend(t.ports[..self.ports()].iter().copied().map(word));
+        words.push(word(t.frequency));
+        words.extend(self.curves_of(t).iter().copied().map(word));
+        Ok(words)
+    }
+
+    /// The Rust's tick, where the curve numbers are sines.
+    pub fn in_rust<R: Effect>(&self, rust: &mut R, t: &Tick) -> Result<[f64; MOST], String> {
+        self.with_sines(rust, t, self.curves_of(t), R::tick)
+    }
+
+    /// A tick of the Rust's with these sines. Those that it asks for must be those that a host would hand in.
+    pub fn with_sines<R: Effect>(
+        &self,
+        rust: &mut R,
+        t: &Tick,
+        sines: &[f64],
+        tick: Ticks<R>,
+    ) -> Result<[f64; MOST], String> {
         let phases = rust.phases().to_vec();
         rust.plant_frequency(t.frequency);
-        hand_sines(self.sines_of(t));
-        let out = rust.tick(self.ports_read(t));
-        for ((phase, added), angle) in self.sines.iter().zip(asked_angles(self.sines.len())) {
+        hand(&SINES, sines);
+        let out = tick(rust, self.ports_read(t));
+        let angles = asked_angles(&SINES, self.sines.len());
+        for ((phase, added), angle) in self.sines.iter().zip(angles) {
             agree("angle of a sine", (phases[*phase] + added) * TAU, angle)?;
         }
         Ok(out)

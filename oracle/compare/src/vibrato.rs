@@ -1,7 +1,7 @@
 //! The vibrato: ours beside the Rust's.
 
 use crate::lines::Effect;
-use crate::tick::{Form, AS_IT_IS, DEPTH, MIX};
+use crate::tick::{Form, AS_IT_IS, DEPTH, MIX, SINE};
 
 pub struct Vibrato;
 
@@ -13,6 +13,7 @@ impl Effect for Vibrato {
     const SAMPLES: usize = 1;
     const FORM: Form = Form {
         controls: &[DEPTH, MIX],
+        curve: SINE,
         sines: &[(0, AS_IT_IS)],
     };
     const STEPS: &'static [f64] = &[1.0];

@@ -39,6 +39,13 @@ pub trait Lined: Effect {
     fn lines_mut(&mut self) -> &mut [Vec<f64>];
 }
 
+/// A unit of an effect without lines, which stores N numbers beside its phase.
+pub trait Unlined<const N: usize>: Effect {
+    fn stores(&self) -> [f64; N];
+
+    fn set_stores(&mut self, stores: &[f64; N]);
+}
+
 /// `Effect` for a unit that wraps the Rust's effect. The effects differ in where their phases lie, and in `tick_ports`.
 macro_rules! effect {
     ($unit:ident($effect:ident $(, $more:expr)?), $($phases:tt)*) => {

@@ -8,6 +8,7 @@ extern crate alloc;
 
 mod effect;
 mod frames;
+mod map;
 mod shims;
 
 use shims::rng;
@@ -19,5 +20,6 @@ use shims::StdMap;
 pub mod port;
 include!(concat!(env!("OUT_DIR"), "/quiver.rs"));
 
-pub use effect::{Effect, Lined, MOST_PORTS, MOST_SAMPLES};
+pub use effect::{Effect, Lined, Unlined, MOST_PORTS, MOST_SAMPLES};
+pub use map::{Mapped, SPREAD};
 pub use modules::timefx::inside::{chorus, delay, flanger, reverb, tremolo, vibrato};

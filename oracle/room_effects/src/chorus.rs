@@ -38,7 +38,7 @@ lined! {
     #[inline(always)]
     fn tick(state: &mut State, memory: &mut [f64], t: &Tick, out: &mut [f64; 3]) -> u32 {
         let [audio, depth, mix, _] = t.ports;
-        let [sine0, sine1, sine2] = t.sines;
+        let [sine0, sine1, sine2] = t.curves;
         unsafe {
             room_raw_chorus_tick(
                 &mut state.write_pos,

@@ -38,7 +38,7 @@ lined! {
     #[inline(always)]
     fn tick(state: &mut State, memory: &mut [f64], t: &Tick, out: &mut [f64; 3]) -> u32 {
         let [audio, depth, feedback, mix] = t.ports;
-        let [sine0, sine1, _] = t.sines;
+        let [sine0, sine1, _] = t.curves;
         unsafe {
             room_raw_flanger_tick(
                 &mut state.write_pos,

@@ -8,11 +8,13 @@ pub mod delay;
 pub mod flanger;
 pub mod reverb;
 pub mod tremolo;
+pub mod unlined;
 pub mod vibrato;
 
 pub use lined::{Lined, State};
+pub use unlined::Unlined;
 
-/// No effect has more phases, sines or samples, or more ports. Of a list this long, an effect's own come first.
+/// No effect has more phases, samples or curve numbers beside the frequency, or more ports. Of a list this long, an effect's own come first.
 pub const MOST: usize = 3;
 pub const MOST_PORTS: usize = 4;
 
@@ -23,5 +25,6 @@ pub struct Tick {
     pub set: u32,
     pub ports: [f64; MOST_PORTS],
     pub frequency: f64,
-    pub sines: [f64; MOST],
+    /// Sines.
+    pub curves: [f64; MOST],
 }

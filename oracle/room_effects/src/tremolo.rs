@@ -1,6 +1,7 @@
-//! The tremolo, which is lent no memory.
+//! The tremolo.
 
-use crate::Tick;
+use crate::unlined::State;
+use crate::{Tick, Unlined, MOST};
 
 extern "C" {
     fn room_raw_tremolo_start(sample_rate: f64, out_phase: &mut f64, out_rate: &mut f64) -> u32;
@@ -19,43 +20,40 @@ extern "C" {
     fn room_raw_tremolo_silent(phase: f64, rate: f64, out: &mut u32) -> u32;
 }
 
-/// The two fields of a tremolo's state.
-#[derive(Clone, Copy, Debug)]
-pub struct State {
-    pub lfo_phase: f64,
-    pub sample_rate: f64,
-}
+pub struct Tremolo;
 
-// Sound: each function gets numbers and places of its own to write, and is proved to touch nothing else.
+/// It stores nothing.
+pub const STORES: usize = 0;
 
-/// Writes the state; the number of the refusal, 0 for none.
-pub fn start(state: &mut State, sample_rate: f64) -> u32 {
-    unsafe { room_raw_tremolo_start(sample_rate, &mut state.lfo_phase, &mut state.sample_rate) }
-}
+impl Unlined<STORES> for Tremolo {
+    fn start(state: &mut State<STORES>, sample_rate: f64) -> u32 {
+        unsafe { room_raw_tremolo_start(sample_rate, &mut state.lfo_phase, &mut state.sample_rate) }
+    }
 
-pub fn reset(state: &mut State) -> u32 {
-    unsafe { room_raw_tremolo_reset(&mut state.lfo_phase, state.sample_rate) }
-}
+    fn reset(state: &mut State<STORES>) -> u32 {
+        unsafe { room_raw_tremolo_reset(&mut state.lfo_phase, state.sample_rate) }
+    }
 
-pub fn silent(state: &State, out: &mut u32) -> u32 {
-    unsafe { room_raw_tremolo_silent(state.lfo_phase, state.sample_rate, out) }
-}
+    #[inline(always)]
+    fn tick(state: &mut State<STORES>, t: &Tick, out: &mut [f64; MOST]) -> u32 {
+        let [audio, depth, shape, _] = t.ports;
+        let [sine, ..] = t.curves;
+        unsafe {
+            room_raw_tremolo_tick(
+                &mut state.lfo_phase,
+                state.sample_rate,
+                t.set,
+                audio,
+                depth,
+                shape,
+                t.frequency,
+                sine,
+                &mut out[0],
+            )
+        }
+    }
 
-#[inline(always)]
-pub fn tick(state: &mut State, t: &Tick, out: &mut f64) -> u32 {
-    let [audio, depth, shape, _] = t.ports;
-    let [sine, ..] = t.sines;
-    unsafe {
-        room_raw_tremolo_tick(
-            &mut state.lfo_phase,
-            state.sample_rate,
-            t.set,
-            audio,
-            depth,
-            shape,
-            t.frequency,
-            sine,
-            out,
-        )
+    fn silent(state: &State<STORES>, out: &mut u32) -> u32 {
+        unsafe { room_raw_tremolo_silent(state.lfo_phase, state.sample_rate, out) }
     }
 }

@@ -36,7 +36,7 @@ lined! {
     #[inline(always)]
     fn tick(state: &mut State, memory: &mut [f64], t: &Tick, out: &mut [f64; MOST]) -> u32 {
         let [audio, depth, mix, _] = t.ports;
-        let [sine, ..] = t.sines;
+        let [sine, ..] = t.curves;
         unsafe {
             room_raw_vibrato_tick(
                 &mut state.write_pos,

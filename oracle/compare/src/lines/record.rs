@@ -3,7 +3,6 @@
 use super::{draw, length, Effect};
 use crate::bits::word;
 use crate::random::Random;
-use crate::table;
 use quiver_oracle::{Effect as _, Lined as _};
 use room_effects::{Tick, MOST};
 
@@ -96,14 +95,9 @@ fn cleared<E: Effect>(unit: &mut E::Rust, rate: Option<f64>) -> Vec<u64> {
 }
 
 fn ticked<E: Effect>(unit: &mut E::Rust, t: &Tick) -> Result<Vec<u64>, String> {
-    if table::first(&E::FORM.causes(t)) != 0 {
-        return Err("a tick that is refused is not to be recorded".into());
-    }
+    let mut words = vec![TICK];
+    words.extend(E::FORM.words(t)?);
     let out = E::FORM.in_rust(unit, t)?;
-    let mut words = vec![TICK, u64::from(t.set & E::FORM.all_set())];
-    words.extend(E::FORM.ports_of(t).iter().copied().map(word));
-    words.push(word(t.frequency));
-    words.extend(E::FORM.sines_of(t).iter().copied().map(word));
     words.extend(left::<E>(unit, out));
     Ok(words)
 }

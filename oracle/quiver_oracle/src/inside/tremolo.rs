@@ -1,7 +1,7 @@
 //! Inside the Rust's `Tremolo`: its phase, its tick with the frequency planted.
 
 use super::super::Tremolo;
-use crate::effect::{effect, ticks_by_frames};
+use crate::effect::{effect, ticks_by_frames, Unlined};
 use std::slice;
 
 pub struct Unit(Tremolo);
@@ -19,3 +19,11 @@ effect! {
 }
 
 ticks_by_frames!(Unit, 1);
+
+impl Unlined<0> for Unit {
+    fn stores(&self) -> [f64; 0] {
+        []
+    }
+
+    fn set_stores(&mut self, _stores: &[f64; 0]) {}
+}

@@ -11,7 +11,7 @@ pub struct Libm<T>(PhantomData<T>);
 #[cfg(feature = "script")]
 pub mod script;
 #[cfg(feature = "script")]
-use script::next_sine;
+use script::{next_sine, next_tangent};
 
 #[cfg(not(feature = "script"))]
 pub mod timing;
@@ -33,6 +33,15 @@ impl Libm<f64> {
     pub fn sin(x: f64) -> f64 {
         next_sine(x)
     }
+
+    // The phaser's, where a side works its coefficient out. For timing it is planted, so that no one asks.
+    #[cfg(feature = "script")]
+    pub fn tan(x: f64) -> f64 {
+        next_tangent(x)
+    }
+
+    #[cfg(not(feature = "script"))]
+    not_handed_in!(tan(x));
 
     // The delay's start asks for it (`env_coef`); the host's coefficient then takes its place.
     pub fn exp(x: f64) -> f64 {
@@ -64,7 +73,6 @@ impl Libm<f64> {
     not_handed_in!(
         pow(x, y),
         cos(x),
-        tan(x),
         tanh(x),
         asin(x),
         exp2(x),

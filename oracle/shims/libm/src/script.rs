@@ -1,55 +1,72 @@
-//! The script of one tick: the sines it gets, in the order in which it asks.
+//! The script of one tick: the sines and the tangents it gets, in the order in which it asks.
 
 use core::cell::Cell;
+use std::thread::LocalKey;
 
-/// No tick asks for more sines: the chorus has three voices.
+/// No tick asks for more of either: the chorus has three voices.
 pub const MOST: usize = 3;
 
-#[derive(Clone, Copy, Default)]
-struct Script {
-    sines: [f64; MOST],
+#[derive(Clone, Copy)]
+pub struct Script {
+    numbers: [f64; MOST],
     handed: usize,
     /// The angles that were asked for, in order.
     asked: [f64; MOST],
     taken: usize,
 }
 
+pub type Held = LocalKey<Cell<Script>>;
+
+const EMPTY: Script = Script {
+    numbers: [0.0; MOST],
+    handed: 0,
+    asked: [0.0; MOST],
+    taken: 0,
+};
+
 thread_local! {
-    static SCRIPT: Cell<Script> = const {
-        Cell::new(Script { sines: [0.0; MOST], handed: 0, asked: [0.0; MOST], taken: 0 })
-    };
+    pub static SINES: Cell<Script> = const { Cell::new(EMPTY) };
+    pub static TANGENTS: Cell<Script> = const { Cell::new(EMPTY) };
 }
 
-/// Hand in the sines of the next tick.
-pub fn hand_sines(sines: &[f64]) {
+/// Hand in the numbers of the next tick.
+pub fn hand(held: &'static Held, numbers: &[f64]) {
     let mut script = Script {
-        handed: sines.len(),
-        ..Script::default()
+        handed: numbers.len(),
+        ..EMPTY
     };
-    script.sines[..sines.len()].copy_from_slice(sines);
-    SCRIPT.set(script);
+    script.numbers[..numbers.len()].copy_from_slice(numbers);
+    held.set(script);
 }
 
-/// The angles of the sines that the tick took; panics if it left one.
-pub fn asked_angles(count: usize) -> impl Iterator<Item = f64> {
-    let script = SCRIPT.get();
+/// The angles of the numbers that the tick took; panics if it left one.
+pub fn asked_angles(held: &'static Held, count: usize) -> impl Iterator<Item = f64> {
+    let script = held.get();
     assert_eq!(
         (script.handed, script.taken),
         (count, count),
-        "libm: sines handed in and taken"
+        "libm: numbers handed in and taken"
     );
     script.asked.into_iter().take(count)
 }
 
 pub(crate) fn next_sine(angle: f64) -> f64 {
-    let mut script = SCRIPT.get();
+    next(&SINES, angle)
+}
+
+pub(crate) fn next_tangent(angle: f64) -> f64 {
+    next(&TANGENTS, angle)
+}
+
+fn next(held: &'static Held, angle: f64) -> f64 {
+    let mut script = held.get();
     let at = script.taken;
     assert!(
         at < script.handed,
-        "libm: a sine was asked, and no one hands it in"
+        "libm: a number was asked, and no one hands it in"
     );
     script.asked[at] = angle;
     script.taken = at + 1;
-    SCRIPT.set(script);
-    script.sines[at]
+    held.set(script);
+    script.numbers[at]
 }
