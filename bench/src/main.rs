@@ -8,15 +8,16 @@
 //! How it is taken:
 //! - Both are called functions: ours is in the static library, the Rust's tick stands behind `inline(never)`. The Rust's is
 //!   `tick_generic` with the cheapest frames (every port set, nothing to test) and in the release profile (fat LTO), so
-//!   nothing between the call and its tick is left. The flanger's is `tick`, which reads its ports from quiver's map and
-//!   answers in one: it looks up nine, each found at once since they lie in order. That is part of its row, and so is writing
-//!   and reading the slots before and after, without a look-up. The row flanger_plain has the body of this `tick` on the cheapest
-//!   frames (quiver_oracle's build.rs puts it there), and is to be read beside the others.
+//!   nothing between the call and its tick is left. The flanger's and the phaser's is `tick`, which reads its ports from quiver's
+//!   map and answers in one: it looks up nine or ten, each found at once since they lie in order. That is part of their rows, and
+//!   so is writing and reading the slots before and after, without a look-up. The rows flanger_plain and phaser_plain have the
+//!   body of this `tick` on the cheapest frames (quiver_oracle's build.rs puts it there), and are to be read beside the others.
 //! - Curve numbers are handed to both, to each in its own way. Ours gets them as arguments. For the Rust the driver leaves them
 //!   in memory before the call: the frequency in the memo, under the key that the tick will ask for, and the sines where the shim
 //!   of libm takes each by one load. "Rust, curves still" is the Rust without these stores, its curve numbers the same in every
 //!   tick: what they cost it. What is left on the Rust's side is the memo's own test, which is part of its tick. Of the delay the
-//!   curve number is the milliseconds, and its time port is the memo's key; in linear mode there is none, and in the reverb.
+//!   curve number is the milliseconds, and its time port is the memo's key; in linear mode there is none, and in the reverb. Of the
+//!   phaser it is the coefficient, for both sides the same: phaser.rs says why.
 //! - Audio, controls, frequencies and sines move from tick to tick; the state is fed back, the lines too; the samples are summed
 //!   up, and both sides must come to the same sum.
 //! - Rounds are interleaved, so that a machine that slows down slows both. The lowest is what the code can do; the median says
@@ -28,6 +29,7 @@ mod delay;
 mod flanger;
 mod inputs;
 mod lines;
+mod phaser;
 mod reverb;
 mod tremolo;
 mod unlined;
@@ -44,6 +46,8 @@ use std::time::Instant;
 use vibrato::Vibrato;
 
 type Tremolo = unlined::Row<tremolo::Tremolo, { room_effects::tremolo::STORES }, 1>;
+type Phaser<const PLAIN: bool> =
+    unlined::Row<phaser::Phaser<PLAIN>, { room_effects::phaser::STORES }, 3>;
 
 /// The rate of every row.
 pub const SAMPLE_RATE: f64 = 48_000.0;
@@ -89,6 +93,8 @@ fn main() {
             time::<Delay<false>, 1>();
             time::<Delay<true>, 1>();
             time::<Reverb, 2>();
+            time::<Phaser<false>, 3>();
+            time::<Phaser<true>, 3>();
         }
         ["clear"] => clear::time(),
         ["count", "tremolo", side, ticks] => count::<Tremolo, 1>(side, ticks),
@@ -99,6 +105,8 @@ fn main() {
         ["count", "delay", side, ticks] => count::<Delay<false>, 1>(side, ticks),
         ["count", "linear_delay", side, ticks] => count::<Delay<true>, 1>(side, ticks),
         ["count", "reverb", side, ticks] => count::<Reverb, 2>(side, ticks),
+        ["count", "phaser", side, ticks] => count::<Phaser<false>, 3>(side, ticks),
+        ["count", "phaser_plain", side, ticks] => count::<Phaser<true>, 3>(side, ticks),
         _ => panic!("bench time, bench clear, or bench count EFFECT SIDE TICKS"),
     }
 }

@@ -6,8 +6,8 @@
 //! A file is wrapped as `pub mod NAME { FILE, our child module }`, since only a child module sees private fields, and the
 //! files' own text must stay. (A file's inner doc comment may stand right after the brace; its line numbers stay too.)
 //!
-//! The flanger has no `tick_generic`, so that its tick can't be timed on plain frames as the others' are. Behind timefx.rs stands
-//! one: the text of the body of `tick`, cut out of the file, under the signature of the others'.
+//! Flanger and phaser have no `tick_generic`, so that their ticks can't be timed on plain frames as the others' are. Behind
+//! timefx.rs stands one for each: the text of the body of `tick`, cut out of the file, under the signature of the others'.
 //!
 //! port.rs exports a macro, which rustc takes only from a file that lib.rs names itself: target/quiver/port.rs is a copy.
 
@@ -23,7 +23,7 @@ const ROOT: &str = "../..";
 const MODULES: [(&str, bool, &[&str]); 3] = [
     ("common", true, &[]),
     ("nonlinear", false, &[]),
-    ("timefx", true, &["Flanger"]),
+    ("timefx", true, &["Flanger", "Phaser"]),
 ];
 
 fn main() {

@@ -1,5 +1,5 @@
-//! The Rust's tick of the flanger on plain frames, as bench/ times them: the body of `tick`, which build.rs puts under
-//! another signature. It must answer and leave what `tick` does.
+//! The Rust's ticks of flanger and phaser on plain frames, as bench/ times them: the body of `tick`, which build.rs puts under
+//! another signature. They must answer and leave what `tick` does.
 
 use crate::bits;
 use crate::random::Random;

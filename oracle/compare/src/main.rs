@@ -14,6 +14,7 @@ mod flanger;
 mod frames;
 mod lines;
 mod memory;
+mod phaser;
 mod random;
 mod reverb;
 mod run;
@@ -36,7 +37,7 @@ struct Effect {
     record: fn(ticks: u64, seed: u64) -> Result<Vec<u64>, String>,
 }
 
-const EFFECTS: [Effect; 9] = [
+const EFFECTS: [Effect; 10] = [
     Effect {
         name: "tremolo",
         run: run::run::<Unlined<tremolo::Tremolo, 0>>,
@@ -76,6 +77,11 @@ const EFFECTS: [Effect; 9] = [
         name: "reverb",
         run: reverb::run,
         record: reverb::record,
+    },
+    Effect {
+        name: "phaser",
+        run: phaser::run,
+        record: phaser::record,
     },
     Effect {
         name: "whole_part",

@@ -147,6 +147,29 @@ impl Random {
         }
     }
 
+    /// A stages control that is no NaN: two, four or six of them, and the ends of these ranges.
+    pub fn stages(&mut self) -> f64 {
+        match self.below(4) {
+            0 => {
+                let end = self.of(&[0.33f64, 0.66]);
+                self.of(&[end, end.next_down(), end.next_up()])
+            }
+            1 => self.control(),
+            _ => self.within(0.0, 1.0),
+        }
+    }
+
+    /// A tangent of which the coefficient lies in −1 to 1, the ends among them.
+    pub fn tangent(&mut self) -> f64 {
+        match self.below(8) {
+            0 => self.of(&[0.0, -0.0, 1.0, 1.0f64.next_down(), 1.0f64.next_up(), 1e300]),
+            1 => self.small(),
+            2 => self.within(1.0, 30.0),
+            3 => 1.0 / self.within(1e-18, 1.0),
+            _ => self.within(0.0, 1.0),
+        }
+    }
+
     /// A glide coefficient: at least 0 and below 1.
     pub fn coefficient(&mut self) -> f64 {
         match self.below(8) {
@@ -190,6 +213,7 @@ impl Random {
         }
     }
 
+    /// A sine, or a coefficient of an all-pass.
     pub fn curve(&mut self) -> f64 {
         match self.below(16) {
             0 => self.of(&ZEROS),

@@ -1,4 +1,5 @@
-//! The table of refusals, read from document 01 and from nothing else: of each cause, whether it applies.
+//! The table of refusals, read from document 01, with what document 02 adds to it, and from nothing else: of each cause, whether
+//! it applies.
 
 pub const SAMPLE_RATE: u32 = 1;
 pub const COEFFICIENT: u32 = 2;
@@ -56,6 +57,11 @@ pub fn frequency(frequency: f64) -> bool {
 /// "curve number NaN, a sine outside −1 to 1"
 pub fn sine(sine: f64) -> bool {
     sine.is_nan() || sine < -1.0 || sine > 1.0
+}
+
+/// "curve number NaN" and, of the phaser, "Number 6 also names a coefficient outside −1 to 1"
+pub fn allpass_coefficient(coefficient: f64) -> bool {
+    coefficient.is_nan() || coefficient < -1.0 || coefficient > 1.0
 }
 
 /// "glide coefficient NaN or outside 0 ≤ c < 1 (delay only)"

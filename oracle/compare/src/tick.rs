@@ -28,6 +28,10 @@ pub const SINE: Curve = Curve {
     name: "sine",
     refused: table::sine,
 };
+pub const COEFFICIENT: Curve = Curve {
+    name: "coefficient",
+    refused: table::allpass_coefficient,
+};
 
 pub struct Control {
     name: &'static str,
@@ -53,6 +57,11 @@ pub const FEEDBACK: Control = Control {
     name: "feedback",
     draw: Random::feedback,
     ends: [-0.95, 0.95],
+};
+pub const STAGES: Control = Control {
+    name: "stages",
+    draw: Random::stages,
+    ends: [0.0, 1.0],
 };
 
 /// Of a sine, that nothing is added to its phase: −0 leaves every float as it is.

@@ -22,4 +22,4 @@ include!(concat!(env!("OUT_DIR"), "/quiver.rs"));
 
 pub use effect::{Effect, Lined, Unlined, MOST_PORTS, MOST_SAMPLES};
 pub use map::{Mapped, SPREAD};
-pub use modules::timefx::inside::{chorus, delay, flanger, reverb, tremolo, vibrato};
+pub use modules::timefx::inside::{chorus, delay, flanger, phaser, reverb, tremolo, vibrato};

@@ -1,4 +1,4 @@
-//! The ticks of the effects whose reference is `tick`: the flanger. It reads its ports from quiver's own map and answers in
+//! The ticks of the effects whose reference is `tick`: flanger and phaser. It reads its ports from quiver's own map and answers in
 //! one, as quiver's graph keeps one for each module.
 
 use crate::effect::Effect;

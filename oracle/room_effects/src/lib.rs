@@ -6,6 +6,7 @@ mod lined;
 pub mod chorus;
 pub mod delay;
 pub mod flanger;
+pub mod phaser;
 pub mod reverb;
 pub mod tremolo;
 pub mod unlined;
@@ -25,6 +26,6 @@ pub struct Tick {
     pub set: u32,
     pub ports: [f64; MOST_PORTS],
     pub frequency: f64,
-    /// Sines.
+    /// Sines or, of the phaser, the coefficients of its all-passes.
     pub curves: [f64; MOST],
 }

@@ -3,6 +3,7 @@
 pub mod chorus;
 pub mod delay;
 pub mod flanger;
+pub mod phaser;
 pub mod reverb;
 pub mod tremolo;
 pub mod vibrato;
