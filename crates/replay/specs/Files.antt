@@ -1,7 +1,7 @@
 -- How a file of stored answers lies: a start, and then records. Definitions only. Assumes nothing.
 use Rattle.std.specs.Prelude.{ℕ, ◌-◌, ◌/◌, List, length}
 use Rattle.replay.specs.declared.units.Effect.{Effect}
-use Rattle.replay.specs.declared.units.Effect.TheVariants.{Tremolo, Vibrato, Chorus, Flanger, Delay, Reverb}
+use Rattle.replay.specs.declared.units.Effect.TheVariants.{Tremolo, Vibrato, Chorus, Flanger, Delay, Reverb, Phaser}
 
 -- the bytes of the start: of a delay six words, of a tremolo none
 abbrev pub start_size : Effect → ℕ
@@ -11,6 +11,7 @@ start_size Chorus = 24
 start_size Flanger = 24
 start_size Delay = 48
 start_size Reverb = 24
+start_size Phaser = 24
 
 -- the bytes of a record
 abbrev pub record_size : Effect → ℕ
@@ -20,6 +21,7 @@ record_size Chorus = 128
 record_size Flanger = 112
 record_size Delay = 88
 record_size Reverb = 128
+record_size Phaser = 104
 
 -- how many whole records a file has
 abbrev pub record_count : Effect → List ℕ → ℕ

@@ -1,10 +1,11 @@
--- What a call has to answer, and the reverb to be after it, to be what a record says. Definitions only. Assumes nothing.
-use Rattle.std.specs.Prelude.{ℕ, ◌≡◌, ◌+◌, ◌/◌, ◌%◌, ◌==◌, ⊤, List, [], ◌∷◌, ◌++◌}
+-- What a call has to answer, and a unit to be after it, to be what a record says. Definitions only. Assumes nothing.
+use Rattle.std.specs.Prelude.{ℕ, ◌≡◌, ◌+◌, ◌/◌, ◌%◌, ◌==◌, ⊤, cond, List, [], ◌∷◌, ◌++◌, Float}
 use Rattle.port.specs.Answer.{Reply, reply_number, reply_sample}
-use Rattle.reverb.specs.declared.Reverb as state
+use Rattle.phaser.specs.declared.Phaser as phaser
+use Rattle.reverb.specs.declared.Reverb as reverb
 use Rattle.replay.specs.declared.units.Unit.{Unit}
-use Rattle.replay.specs.declared.units.Unit.TheVariants.{Tremolo, Vibrato, Chorus, Flanger, Delay, Reverb}
-use Rattle.replay.specs.Words.{word_of, float_at}
+use Rattle.replay.specs.declared.units.Unit.TheVariants.{Tremolo, Vibrato, Chorus, Flanger, Delay, Reverb, Phaser}
+use Rattle.replay.specs.Words.{word_of, float_at, AreHeld}
 
 -- accepted, with the float of word i as the first sample
 abbrev pub IsOneSample : Reply → List ℕ → ℕ → Type 0
@@ -22,11 +23,24 @@ unpacked n = n % 65536 ∷ n / 65536 % 65536 ∷ n / 4294967296 % 65536 ∷ n / 
 abbrev pub eight_from : List ℕ → ℕ → List ℕ
 eight_from b i = unpacked (word_of b i) ++ unpacked (word_of b (i + 1))
 
--- the reverb's positions are those that a record says of the state after it
-abbrev pub IsReverbStored : state.Reverb → List ℕ → Type 0
+-- the damping stores that a record with this code is a look at; none, where it is of a call
+abbrev pub reverb_looked : ℕ → reverb.Reverb → List Float
+reverb_looked code r = cond (code == 3) r.comb_filter_state_l (cond (code == 4) r.comb_filter_state_r [])
+
+-- the reverb's positions, and the stores that a look is at, are those that a record says of the state after it
+abbrev pub IsReverbStored : reverb.Reverb → List ℕ → Type 0
 IsReverbStored r b =
     (r.comb_pos_l ≡ eight_from b 9) × (r.comb_pos_r ≡ eight_from b 11) × (r.allpass_pos_l ≡ unpacked (word_of b 13))
-    × (r.allpass_pos_r ≡ unpacked (word_of b 14)) × (r.predelay_pos ≡ word_of b 15)
+    × (r.allpass_pos_r ≡ unpacked (word_of b 14)) × (r.predelay_pos ≡ word_of b 15) × AreHeld (reverb_looked (word_of b 0) r) b
+
+-- the numbers of a chain that a record with this code is a look at; none, where it is of a call
+abbrev pub phaser_looked : ℕ → phaser.Phaser → List Float
+phaser_looked code p =
+    cond (code == 3) p.allpass_x1_l (cond (code == 4) p.allpass_x1_r (cond (code == 5) p.allpass_y1_l (cond (code == 6) p.allpass_y1_r [])))
+
+-- the phaser's phase, and the chain that a look is at, are those that a record says of the state after it
+abbrev pub IsPhaserStored : phaser.Phaser → List ℕ → Type 0
+IsPhaserStored p b = (p.lfo_phase ≡ float_at b 12) × AreHeld (phaser_looked (word_of b 0) p) b
 
 -- the unit is what a record says of the state after it; of a tremolo none is kept
 abbrev pub IsStored : Unit → List ℕ → Type 0
@@ -38,3 +52,4 @@ IsStored (Flanger f) b = (f.write_pos ≡ word_of b 12) × (f.lfo_phase ≡ floa
 IsStored (Delay d) b =
     (d.write_pos ≡ word_of b 8) × (d.smoothed_delay ≡ float_at b 9) × (d.delay_primed ≡ (word_of b 10 == 1))
 IsStored (Reverb r) b = IsReverbStored r b
+IsStored (Phaser p) b = IsPhaserStored p b

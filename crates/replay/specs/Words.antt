@@ -1,6 +1,6 @@
 -- Words of a stored file, as integers and as floats, when two floats are equal, and the tally of the calls. Definitions only. Assumes nothing.
-use Rattle.std.specs.Prelude.{ℕ, ◌+◌, ◌*◌, ◌≡◌, Bool, true, cond, List, get_or, Float}
-use Rattle.std.specs.Float.{binary64}
+use Rattle.std.specs.Prelude.{ℕ, ◌+◌, ◌*◌, ◌≡◌, Bool, true, cond, List, get_or, Float, EachIndex, slice_index_or}
+use Rattle.std.specs.Float.{binary64, float_zero}
 use Rattle.std.specs.Float.Ieee.{of_bits}
 use Rattle.replay.specs.declared.words.Tally.{Tally}
 
@@ -15,6 +15,10 @@ word_of b i = half_word b (i * 8) + 4294967296 * half_word b (i * 8 + 4)
 -- its float: the one NaN for every pattern of a NaN
 abbrev pub float_at : List ℕ → ℕ → Float
 float_at b i = of_bits binary64 (word_of b i)
+
+-- the floats are those of the words from 1 on
+abbrev pub AreHeld : List Float → List ℕ → Type 0
+AreHeld stores b = EachIndex stores (λ k. slice_index_or stores k float_zero ≡ float_at b (k + 1))
 
 -- r says whether x and y are equal as data: by their bits, every NaN as one value
 pub record Decides (r : Bool) (x y : Float) : Type 0 where

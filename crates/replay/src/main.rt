@@ -2,6 +2,7 @@
 // what a record has.
 #![tactic(auto)]
 
+mod phasers;
 mod reverbs;
 mod units;
 mod words;
@@ -57,5 +58,6 @@ fn main(rt: HostRuntime) -> Result<()> {
     replay(&rt, "flanger", "flanger.bin", Effect::Flanger)?;
     replay(&rt, "delay", "delay.bin", Effect::Delay)?;
     replay(&rt, "linear delay", "linear_delay.bin", Effect::Delay)?;
-    replay(&rt, "reverb", "reverb.bin", Effect::Reverb)
+    replay(&rt, "reverb", "reverb.bin", Effect::Reverb)?;
+    replay(&rt, "phaser", "phaser.bin", Effect::Phaser)
 }

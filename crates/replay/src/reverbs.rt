@@ -4,10 +4,8 @@
 //   2 to 6  audio, size, damping, mix, predelay; of a retune, 6 is the new rate
 //   7, 8    left and right
 //   9 to 15 the positions after, four in a word, 16 bits each, the first lowest: left combs, right combs, left all-passes, right ones; the predelay's
-ghost use Rattle.std.specs.Prelude.{◌≡◌, ◌+◌, ◌<◌, ◌↔◌, IsTrue, EachIndex, slice_index_or};
-ghost use Rattle.std.specs.Float.{float_zero};
-ghost use Rattle.replay.specs.Stored.{IsReverbStored, eight_from, unpacked};
-ghost use Rattle.replay.specs.Words.{float_at};
+ghost use Rattle.std.specs.Prelude.{◌≡◌, ◌<◌, ◌↔◌, IsTrue};
+ghost use Rattle.replay.specs.Stored.{IsReverbStored, eight_from, reverb_looked, unpacked};
 
 use crate::units::{is_accepted, is_one_sample, port};
 use crate::words::Record;
@@ -45,7 +43,18 @@ fn are_eight_stored(positions: &[u64; 8], stored: &Record, i: usize) -> bool
         && are_four_stored(&positions[4..], stored.word(i + 1))
 }
 
-// Whether the positions are what a record says of them after the call.
+// The numbers that a record is a look at; none, where it is of a call.
+fn looked(r: &Reverb, code: u64) -> &[f64]
+    ensures { result.now ≡ reverb_looked code r.now }
+{
+    match code {
+        LEFT_STORES => &r.comb_filter_state_l,
+        RIGHT_STORES => &r.comb_filter_state_r,
+        _ => &[],
+    }
+}
+
+// Whether the positions, and the damping stores that a look is at, are what a record says of them.
 pub fn is_stored(r: &Reverb, stored: &Record) -> bool
     ensures { IsTrue result ↔ IsReverbStored r.now stored.now.bytes }
 {
@@ -54,19 +63,14 @@ pub fn is_stored(r: &Reverb, stored: &Record) -> bool
         && r.allpass_pos_l == unpacked(stored.word(13))
         && r.allpass_pos_r == unpacked(stored.word(14))
         && r.predelay_pos == stored.word(15)
+        && stored.are_held(looked(r, stored.word(0)))
 }
 
-// Whether a side's damping stores are those in words 1 to 8.
-fn are_stores_held(stores: &[f64; 8], stored: &Record) -> bool
-    ensures { IsTrue result ↔ EachIndex stores.now (λ k. slice_index_or stores.now k float_zero ≡ float_at stored.now.bytes (k + 1)) }
-{
-    stores
-        .iter()
-        .enumerate()
-        .all(|(k, x)| stored.holds(k + 1, *x))
-}
-
-fn tick(r: &mut Reverb, mem: &mut [f64], stored: &Record) -> bool {
+// A look makes no call.
+pub fn tick_or_look(r: &mut Reverb, mem: &mut [f64], stored: &Record) -> bool {
+    if !looked(r, stored.word(0)).is_empty() {
+        return true;
+    }
     let mask = stored.word(1);
     let ticked = r.tick(
         mem,
@@ -78,14 +82,6 @@ fn tick(r: &mut Reverb, mem: &mut [f64], stored: &Record) -> bool {
     );
     *r = ticked.state;
     is_one_sample(ticked.answer, stored, 7) && stored.holds(8, ticked.answer.second())
-}
-
-pub fn tick_or_look(r: &mut Reverb, mem: &mut [f64], stored: &Record) -> bool {
-    match stored.word(0) {
-        LEFT_STORES => are_stores_held(&r.comb_filter_state_l, stored),
-        RIGHT_STORES => are_stores_held(&r.comb_filter_state_r, stored),
-        _ => tick(r, mem, stored),
-    }
 }
 
 // What a clearing leaves, and whether it was accepted.

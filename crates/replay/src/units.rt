@@ -4,10 +4,10 @@
 //   chorus, 16: the call; the mask; audio, depth, mix; frequency, three sines; three samples; the position and the three phases after
 //   flanger, 14: the call; the mask; audio, depth, feedback, mix; frequency, two sines; three samples; the position and the phase after
 //   delay, 11: the call; the mask; audio, time, feedback, mix; milliseconds; the sample; the position, the glide distance and whether it is primed after
-//   reverb, 16: reverbs.rt says
+//   reverb, 16: reverbs.rt says; phaser, 13: phasers.rt does
 // The call is 0 tick, 1 retune (the new rate stands for the mix, the delay's new coefficient for the milliseconds) or 2 reset. A tremolo's record has
-// its own state before the tick; the others are calls of one unit from its start on, which stands before them: 1 delay, 2 chorus, 3 flanger, 4 vibrato
-// or 6 reverb; the rate; the places needed; of a delay also the maximum, the glide coefficient, and 1 for linear mode, else 0.
+// its own state before the tick; the others are calls of one unit from its start on, which stands before them: 1 delay, 2 chorus, 3 flanger, 4 vibrato,
+// 6 reverb or 7 phaser; the rate; the places needed; of a delay also the maximum, the glide coefficient, and 1 for linear mode, else 0.
 ghost use Rattle.std.specs.Prelude.{◌≡◌, ◌≤◌, ◌<◌, ◌/◌, ◌%◌, ◌==◌, ◌↔◌, IsTrue};
 ghost use Rattle.port.specs.Port.{port_if};
 ghost use Rattle.port.specs.Answer.{answer_reply, outcome_reply, reply_number};
@@ -15,11 +15,12 @@ ghost use Rattle.replay.specs.Files.{start_size, record_size};
 ghost use Rattle.replay.specs.Stored.{IsOneSample, IsStored, IsThreeSamples};
 ghost use Rattle.replay.specs.Words.{float_at};
 
-use crate::reverbs;
 use crate::words::Record;
+use crate::{phasers, reverbs};
 use chorus::Chorus;
 use delay_line::DelayLine;
 use flanger::Flanger;
+use phaser::Phaser;
 use port::{Answer, Outcome, Port, port_if};
 use reverb::Reverb;
 use tremolo::Tremolo;
@@ -39,6 +40,7 @@ pub enum Effect {
     Flanger,
     Delay,
     Reverb,
+    Phaser,
 }
 
 impl Effect {
@@ -50,7 +52,8 @@ impl Effect {
         match self {
             Effect::Tremolo => 0,
             Effect::Delay => 6 * 8,
-            Effect::Vibrato | Effect::Chorus | Effect::Flanger | Effect::Reverb => 3 * 8,
+            Effect::Vibrato | Effect::Chorus | Effect::Flanger | Effect::Reverb | Effect::Phaser =>
+                3 * 8,
         }
     }
 
@@ -63,6 +66,7 @@ impl Effect {
         match self {
             Effect::Vibrato => 10 * 8,
             Effect::Tremolo | Effect::Delay => 11 * 8,
+            Effect::Phaser => 13 * 8,
             Effect::Flanger => 14 * 8,
             Effect::Chorus | Effect::Reverb => 16 * 8,
         }
@@ -86,6 +90,7 @@ pub enum Unit {
     Flanger(Flanger),
     Delay(DelayLine),
     Reverb(Reverb),
+    Phaser(Phaser),
 }
 
 // The port of the weight 1, 2, 4, .. in the mask, with the number in word i.
@@ -105,7 +110,7 @@ pub fn is_one_sample(answer: Answer, stored: &Record, i: usize) -> bool
     answer.number() == 0 && stored.holds(i, answer.first())
 }
 
-fn is_three_samples(answer: Answer, stored: &Record, i: usize) -> bool
+pub fn is_three_samples(answer: Answer, stored: &Record, i: usize) -> bool
     requires { i < 14 }
     ensures { IsTrue result ↔ IsThreeSamples (answer_reply answer) stored.now.bytes i }
 {
@@ -236,6 +241,7 @@ impl Unit {
                 )
             }
             Effect::Reverb => Unit::Reverb(Reverb::new(rate, mem).state),
+            Effect::Phaser => Unit::Phaser(Phaser::new(rate).state),
         }
     }
 
@@ -259,6 +265,7 @@ impl Unit {
             Unit::Flanger(f) => tick_flanger(f, mem, stored),
             Unit::Delay(d) => tick_delay(d, mem, stored),
             Unit::Reverb(r) => reverbs::tick_or_look(r, mem, stored),
+            Unit::Phaser(p) => phasers::tick_or_look(p, stored),
         }
     }
 
@@ -272,6 +279,7 @@ impl Unit {
                 clear_delay(d, d.set_sample_rate(stored.float(5), stored.float(6), mem))
             }
             Unit::Reverb(r) => reverbs::clear(r, r.set_sample_rate(stored.float(6), mem)),
+            Unit::Phaser(_) => false,
         }
     }
 
@@ -283,6 +291,7 @@ impl Unit {
             Unit::Flanger(f) => clear_flanger(f, f.reset(mem)),
             Unit::Delay(d) => clear_delay(d, d.reset(mem)),
             Unit::Reverb(r) => reverbs::clear(r, r.reset(mem)),
+            Unit::Phaser(p) => phasers::clear(p, p.reset()),
         }
     }
 
@@ -306,6 +315,7 @@ impl Unit {
                     && d.delay_primed == (stored.word(10) == 1)
             }
             Unit::Reverb(r) => reverbs::is_stored(r, stored),
+            Unit::Phaser(p) => phasers::is_stored(p, stored),
         }
     }
 }

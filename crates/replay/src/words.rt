@@ -1,6 +1,6 @@
 // Words of a stored record, as integers and as floats, when two floats are equal, and the tally of the calls.
-ghost use Rattle.std.specs.Prelude.{◌≡◌, ◌+◌, ◌-◌, ◌≤◌, ◌<◌, ◌++◌, length, replicate};
-ghost use Rattle.replay.specs.Words.{half_word, word_of, float_at, Decides, counted_in};
+ghost use Rattle.std.specs.Prelude.{◌≡◌, ◌+◌, ◌-◌, ◌≤◌, ◌<◌, ◌++◌, ◌↔◌, IsTrue, length, replicate};
+ghost use Rattle.replay.specs.Words.{half_word, word_of, float_at, AreHeld, Decides, counted_in};
 
 // The sign bit, and the bits of infinity: a NaN's are above these, its sign aside.
 const SIGN: u64 = 0x8000_0000_0000_0000;
@@ -53,6 +53,17 @@ impl Record {
         } else {
             f64::from_bits(bits)
         }
+    }
+
+    // Whether the words from 1 on are those floats.
+    pub fn are_held(&self, stores: &[f64]) -> bool
+        requires { length stores.now < 16 }
+        ensures { IsTrue result ↔ AreHeld stores.now self.now.bytes }
+    {
+        stores
+            .iter()
+            .enumerate()
+            .all(|(k, x)| self.holds(k + 1, *x))
     }
 
     // Whether word i is that float.
