@@ -1,5 +1,5 @@
 //! The Rust's ticks of flanger and phaser on plain frames, as bench/ times them: the body of `tick`, which build.rs puts under
-//! another signature. They must answer and leave what `tick` does.
+//! another signature. They must answer what `tick` does, over many ticks: a state that differed would give other answers later.
 
 use crate::bits;
 use crate::random::Random;

@@ -101,12 +101,10 @@ fn two_ticks_for_one(random: &mut Random) -> Result<(), String> {
         }
         let once = one_tick(&mut one, &t, t.curves[0], Some(tangent), Unit::tick)?;
         let twice = two_ticks(&mut two, &t)?;
-        let sides = [(once, twice)]
-            .into_iter()
-            .flat_map(|(a, b)| a.into_iter().zip(b));
-        let left = one.stores().into_iter().zip(two.stores());
+        let samples = once.into_iter().zip(twice);
+        let stores = one.stores().into_iter().zip(two.stores());
         let phases = (one.phases()[0], two.phases()[0]);
-        for (once, twice) in sides.chain(left).chain([phases]) {
+        for (once, twice) in samples.chain(stores).chain([phases]) {
             agree("two ticks of the Rust's for one", twice, once)?;
         }
     }
