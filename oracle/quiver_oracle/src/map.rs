@@ -5,94 +5,41 @@ use crate::effect::Effect;
 use crate::port::{GraphModule, PortId, PortValues};
 use crate::{MOST_PORTS, MOST_SAMPLES};
 
-/// An input port of such an effect.
-#[derive(Clone, Copy)]
-pub(crate) enum Input {
-    /// One of our tick's: audio is 0, the controls follow.
-    OfTick(usize),
-    /// One that is the host's matter, with what it comes to where it is unset. Here it never carries anything else.
-    OfHost(f64),
-}
-
-/// All of them, port 0 first.
-pub(crate) struct Inputs<const N: usize>(pub [Input; N]);
-
-const OUTPUTS: [PortId; MOST_SAMPLES] = [10, 11, 12];
-
 /// What the spread comes to where its port is unset: the right sine is that of the phase plus half of it.
 pub const SPREAD: f64 = 0.5;
 
-impl<const N: usize> Inputs<N> {
-    /// The tick's ports, each with its place in that list.
-    #[inline(always)]
-    fn of_tick(&self) -> impl Iterator<Item = (usize, usize)> + '_ {
-        let ports = self.0.iter().enumerate();
-        ports.filter_map(|(id, input)| match input {
-            Input::OfTick(at) => Some((id, *at)),
-            Input::OfHost(_) => None,
-        })
-    }
-
-    /// What each port carries in a tick with these numbers.
-    #[inline(always)]
-    pub(crate) fn carrying(&self, values: [f64; MOST_PORTS]) -> [f64; N] {
-        self.0.map(|input| match input {
-            Input::OfTick(at) => values[at],
-            Input::OfHost(value) => value,
-        })
-    }
-}
+const OUTPUTS: [PortId; MOST_SAMPLES] = [10, 11, 12];
 
 /// Its slots are in the order of the ports, where a look-up finds them at once.
 pub(crate) struct Map {
-    inputs: PortValues,
+    pub inputs: PortValues,
     outputs: PortValues,
 }
 
 impl Map {
-    pub(crate) fn in_order<const N: usize>(ports: &Inputs<N>) -> Self {
+    /// With every port set: of the inputs, port 0 first, to these numbers.
+    pub(crate) fn in_order(inputs: &[f64]) -> Self {
         let mut map = Self {
             inputs: PortValues::new(),
             outputs: PortValues::new(),
         };
-        let carried = ports.carrying([0.0; MOST_PORTS]);
-        for (id, value) in carried.into_iter().enumerate() {
-            map.inputs.set(id as PortId, value);
+        for (id, value) in (0..).zip(inputs) {
+            map.inputs.set(id, *value);
         }
         OUTPUTS.into_iter().for_each(|id| map.outputs.set(id, 0.0));
         map
     }
 
-    /// A tick with ports set or unset, the host's unset. A sample that the tick leaves out is NaN.
-    pub(crate) fn tick<const N: usize>(
-        &mut self,
-        effect: &mut impl GraphModule,
-        ports: &Inputs<N>,
-        values: [Option<f64>; MOST_PORTS],
-    ) -> [f64; MOST_SAMPLES] {
-        self.inputs.clear();
-        for (id, at) in ports.of_tick() {
-            if let Some(value) = values[at] {
-                self.inputs.set(id as PortId, value);
-            }
-        }
+    /// A tick of what the inputs carry. A sample that it leaves out is NaN.
+    pub(crate) fn tick(&mut self, effect: &mut impl GraphModule) -> [f64; MOST_SAMPLES] {
         self.outputs.clear();
         effect.tick(&self.inputs, &mut self.outputs);
         OUTPUTS.map(|id| self.outputs.get_or(id, f64::NAN))
     }
 
-    /// A tick with every port of it set; slots are written and read as quiver's graph does it, with no look-up. Those of the tick
-    /// itself are left, since nothing but its own map can be handed to it.
+    /// The same, but a sample is as it was if the tick leaves it out; slots are read as quiver's graph does it, with no look-up.
     #[inline(always)]
-    pub(crate) fn tick_all_set<const N: usize>(
-        &mut self,
-        effect: &mut impl GraphModule,
-        ports: &Inputs<N>,
-        values: [f64; MOST_PORTS],
-    ) -> [f64; MOST_SAMPLES] {
-        for (slot, at) in ports.of_tick() {
-            self.inputs.set_at(slot, values[at]);
-        }
+    pub(crate) fn tick_by_slots(&mut self, effect: &mut impl GraphModule) -> [f64; MOST_SAMPLES] {
         effect.tick(&self.inputs, &mut self.outputs);
         [0, 1, 2].map(|slot| self.outputs.value_at(slot).unwrap_or(f64::NAN))
     }
@@ -100,22 +47,35 @@ impl Map {
 
 /// A unit of such an effect, ticked with every port set.
 pub trait Mapped: Effect {
-    /// The Rust's own tick.
+    /// The Rust's own tick. Slots are written with no look-up too; those of the tick itself are left, since nothing but its own
+    /// map can be handed to it.
     fn tick_mapped(&mut self, values: [f64; MOST_PORTS]) -> [f64; MOST_SAMPLES];
 
     /// Its body by the cheapest frame, as the ticks of the other effects: see build.rs.
     fn tick_plain(&mut self, values: [f64; MOST_PORTS]) -> [f64; MOST_SAMPLES];
 }
 
-/// The ticks of a unit that keeps its map beside the Rust's effect.
+/// The ticks of a unit that keeps its map beside the Rust's effect. First come the ports of our tick, audio and the controls, each
+/// with its number; then all ports in order, those of the host as what they come to where they are unset: here they never carry
+/// anything else. All is written out and nothing looped over, so that each port is a store.
 macro_rules! ticks_by_map {
-    ($unit:ident, $inputs:ident) => {
+    ($unit:ident, [$($value:ident: $id:literal),*], [$($port:expr),*]) => {
         impl $unit {
+            fn map() -> $crate::map::Map {
+                let [$($value),*] = [0.0; $crate::MOST_PORTS];
+                $crate::map::Map::in_order(&[$($port),*])
+            }
+
+            /// The host's ports are unset.
             fn tick_ports(
                 &mut self,
-                ports: [Option<f64>; $crate::MOST_PORTS],
+                [$($value),*]: [Option<f64>; $crate::MOST_PORTS],
             ) -> [f64; $crate::MOST_SAMPLES] {
-                self.1.tick(&mut self.0, &$inputs, ports)
+                self.1.inputs.clear();
+                $(if let Some(value) = $value {
+                    self.1.inputs.set($id, value);
+                })*
+                self.1.tick(&mut self.0)
             }
         }
 
@@ -123,19 +83,19 @@ macro_rules! ticks_by_map {
             #[inline(always)]
             fn tick_mapped(
                 &mut self,
-                values: [f64; $crate::MOST_PORTS],
+                [$($value),*]: [f64; $crate::MOST_PORTS],
             ) -> [f64; $crate::MOST_SAMPLES] {
-                self.1.tick_all_set(&mut self.0, &$inputs, values)
+                $(self.1.inputs.set_at($id, $value);)*
+                self.1.tick_by_slots(&mut self.0)
             }
 
             #[inline(always)]
             fn tick_plain(
                 &mut self,
-                values: [f64; $crate::MOST_PORTS],
+                [$($value),*]: [f64; $crate::MOST_PORTS],
             ) -> [f64; $crate::MOST_SAMPLES] {
-                let inputs = $crate::frames::Plain($inputs.carrying(values));
                 let mut outputs = $crate::frames::Samples::blank();
-                self.0.tick_generic(&inputs, &mut outputs);
+                self.0.tick_generic(&$crate::frames::Plain([$($port),*]), &mut outputs);
                 outputs.0
             }
         }

@@ -2,24 +2,14 @@
 
 use super::super::Flanger;
 use crate::effect::{effect, Lined, RATE};
-use crate::map::{ticks_by_map, Input, Inputs, Map, SPREAD};
+use crate::map::{ticks_by_map, Map, SPREAD};
 use crate::port::GraphModule;
 use std::slice;
 
 pub struct Unit(Flanger, Map);
 
-/// Audio, rate, depth, feedback, mix, spread.
-const INPUTS: Inputs<6> = Inputs([
-    Input::OfTick(0),
-    Input::OfHost(RATE),
-    Input::OfTick(1),
-    Input::OfTick(2),
-    Input::OfTick(3),
-    Input::OfHost(SPREAD),
-]);
-
 effect! {
-    Unit(Flanger, Map::in_order(&INPUTS)),
+    Unit(Flanger, Self::map()),
 
     fn phases(&self) -> &[f64] {
         slice::from_ref(&self.0.lfo_phase)
@@ -30,7 +20,11 @@ effect! {
     }
 }
 
-ticks_by_map!(Unit, INPUTS);
+ticks_by_map! {
+    Unit,
+    [audio: 0, depth: 2, feedback: 3, mix: 4],
+    [audio, RATE, depth, feedback, mix, SPREAD]
+}
 
 impl Lined for Unit {
     fn set_sample_rate(&mut self, sample_rate: f64) {

@@ -11,7 +11,7 @@
 
 use super::super::Phaser;
 use crate::effect::{effect, Unlined, RATE};
-use crate::map::{ticks_by_map, Input, Inputs, Map, SPREAD};
+use crate::map::{ticks_by_map, Map, SPREAD};
 use crate::modules::common::inside::plant;
 use std::f64::consts::TAU;
 use std::slice;
@@ -24,18 +24,8 @@ pub const STAGES: usize = 6;
 /// Their last inputs, left and right, then their last outputs, left and right.
 pub const STORES: usize = 4 * STAGES;
 
+/// What the depth comes to where its port is unset.
 const DEPTH: f64 = 0.7;
-
-/// Audio, rate, depth, feedback, mix, stages, spread.
-const INPUTS: Inputs<7> = Inputs([
-    Input::OfTick(0),
-    Input::OfHost(RATE),
-    Input::OfHost(DEPTH),
-    Input::OfTick(1),
-    Input::OfTick(2),
-    Input::OfTick(3),
-    Input::OfHost(SPREAD),
-]);
 
 pub const LOW: f64 = -1.0;
 pub const HIGH: f64 = 1.0;
@@ -45,7 +35,7 @@ const LOWEST: f64 = 200.0;
 const HIGHEST: f64 = LOWEST + DEPTH * 3_800.0;
 
 effect! {
-    Unit(Phaser, Map::in_order(&INPUTS)),
+    Unit(Phaser, Self::map()),
 
     fn phases(&self) -> &[f64] {
         slice::from_ref(&self.0.lfo_phase)
@@ -56,7 +46,11 @@ effect! {
     }
 }
 
-ticks_by_map!(Unit, INPUTS);
+ticks_by_map! {
+    Unit,
+    [audio: 0, feedback: 3, mix: 4, stages: 5],
+    [audio, RATE, DEPTH, feedback, mix, stages, SPREAD]
+}
 
 /// The coefficient that the Rust works out from a tangent.
 pub fn coefficient(tangent: f64) -> f64 {
