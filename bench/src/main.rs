@@ -66,47 +66,61 @@ pub trait Effect<const N: usize> {
     fn ours(&mut self, input: &Input) -> [f64; N];
 }
 
+/// What can be asked of an effect by its name.
+struct Asked {
+    name: &'static str,
+    time: fn(),
+    count: fn(side: &str, ticks: &str),
+}
+
+const fn asked<E: Effect<N>, const N: usize>() -> Asked {
+    Asked {
+        name: E::NAME,
+        time: time::<E, N>,
+        count: count::<E, N>,
+    }
+}
+
+const EFFECTS: [Asked; 10] = [
+    asked::<Tremolo, 1>(),
+    asked::<Row<Vibrato, 1>, 1>(),
+    asked::<Row<Chorus, 3>, 3>(),
+    asked::<Row<Flanger<false>, 3>, 3>(),
+    asked::<Row<Flanger<true>, 3>, 3>(),
+    asked::<Delay<false>, 1>(),
+    asked::<Delay<true>, 1>(),
+    asked::<Reverb, 2>(),
+    asked::<Phaser<false>, 3>(),
+    asked::<Phaser<true>, 3>(),
+];
+
 const ROUNDS: usize = 400;
 const TICKS: usize = 40_000;
+
+const COLUMNS: [&str; 5] = [
+    "driver",
+    "Rust, curves still",
+    "Rust",
+    "ours",
+    "ours / Rust",
+];
 
 fn main() {
     let words: Vec<String> = std::env::args().skip(1).collect();
     let words: Vec<&str> = words.iter().map(String::as_str).collect();
     match words[..] {
         ["time"] => {
-            print_row(
-                "ns a tick",
-                [
-                    "driver",
-                    "Rust, curves still",
-                    "Rust",
-                    "ours",
-                    "ours / Rust",
-                ]
-                .map(String::from),
-            );
-            time::<Tremolo, 1>();
-            time::<Row<Vibrato, 1>, 1>();
-            time::<Row<Chorus, 3>, 3>();
-            time::<Row<Flanger<false>, 3>, 3>();
-            time::<Row<Flanger<true>, 3>, 3>();
-            time::<Delay<false>, 1>();
-            time::<Delay<true>, 1>();
-            time::<Reverb, 2>();
-            time::<Phaser<false>, 3>();
-            time::<Phaser<true>, 3>();
+            print_row("ns a tick", COLUMNS.map(String::from));
+            EFFECTS.iter().for_each(|effect| (effect.time)());
         }
         ["clear"] => clear::time(),
-        ["count", "tremolo", side, ticks] => count::<Tremolo, 1>(side, ticks),
-        ["count", "vibrato", side, ticks] => count::<Row<Vibrato, 1>, 1>(side, ticks),
-        ["count", "chorus", side, ticks] => count::<Row<Chorus, 3>, 3>(side, ticks),
-        ["count", "flanger", side, ticks] => count::<Row<Flanger<false>, 3>, 3>(side, ticks),
-        ["count", "flanger_plain", side, ticks] => count::<Row<Flanger<true>, 3>, 3>(side, ticks),
-        ["count", "delay", side, ticks] => count::<Delay<false>, 1>(side, ticks),
-        ["count", "linear_delay", side, ticks] => count::<Delay<true>, 1>(side, ticks),
-        ["count", "reverb", side, ticks] => count::<Reverb, 2>(side, ticks),
-        ["count", "phaser", side, ticks] => count::<Phaser<false>, 3>(side, ticks),
-        ["count", "phaser_plain", side, ticks] => count::<Phaser<true>, 3>(side, ticks),
+        ["count", name, side, ticks] => {
+            let effect = EFFECTS.iter().find(|effect| effect.name == name);
+            let Some(effect) = effect else {
+                panic!("there is no row of {name}");
+            };
+            (effect.count)(side, ticks);
+        }
         _ => panic!("bench time, bench clear, or bench count EFFECT SIDE TICKS"),
     }
 }
