@@ -1,7 +1,6 @@
--- The laws of the phaser: a chain a stage further, how many stages run, and a tick from its steps. Assumes nothing.
-use Rattle.std.proofs.Common.{◌≡◌, ℕ, ◌+◌, Bool, true, false, ◌&&◌, ◌||◌, T, cond, List, [], ◌∷◌, refl, sym, ap, ◌∙◌}
-use native.Mathlib.Numerals.{add-one}
-use lib.Ieee.{Float, binary64, div, le, lt, of_int, round, neg, is_nan}
+-- The laws of the phaser: a chain by two stages at a time, how many stages run, and a tick from its steps. Assumes nothing.
+use Rattle.std.proofs.Common.{◌≡◌, ◌≢◌, ℕ, Bool, true, false, ◌&&◌, ◌||◌, T, cond, List, [], ◌∷◌, refl, sym, ap, ◌∙◌}
+use lib.Ieee.{Float, nan, binary64, div, le, lt, of_int, round, neg, is_nan}
 use lib.Ieee as Ieee
 use Rattle.float64.specs.Number.{plus_zero, float_of, fraction, half, is_number, frequency_fits, allpass_fits, clamp_of}
 use Rattle.float64.proofs.Ranges.{is-true}
@@ -16,14 +15,29 @@ use Rattle.effect.specs.Contract.{Does}
 use Rattle.effect.proofs.Contract.{accepts}
 use Rattle.effect.proofs.Rows.{tick_row}
 use Rattle.phaser.specs.declared.Phaser.{Phaser}
-use Rattle.phaser.specs.Allpass.{Chain, chain_of, stage, passed}
-use Rattle.phaser.specs.Phaser.{phaser, Tick, tick_of, state_of, tick_number, input, feedback, mix, stages_at, stages, fed, chain_after, left, right, next, Advances}
+use Rattle.phaser.specs.Allpass.{stage, Chain, chain_of, stage, passed}
+use Rattle.phaser.specs.Phaser.{phaser, Tick, tick_of, state_of, tick_number, input, feedback, mix, stages_at, TwoFourOrSix, two, four, six, stages, fed, chain_after, left, right, next, Advances}
 use Rattle.phaser.specs.Phaser as page
 
--- one stage further
-pub passed-more : (coef : Float) (n : ℕ) (c : Chain) → stage coef n (passed coef n c) ≡ passed coef (n + 1) c
-unfolding passed
-passed-more coef n c = rw (add-one n)
+-- ---- a chain by two stages at a time, as many as run
+
+module _ (coef : Float) (c : Chain) where
+  pub passed-2 : {n : ℕ} → n ≡ 2 → {c2 : Chain} → c2 ≡ stage coef 1 (stage coef 0 c) → c2 ≡ passed coef n c
+  unfolding passed
+  passed-2 e h = rw e h
+
+  pub passed-4 : {n : ℕ} → n ≡ 4 → {c2 c4 : Chain} → c2 ≡ stage coef 1 (stage coef 0 c) → c4 ≡ stage coef 3 (stage coef 2 c2) → c4 ≡ passed coef n c
+  unfolding passed
+  passed-4 e h k = rw e (k ∙ ap (λ (d : Chain). stage coef 3 (stage coef 2 d)) h)
+
+  pub passed-6 : {n : ℕ} → TwoFourOrSix n → n ≢ 2 → n ≢ 4 → {c2 c4 c6 : Chain} → c2 ≡ stage coef 1 (stage coef 0 c) → c4 ≡ stage coef 3 (stage coef 2 c2)
+      → c6 ≡ stage coef 5 (stage coef 4 c4)
+      → c6 ≡ passed coef n c
+  unfolding passed
+  passed-6 two a b h k l = absurd (a refl)
+  passed-6 four a b h k l = absurd (b refl)
+  passed-6 six a b h k l =
+      l ∙ ap (λ (d : Chain). stage coef 5 (stage coef 4 d)) k ∙ ap (λ (d : Chain). stage coef 5 (stage coef 4 (stage coef 3 (stage coef 2 d)))) h
 
 -- ---- the stages control: its clamp moves it over neither threshold
 
@@ -73,11 +87,13 @@ module _ (x : Float) (h : T (Ieee.fits binary64 x)) where
 
 module _ (t : Tick) (s : Phaser) where
   -- a chain's steps, from the clamped controls
-  pub chain-is : {x f : Float} {n : ℕ} {c : Chain} (coef : Float) (x1 y1 : List Float) → x ≡ input t → f ≡ feedback t → n ≡ stages t
-      → c ≡ passed coef n (chain_of x1 y1 (fed x f n y1))
+  pub chain-is : {x f g : Float} {n : ℕ} {c : Chain} (coef : Float) (x1 y1 : List Float) → x ≡ input t → f ≡ feedback t → n ≡ stages t
+      → g ≡ fed x f n y1
+      → c ≡ passed coef n (chain_of x1 y1 g)
       → c ≡ chain_after t coef x1 y1
   unfolding chain_after
-  chain-is coef x1 y1 audio back running e = e ∙ (λ i. passed coef (running i) (chain_of x1 y1 (fed (audio i) (back i) (running i) y1)))
+  chain-is coef x1 y1 audio back running enters e =
+      e ∙ (λ i. passed coef (running i) (chain_of x1 y1 ((enters ∙ (λ j. fed (audio j) (back j) (running j) y1)) i)))
 
   pub advances : {l r : Chain} {p x b y z : Float} → l ≡ left t s → r ≡ right t s → p ≡ advanced s.lfo_phase (div binary64 t.frequency s.sample_rate)
       → x ≡ input t → b ≡ mix t → y ≡ blended x l.signal b → z ≡ blended x r.signal b

@@ -74,6 +74,12 @@ mix t = clamp_of (value_or t.mix half) plus_zero (float_of 1)
 unfoldable pub stages_at : Float → ℕ
 stages_at control = cond (lt control (fraction 33 100)) 2 (cond (lt control (fraction 66 100)) 4 max_stages)
 
+-- no other count
+pub data TwoFourOrSix : ℕ → Type 0 where
+  two : TwoFourOrSix 2
+  four : TwoFourOrSix 4
+  six : TwoFourOrSix 6
+
 abbrev pub stages : Tick → ℕ
 stages t = stages_at (clamp_of (value_or t.stages (float_of 1)) plus_zero (float_of 1))
 

@@ -5,18 +5,16 @@ ghost use Rattle.port.specs.declared.Port.TheVariants.{Set};
 ghost use Rattle.port.specs.Answer.{answer_reply};
 ghost use Rattle.effect.specs.Run.{tick};
 ghost use Rattle.effect.specs.Contract.{Does, lent_at, from_to};
-ghost use Rattle.phaser.specs.Allpass.{chain_of, passed};
-ghost use Rattle.phaser.specs.Phaser.{phaser, tick_of, state_of, max_stages, stages_at, fed, Advances};
+ghost use Rattle.phaser.specs.Phaser.{phaser, tick_of, state_of, stages_at, TwoFourOrSix, fed, Advances};
 
-use crate::allpass::pass;
+use crate::allpass::{Sides, pass};
 use crate::{Phaser, Ticked};
 use port::{Answer, Outcome, Port, Refusal};
 
 // How many stages run: 2, 4 or 6. A clamp to 0 to 1 before, as the Rust's, would move no control over either threshold.
 fn stages_at(control: f64) -> usize
     ensures value { result ≡ stages_at (clamp_of control plus_zero (float_of 1)) }
-    ensures some { 1 ≤ result }
-    ensures upper_bound { result ≤ max_stages }
+    ensures count { TwoFourOrSix result }
 {
     if control < 0.33 {
         2
@@ -27,21 +25,12 @@ fn stages_at(control: f64) -> usize
     }
 }
 
-// A side's wet sample: the input, with what the last stage that runs put out before times the feedback, through the stages that run.
-fn wet(
-    x1: &mut [f64; 6],
-    y1: &mut [f64; 6],
-    stages: usize,
-    coef: f64,
-    input: f64,
-    feedback: f64,
-) -> f64
-    requires some { 1 ≤ stages }
-    requires upper_bound { stages ≤ max_stages }
-    ensures { chain_of x1.new y1.new result ≡ passed coef stages (chain_of x1.old y1.old (fed input feedback stages y1.old)) }
+// What goes into a chain: the input, with what the last stage that runs put out before times the feedback.
+fn fed(input: f64, feedback: f64, stages: usize, y1: &[f64; 6]) -> f64
+    requires { TwoFourOrSix stages }
+    ensures { result ≡ fed input feedback stages y1.now }
 {
-    let tap = y1[stages - 1];
-    pass(x1, y1, stages, coef, input + tap * feedback)
+    input + y1[stages - 1] * feedback
 }
 
 // An accepted tick, with the numbers that it takes from its ports.
@@ -68,11 +57,26 @@ fn advance(
     let back = float64::clamp(feedback, -0.95, 0.95);
     let share = float64::clamp(mix, 0.0, 1.0);
     let n = stages_at(stages);
-    let wet_l = wet(allpass_x1_l, allpass_y1_l, n, coef_l, input, back);
-    let wet_r = wet(allpass_x1_r, allpass_y1_r, n, coef_r, input, back);
+    let coef = Sides {
+        left: coef_l,
+        right: coef_r,
+    };
+    let entering = Sides {
+        left: fed(input, back, n, allpass_y1_l),
+        right: fed(input, back, n, allpass_y1_r),
+    };
+    let wet = pass(
+        allpass_x1_l,
+        allpass_x1_r,
+        allpass_y1_l,
+        allpass_y1_r,
+        n,
+        coef,
+        entering,
+    );
     *lfo_phase = common::advance_phase(*lfo_phase, frequency / rate);
-    let left = common::blend(input, wet_l, share);
-    let right = common::blend(input, wet_r, share);
+    let left = common::blend(input, wet.left, share);
+    let right = common::blend(input, wet.right, share);
     Answer::Three(left, left, right)
 }
 

@@ -1,26 +1,23 @@
--- `allpass::pass` takes the signal through a stage a turn. Assumes nothing.
-use Rattle.std.proofs.Common.{◌≡◌, refl, ap, ◌∙◌, arith}
-use Rattle.std.proofs.lemmas.List.{length-set}
-use Rattle.phaser.specs.Allpass.{stage, passed}
-use Rattle.phaser.proofs.Laws.{passed-more}
+-- `allpass::pass` is `passed`, on each side: two stages, two more, and two more. Assumes nothing.
+use Rattle.phaser.proofs.Laws.{passed-2, passed-4, passed-6}
 use Rattle.phaser.proofs.allpass.pass.Goals as goal
 
-pub loop-i-init : goal.loop-i-init
-unfolding passed
-loop-i-init c = (omega arith, refl, refl, refl)
+pub returns-then-stages-eq2-clause-left : goal.returns-then-stages-eq2-clause-left
+returns-then-stages-eq2-clause-left c = passed-2 _ _ c.if-stages-eq2.true c.two_stages-second.ensures.left
 
-pub loop-i-preserved : goal.loop-i-preserved
-unfolding stage
-loop-i-preserved c =
-    let l = c.loop-i in
-    let h = l.invariant in (
-      omega (arith, c.loop-i-test.true),
-      length-set l.x1 l.i l.signal ∙ h.1,
-      length-set l.y1 l.i _ ∙ h.2,
-      rw c.allpass-output.ensures refl ∙ ap (stage c.args.coef l.i) h.3 ∙ passed-more c.args.coef l.i _,
-    )
+pub returns-then-stages-eq2-clause-right : goal.returns-then-stages-eq2-clause-right
+returns-then-stages-eq2-clause-right c = passed-2 _ _ c.if-stages-eq2.true c.two_stages-second.ensures.right
 
-pub returns : goal.returns
-returns c =
-    let l = c.loop-i in
-    let e : l.i ≡ c.args.stages = omega (arith, c.loop-i-test.false, l.invariant.0) in rw e at l.invariant.3
+pub returns-then-stages-eq4-clause-left : goal.returns-then-stages-eq4-clause-left
+returns-then-stages-eq4-clause-left c = passed-4 _ _ c.if-stages-eq4.true c.two_stages-second.ensures.left c.two_stages-fourth.ensures.left
+
+pub returns-then-stages-eq4-clause-right : goal.returns-then-stages-eq4-clause-right
+returns-then-stages-eq4-clause-right c = passed-4 _ _ c.if-stages-eq4.true c.two_stages-second.ensures.right c.two_stages-fourth.ensures.right
+
+pub returns-clause-left : goal.returns-clause-left
+returns-clause-left c =
+    passed-6 _ _ c.requires.stages_value c.if-stages-eq2.false c.if-stages-eq4.false c.two_stages-second.ensures.left c.two_stages-fourth.ensures.left c.two_stages.ensures.left
+
+pub returns-clause-right : goal.returns-clause-right
+returns-clause-right c =
+    passed-6 _ _ c.requires.stages_value c.if-stages-eq2.false c.if-stages-eq4.false c.two_stages-second.ensures.right c.two_stages-fourth.ensures.right c.two_stages.ensures.right

@@ -15,8 +15,8 @@ returns c =
     let back = c.clamp-back.ensures in
     let running = c.stages_at-n.ensures.value in
     advances t s
-    (chain-is t s a.coef_l s.allpass_x1_l s.allpass_y1_l audio back running c.wet-wet_l.ensures)
-    (chain-is t s a.coef_r s.allpass_x1_r s.allpass_y1_r audio back running c.wet-wet_r.ensures)
+    (chain-is t s a.coef_l s.allpass_x1_l s.allpass_y1_l audio back running c.fed.ensures c.pass-wet.ensures.left)
+    (chain-is t s a.coef_r s.allpass_x1_r s.allpass_y1_r audio back running c.fed-2.ensures c.pass-wet.ensures.right)
     c.advance_phase.ensures
     audio
     c.clamp-share.ensures

@@ -2,7 +2,7 @@
 use Rattle.std.proofs.Common.{◌≡◌, sym, ◌∙◌}
 use lib.Ieee.{of_bits, round}
 use Rattle.float64.proofs.Ranges.{yes}
-use Rattle.phaser.specs.Phaser.{stages_at}
+use Rattle.phaser.specs.Phaser.{stages_at, two, four, six}
 use Rattle.phaser.proofs.Laws.{stages-clamped}
 use Rattle.phaser.proofs.tick.stages_at.Goals as goal
 
@@ -20,3 +20,12 @@ pub returns-else-control-2-clause-value : goal.returns-else-control-2-clause-val
 unfolding stages_at of_bits round
 returns-else-control-2-clause-value c =
     let e : 6 ≡ stages_at c.args.control = rw (c.if-control.false, c.if-control-2.false) in e ∙ sym (stages-clamped c.args.control (yes c.well_formed.0.1))
+
+pub returns-then-control-clause-count : goal.returns-then-control-clause-count
+returns-then-control-clause-count c = two
+
+pub returns-then-control-2-clause-count : goal.returns-then-control-2-clause-count
+returns-then-control-2-clause-count c = four
+
+pub returns-else-control-2-clause-count : goal.returns-else-control-2-clause-count
+returns-else-control-2-clause-count c = six
