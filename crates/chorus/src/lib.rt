@@ -39,18 +39,20 @@ pub struct Ticked {
 }
 
 impl Chorus {
-    pub const MAX_MOD_DELAY_MS: f64 = 25.0;
+    pub const MAX_MOD_DELAY_MS: f64 = Chorus::MOD_MS as f64;
 
-    pub const BASE_DELAY_MS: f64 = 7.0;
+    pub const BASE_DELAY_MS: f64 = Chorus::BASE_MS as f64;
 
-    // Both together as a whole number, for the line's length.
-    const LINE_MS: u32 = 32;
+    // Whole, for the line's length.
+    const MOD_MS: u32 = 25;
+
+    const BASE_MS: u32 = 7;
 
     // The places of the line; 0 at a refused rate.
     fn line_length(rate: f64) -> u64
         ensures { result ≡ cond (rate_fits rate) (line_length rate) 0 }
     {
-        common::line_length(rate, Chorus::LINE_MS)
+        common::line_length(rate, Chorus::MOD_MS + Chorus::BASE_MS)
     }
 
     // The places that a start needs at the rate; 2^64 - 1 for a rate that is refused.

@@ -38,9 +38,9 @@ pub struct Ticked {
 }
 
 impl Flanger {
-    pub const MAX_DELAY_MS: f64 = 10.0;
+    pub const MAX_DELAY_MS: f64 = Flanger::LINE_MS as f64;
 
-    // The same as a whole number, for a line's length.
+    // Whole, for a line's length.
     const LINE_MS: u32 = 10;
 
     // The places of a line; 0 at a refused rate.

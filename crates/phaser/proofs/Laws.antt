@@ -99,16 +99,16 @@ module _ (t : Tick) (s : Phaser) where
       → x ≡ input t → b ≡ mix t → y ≡ blended x l.signal b → z ≡ blended x r.signal b
       → Advances t s (state_of l.x1 r.x1 l.y1 r.y1 p s.sample_rate) (played (y ∷ y ∷ z ∷ []))
   unfolding next page.samples
-  advances l r p audio wet y z =
-      let mono = y ∙ (λ i. blended (audio i) (l i).signal (wet i)) in
+  advances l r p audio share y z =
+      let mono = y ∙ (λ i. blended (audio i) (l i).signal (share i)) in
       record {
         state = λ i. state_of (l i).x1 (r i).x1 (l i).y1 (r i).y1 (p i) s.sample_rate;
-        answer = λ i. played (mono i ∷ mono i ∷ (z ∙ (λ j. blended (audio j) (r j).signal (wet j))) i ∷ []);
+        answer = λ i. played (mono i ∷ mono i ∷ (z ∙ (λ j. blended (audio j) (r j).signal (share j))) i ∷ []);
       }
 
 -- ---- ports: a tick is the one with all ports set to the values that it takes from them
 
-module _ (t : Tick) {x f b n : Float} (audio : x ≡ value_or t.audio plus_zero) (back : f ≡ value_or t.feedback plus_zero) (wet : b ≡ value_or t.mix half) (running : n ≡ value_or t.stages (float_of 1)) where
+module _ (t : Tick) {x f b n : Float} (audio : x ≡ value_or t.audio plus_zero) (back : f ≡ value_or t.feedback plus_zero) (share : b ≡ value_or t.mix half) (running : n ≡ value_or t.stages (float_of 1)) where
   abbrev pub all_set : Tick
   all_set = tick_of (Set x) (Set f) (Set b) (Set n) t.frequency t.coef_l t.coef_r
 
@@ -117,13 +117,13 @@ module _ (t : Tick) {x f b n : Float} (audio : x ≡ value_or t.audio plus_zero)
   unfolding tick_number is_number Ieee.fits is_nan of_int round
   set_number =
       let feedback = nan_is t.feedback plus_zero refl back refl in
-      let mix = nan_is t.mix half refl wet refl in
+      let mix = nan_is t.mix half refl share refl in
       let stages = nan_is t.stages (float_of 1) refl running refl in
       (λ i. cause_number (feedback i || (mix i || stages i)) (frequency_fits t.frequency && (allpass_fits t.coef_l && allpass_fits t.coef_r)))
 
   settled : tick_of (Set x) (Set f) (Set b) (Set n) t.frequency t.coef_l t.coef_r
       ≡ tick_of (Set (value_or t.audio plus_zero)) (Set (value_or t.feedback plus_zero)) (Set (value_or t.mix half)) (Set (value_or t.stages (float_of 1))) t.frequency t.coef_l t.coef_r
-  settled = λ i. tick_of (Set (audio i)) (Set (back i)) (Set (wet i)) (Set (running i)) t.frequency t.coef_l t.coef_r
+  settled = λ i. tick_of (Set (audio i)) (Set (back i)) (Set (share i)) (Set (running i)) t.frequency t.coef_l t.coef_r
 
   pub set_does : {s s' : Phaser} {a : Reply} → 0 ≡ number_in phaser reset 0 s → 0 ≡ tick_number all_set → Advances all_set s s' a → Does phaser (tick t) s [] s' [] a
   unfolding next chain_after page.samples

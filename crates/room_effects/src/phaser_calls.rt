@@ -10,6 +10,27 @@ use crate::shared::{port_at, put_samples};
 use phaser::Phaser;
 use port::Outcome;
 
+// A phaser's state from lent numbers.
+fn phaser_of(
+    allpass_x1_l: &[f64; 6],
+    allpass_x1_r: &[f64; 6],
+    allpass_y1_l: &[f64; 6],
+    allpass_y1_r: &[f64; 6],
+    lfo_phase: f64,
+    sample_rate: f64,
+) -> Phaser
+    ensures { result ≡ state_of allpass_x1_l.now allpass_x1_r.now allpass_y1_l.now allpass_y1_r.now lfo_phase sample_rate }
+{
+    Phaser {
+        allpass_x1_l: *allpass_x1_l,
+        allpass_x1_r: *allpass_x1_r,
+        allpass_y1_l: *allpass_y1_l,
+        allpass_y1_r: *allpass_y1_r,
+        lfo_phase,
+        sample_rate,
+    }
+}
+
 // A phaser's chains and phase into lent numbers; the rate is written, or kept, beside.
 fn put_phaser(
     state: Phaser,
@@ -74,14 +95,14 @@ pub extern "C" fn room_raw_phaser_reset(
         (lent_at allpass_y1_r k) (lent_at lfo_phase k) sample_rate) [])
         (λ u u'. CallReturns phaser reset u u' result) }
 {
-    let state = Phaser {
-        allpass_x1_l: *allpass_x1_l,
-        allpass_x1_r: *allpass_x1_r,
-        allpass_y1_l: *allpass_y1_l,
-        allpass_y1_r: *allpass_y1_r,
-        lfo_phase: *lfo_phase,
+    let state = phaser_of(
+        allpass_x1_l,
+        allpass_x1_r,
+        allpass_y1_l,
+        allpass_y1_r,
+        *lfo_phase,
         sample_rate,
-    };
+    );
     let cleared = state.reset();
     if let Outcome::Refused(cause) = cleared.outcome {
         return cause.number();
@@ -153,14 +174,14 @@ pub extern "C" fn room_raw_phaser_silent(
     ensures { AskReturns phaser (device_of (state_of allpass_x1_l.now allpass_x1_r.now allpass_y1_l.now
         allpass_y1_r.now lfo_phase sample_rate) []) out.new result }
 {
-    let state = Phaser {
-        allpass_x1_l: *allpass_x1_l,
-        allpass_x1_r: *allpass_x1_r,
-        allpass_y1_l: *allpass_y1_l,
-        allpass_y1_r: *allpass_y1_r,
+    let state = phaser_of(
+        allpass_x1_l,
+        allpass_x1_r,
+        allpass_y1_l,
+        allpass_y1_r,
         lfo_phase,
         sample_rate,
-    };
+    );
     let silence = state.silent();
     *out = silence.flag();
     silence.number()

@@ -19,7 +19,7 @@ blank-refused = refl
 
 frequency-in : (t : Tick) → tick_number t ≡ 0 → frequency_fits t.frequency ≡ true
 unfolding tick_number
-frequency-in t n = let others = sine_fits t.sine in (both (frequency_fits t.frequency) others (none-5-6 (is_nan_set t.depth || is_nan_set t.shape) (frequency_fits t.frequency && (sine_fits t.sine)) n)).0
+frequency-in t n = let others = sine_fits t.sine in (both (frequency_fits t.frequency) others (none-5-6 (is_nan_set t.depth || is_nan_set t.shape) (frequency_fits t.frequency && sine_fits t.sine) n)).0
 
 pub laws : Laws tremolo
 unfolding state_fits next

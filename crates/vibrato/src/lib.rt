@@ -38,9 +38,9 @@ pub struct Ticked {
 }
 
 impl Vibrato {
-    pub const MAX_DELAY_MS: f64 = 20.0;
+    pub const MAX_DELAY_MS: f64 = Vibrato::LINE_MS as f64;
 
-    // The same as a whole number, for the line's length.
+    // Whole, for the line's length.
     const LINE_MS: u32 = 20;
 
     // The places of the line; 0 at a refused rate.

@@ -32,12 +32,12 @@ returns-in-Refused c =
     let t = tick_of a.audio a.feedback a.mix a.stages a.frequency a.coef_l a.coef_r in
     let s = state_of a.allpass_x1_l.now a.allpass_x1_r.now a.allpass_y1_l.now a.allpass_y1_r.now a.lfo_phase.now a.rate in
     let back : c.match-feedback.feedback ≡ value_or a.feedback plus_zero = grind arith in
-    let wet : c.match-mix.mix ≡ value_or a.mix half = grind arith in
+    let share : c.match-mix.mix ≡ value_or a.mix half = grind arith in
     let running : c.match-stages.stages ≡ value_or a.stages (float_of 1) = grind arith in
     let cause = c.in-Refused.cause in
-    let e : number cause ≡ tick_number (all_set t refl back wet running) = cc c.in-Refused.ensures in
+    let e : number cause ≡ tick_number (all_set t refl back share running) = cc c.in-Refused.ensures in
     refuses phaser (tick t) s [] (number cause)
-    (tick_row phaser t s [] (passed s (sym c.if-not-fits.false ∙ c.fits.ensures)) (e ∙ set_number t refl back wet running))
+    (tick_row phaser t s [] (passed s (sym c.if-not-fits.false ∙ c.fits.ensures)) (e ∙ set_number t refl back share running))
     (number-some cause)
 
 pub returns : goal.returns
@@ -48,6 +48,6 @@ returns c =
     let s = state_of a.allpass_x1_l.now a.allpass_x1_r.now a.allpass_y1_l.now a.allpass_y1_r.now a.lfo_phase.now a.rate in
     let audio : c.match-audio.audio ≡ value_or a.audio plus_zero = grind arith in
     let back : c.match-feedback.feedback ≡ value_or a.feedback plus_zero = grind arith in
-    let wet : c.match-mix.mix ≡ value_or a.mix half = grind arith in
+    let share : c.match-mix.mix ≡ value_or a.mix half = grind arith in
     let running : c.match-stages.stages ≡ value_or a.stages (float_of 1) = grind arith in
-    set_does t audio back wet running {s = s} (passed s (sym c.if-not-fits.false ∙ c.fits.ensures)) (cc c.in_default-causes.ensures) c.advance.ensures
+    set_does t audio back share running {s = s} (passed s (sym c.if-not-fits.false ∙ c.fits.ensures)) (cc c.in_default-causes.ensures) c.advance.ensures
