@@ -71,10 +71,10 @@
  *
  * The phaser's answer reads the 24 numbers of its state, those of all-passes that are not in use too, which no tick changes. It
  * need not feed back to go on for good: an all-pass multiplies its own last output by its coefficient, and one above 0.5 or
- * below -0.5 keeps it as above. At 0.7 it ends at 2^-1074 and -2^-1074 in turns. At rates from 40,000 on the coefficients that
- * a host makes (see "Curve numbers") are all above 0.5, so that a phaser that has sounded hardly ever falls silent there. Each
- * tick then takes some 35 times as long: 1.1 us where it took 31 ns, on the machine below. A phaser that overflowed plays NaN
- * and is not silent either. Again the remedy is a reset.
+ * below -0.5 keeps it as above. At 0.7 it ends at 2^-1074 and -2^-1074 in turns. The coefficients that a host makes (see "Curve
+ * numbers") are above 0.5 at every depth from a rate of 40,000 on, and at every rate where the depth is small, so that a phaser
+ * that has sounded hardly ever falls silent there. Each tick then takes some 35 times as long: 1.1 us where it took 31 ns, on
+ * the machine below. A phaser that overflowed is not silent either. Again the remedy is a reset.
  *
  * Floating-point mode
  *
@@ -715,7 +715,7 @@ static inline uint32_t room_phaser_reset(room_phaser *state)
  * that was before this tick. An all-pass plays (coefficient x input) + its last input - (coefficient x its last output). Those
  * not in use keep both numbers: once they are in use again, the first tick feeds back the old output of the last one. The phase
  * moves on by frequency / rate. With huge audio, and with any where the feedback is large and the coefficients jump, a number
- * may overflow: from then on the unit plays infinities and NaN, until a reset.
+ * may overflow: its all-pass then stays infinite or NaN until a reset, and its side plays that while the all-pass is in use.
  * feedback: -0.95 to 0.95; 0 if unset. mix: 0 dry to 1 wet; 0.5 if unset. stages: how many all-passes of each chain are in use,
  * the first two below 0.33, the first four below 0.66, else all six; 1 if unset. Audio is 0 if unset. coef_l and coef_r: each
  * chain's coefficient, -1 to 1.

@@ -4,9 +4,6 @@
 
 #include "room_effects.h"
 
-/* Document 01's numbers of the effects. */
-enum { DELAY = 1, CHORUS, FLANGER, VIBRATO, TREMOLO, REVERB };
-
 /* A unit at one rate, in memory of just the places that it needs. */
 struct unit {
     const char *name;

@@ -26,13 +26,13 @@ static const struct {
         double rate, maximum;
     } at[MOST];
 } rows[] = {
-    {"vibrato", VIBRATO, 3, {{8000, 0}, {48000, 0}, {192000, 0}}},
-    {"chorus", CHORUS, 3, {{8000, 0}, {48000, 0}, {192000, 0}}},
-    {"flanger", FLANGER, 3, {{8000, 0}, {48000, 0}, {192000, 0}}},
-    {"delay", DELAY, 6, {{8000, 0.001}, {48000, 0.1}, {48000, 2}, {192000, 2}, {48000, 60}, {192000, 60}}},
-    {"swept", DELAY, 6, {{8000, 0.001}, {48000, 0.1}, {48000, 2}, {192000, 2}, {48000, 60}, {192000, 60}}},
+    {"vibrato", ROOM_VIBRATO, 3, {{8000, 0}, {48000, 0}, {192000, 0}}},
+    {"chorus", ROOM_CHORUS, 3, {{8000, 0}, {48000, 0}, {192000, 0}}},
+    {"flanger", ROOM_FLANGER, 3, {{8000, 0}, {48000, 0}, {192000, 0}}},
+    {"delay", ROOM_DELAY, 6, {{8000, 0.001}, {48000, 0.1}, {48000, 2}, {192000, 2}, {48000, 60}, {192000, 60}}},
+    {"swept", ROOM_DELAY, 6, {{8000, 0.001}, {48000, 0.1}, {48000, 2}, {192000, 2}, {48000, 60}, {192000, 60}}},
     {"reverb",
-     REVERB,
+     ROOM_REVERB,
      11,
      {{8000, 0},
       {22050, 0},
@@ -143,7 +143,7 @@ static void time_row(unsigned row)
     }
     for (i = 0; i < count; i++) {
         printf("%-8s %6.0f", units[i].name, units[i].rate);
-        if (units[i].effect == DELAY) {
+        if (units[i].effect == ROOM_DELAY) {
             printf(" %6.3f s", units[i].maximum);
         } else {
             printf("%9s", "");

@@ -57,17 +57,17 @@ void start_unit(struct unit *u)
     uint32_t number = 0;
     fill_inputs();
     u->places = room_places_needed((uint32_t)u->effect, u->rate, u->maximum);
-    u->in_use = u->effect == REVERB ? tank_in_use(u->rate) : u->places;
+    u->in_use = u->effect == ROOM_REVERB ? tank_in_use(u->rate) : u->places;
     u->lent = malloc(u->places * sizeof *u->lent);
     if (u->lent == NULL) {
         puts("no memory");
         exit(1);
     }
-    number = u->effect == DELAY     ? room_delay_start(&u->delay, u->lent, u->places, u->rate, u->maximum, 0.996, 1u)
-             : u->effect == CHORUS  ? room_chorus_start(&u->chorus, u->lent, u->places, u->rate)
-             : u->effect == FLANGER ? room_flanger_start(&u->flanger, u->lent, u->places, u->rate)
-             : u->effect == VIBRATO ? room_vibrato_start(&u->vibrato, u->lent, u->places, u->rate)
-                                    : room_reverb_start(&u->reverb, u->lent, u->places, u->rate);
+    number = u->effect == ROOM_DELAY     ? room_delay_start(&u->delay, u->lent, u->places, u->rate, u->maximum, 0.996, 1u)
+             : u->effect == ROOM_CHORUS  ? room_chorus_start(&u->chorus, u->lent, u->places, u->rate)
+             : u->effect == ROOM_FLANGER ? room_flanger_start(&u->flanger, u->lent, u->places, u->rate)
+             : u->effect == ROOM_VIBRATO ? room_vibrato_start(&u->vibrato, u->lent, u->places, u->rate)
+                                         : room_reverb_start(&u->reverb, u->lent, u->places, u->rate);
     accepted(number, "a start");
 }
 
@@ -101,33 +101,33 @@ TICKS_OF(reverb, room_reverb_tick(&u->reverb, u->lent, u->places, audio, control
 double tick_unit(struct unit *u, unsigned ticks)
 {
     double sum = 0.0;
-    accepted(u->effect == DELAY     ? delay_ticks(u, ticks, &sum)
-             : u->effect == CHORUS  ? chorus_ticks(u, ticks, &sum)
-             : u->effect == FLANGER ? flanger_ticks(u, ticks, &sum)
-             : u->effect == VIBRATO ? vibrato_ticks(u, ticks, &sum)
-                                    : reverb_ticks(u, ticks, &sum),
+    accepted(u->effect == ROOM_DELAY     ? delay_ticks(u, ticks, &sum)
+             : u->effect == ROOM_CHORUS  ? chorus_ticks(u, ticks, &sum)
+             : u->effect == ROOM_FLANGER ? flanger_ticks(u, ticks, &sum)
+             : u->effect == ROOM_VIBRATO ? vibrato_ticks(u, ticks, &sum)
+                                         : reverb_ticks(u, ticks, &sum),
              "a tick");
     return sum;
 }
 
 void reset_unit(struct unit *u)
 {
-    accepted(u->effect == DELAY     ? room_delay_reset(&u->delay, u->lent, u->places)
-             : u->effect == CHORUS  ? room_chorus_reset(&u->chorus, u->lent, u->places)
-             : u->effect == FLANGER ? room_flanger_reset(&u->flanger, u->lent, u->places)
-             : u->effect == VIBRATO ? room_vibrato_reset(&u->vibrato, u->lent, u->places)
-                                    : room_reverb_reset(&u->reverb, u->lent, u->places),
+    accepted(u->effect == ROOM_DELAY     ? room_delay_reset(&u->delay, u->lent, u->places)
+             : u->effect == ROOM_CHORUS  ? room_chorus_reset(&u->chorus, u->lent, u->places)
+             : u->effect == ROOM_FLANGER ? room_flanger_reset(&u->flanger, u->lent, u->places)
+             : u->effect == ROOM_VIBRATO ? room_vibrato_reset(&u->vibrato, u->lent, u->places)
+                                         : room_reverb_reset(&u->reverb, u->lent, u->places),
              "a reset");
 }
 
 int unit_silent(const struct unit *u)
 {
     int yes = 0;
-    accepted(u->effect == DELAY     ? room_delay_silent(&u->delay, u->lent, u->places, &yes)
-             : u->effect == CHORUS  ? room_chorus_silent(&u->chorus, u->lent, u->places, &yes)
-             : u->effect == FLANGER ? room_flanger_silent(&u->flanger, u->lent, u->places, &yes)
-             : u->effect == VIBRATO ? room_vibrato_silent(&u->vibrato, u->lent, u->places, &yes)
-                                    : room_reverb_silent(&u->reverb, u->lent, u->places, &yes),
+    accepted(u->effect == ROOM_DELAY     ? room_delay_silent(&u->delay, u->lent, u->places, &yes)
+             : u->effect == ROOM_CHORUS  ? room_chorus_silent(&u->chorus, u->lent, u->places, &yes)
+             : u->effect == ROOM_FLANGER ? room_flanger_silent(&u->flanger, u->lent, u->places, &yes)
+             : u->effect == ROOM_VIBRATO ? room_vibrato_silent(&u->vibrato, u->lent, u->places, &yes)
+                                         : room_reverb_silent(&u->reverb, u->lent, u->places, &yes),
              "a question");
     return yes;
 }

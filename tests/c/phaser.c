@@ -10,7 +10,7 @@ double *phaser_number(room_phaser *state, unsigned which)
     return &sixes[which / 6u][which % 6u];
 }
 
-room_phaser even_phaser(double number, double lfo_phase, double sample_rate)
+room_phaser phaser_of_one_number(double number, double lfo_phase, double sample_rate)
 {
     room_phaser state;
     unsigned i;
@@ -24,7 +24,7 @@ room_phaser even_phaser(double number, double lfo_phase, double sample_rate)
 
 room_phaser counted_phaser(void)
 {
-    room_phaser state = even_phaser(0.0, PHASE, RATE);
+    room_phaser state = phaser_of_one_number(0.0, PHASE, RATE);
     unsigned i;
     for (i = 0; i < KEPT; i++) {
         *phaser_number(&state, i) = i + 1u;
@@ -32,13 +32,13 @@ room_phaser counted_phaser(void)
     return state;
 }
 
-room_phaser odd_phaser(void)
+room_phaser unusual_phaser(void)
 {
-    const double odd[] = {1.5, -0.0, ODD_NAN, (double)INFINITY, -(double)INFINITY, SMALLEST, DBL_MAX, -3.0, (double)NAN};
-    room_phaser state = even_phaser(0.0, PHASE, RATE);
+    const double unusual[] = {1.5, -0.0, ODD_NAN, (double)INFINITY, -(double)INFINITY, SMALLEST, DBL_MAX, -3.0, (double)NAN};
+    room_phaser state = phaser_of_one_number(0.0, PHASE, RATE);
     unsigned i;
     for (i = 0; i < KEPT; i++) {
-        *phaser_number(&state, i) = odd[i % COUNT(odd)];
+        *phaser_number(&state, i) = unusual[i % COUNT(unusual)];
     }
     return state;
 }
@@ -134,14 +134,14 @@ static void state_refused(room_phaser state, unsigned i)
 
 static void start_accepted(room_phaser state, double rate, unsigned i)
 {
-    const room_phaser should = even_phaser(0.0, 0.0, rate);
+    const room_phaser should = phaser_of_one_number(0.0, 0.0, rate);
     check(room_phaser_start(&state, rate) == 0, "start is accepted", i);
     check(phaser_is(&state, &should), "start leaves 24 numbers of +0, phase +0 and the rate", i);
 }
 
 static void start_refused(room_phaser state, double rate, unsigned i)
 {
-    const room_phaser blank = even_phaser(0.0, 0.0, 0.0);
+    const room_phaser blank = phaser_of_one_number(0.0, 0.0, 0.0);
     check(room_phaser_start(&state, rate) == 1, "start is refused with 1", i);
     check(phaser_is(&state, &blank), "a refused start writes a state of zeros", i);
     state_refused(state, i);
@@ -153,18 +153,18 @@ static void starts(void)
     const struct numbers wrong = rates_refused();
     unsigned i;
     for (i = 0; i < rates.count; i++) {
-        start_accepted(even_phaser(JUNK, JUNK, JUNK), rates.list[i], i);
-        start_accepted(odd_phaser(), rates.list[i], 100u + i);
+        start_accepted(phaser_of_one_number(JUNK, JUNK, JUNK), rates.list[i], i);
+        start_accepted(unusual_phaser(), rates.list[i], 100u + i);
     }
     for (i = 0; i < wrong.count; i++) {
-        start_refused(even_phaser(JUNK, JUNK, JUNK), wrong.list[i], i);
-        start_refused(odd_phaser(), wrong.list[i], 100u + i);
+        start_refused(phaser_of_one_number(JUNK, JUNK, JUNK), wrong.list[i], i);
+        start_refused(unusual_phaser(), wrong.list[i], 100u + i);
     }
 }
 
 static void reset_accepted(room_phaser state, unsigned i)
 {
-    const room_phaser should = even_phaser(0.0, 0.0, state.sample_rate);
+    const room_phaser should = phaser_of_one_number(0.0, 0.0, state.sample_rate);
     int silent = 7;
     check(room_phaser_reset(&state) == 0, "reset is accepted", i);
     check(phaser_is(&state, &should), "reset leaves 24 numbers of +0, phase +0 and the rate", i);
@@ -194,17 +194,17 @@ static void states(void)
     const struct numbers rates = rates_accepted();
     const struct numbers wrong_phases = phases_refused();
     const struct numbers wrong_rates = rates_refused();
-    room_phaser state = odd_phaser();
+    room_phaser state = unusual_phaser();
     unsigned i;
     for (i = 0; i < phases.count; i++) {
         state.lfo_phase = phases.list[i];
         state_accepted(state, i);
-        state_accepted(even_phaser(ODD_NAN, phases.list[i], RATE), 100u + i);
+        state_accepted(phaser_of_one_number(ODD_NAN, phases.list[i], RATE), 100u + i);
     }
     for (i = 0; i < wrong_phases.count; i++) {
         state.lfo_phase = wrong_phases.list[i];
         state_refused(state, i);
-        state_refused(even_phaser(0.0, wrong_phases.list[i], RATE), 100u + i);
+        state_refused(phaser_of_one_number(0.0, wrong_phases.list[i], RATE), 100u + i);
     }
     state.lfo_phase = PHASE;
     for (i = 0; i < rates.count; i++) {
@@ -214,7 +214,7 @@ static void states(void)
     for (i = 0; i < wrong_rates.count; i++) {
         state.sample_rate = wrong_rates.list[i];
         state_refused(state, 200u + i);
-        state_refused(even_phaser(0.0, 1.0, wrong_rates.list[i]), 300u + i);
+        state_refused(phaser_of_one_number(0.0, 1.0, wrong_rates.list[i]), 300u + i);
     }
 }
 
@@ -232,7 +232,7 @@ static void silent_is(const room_phaser *state, int yes, const char *what, unsig
 static void questions(void)
 {
     const double sounds[] = {SMALLEST, -SMALLEST, 1.0, (double)INFINITY, -(double)INFINITY, (double)NAN, ODD_NAN};
-    room_phaser state = even_phaser(-0.0, nearer(1.0), 192000.0);
+    room_phaser state = phaser_of_one_number(-0.0, nearer(1.0), 192000.0);
     unsigned i, k;
     silent_is(&state, 1, "24 numbers of -0 are silent", 0);
     for (i = 0; i < KEPT; i++) {
@@ -254,7 +254,7 @@ static void questions(void)
 static void controls_refused(void)
 {
     const double nans[] = {(double)NAN, ODD_NAN};
-    const room_phaser state = odd_phaser();
+    const room_phaser state = unusual_phaser();
     unsigned i, k;
     for (i = 0; i < COUNT(nans); i++) {
         for (k = 0; k < 3u; k++) {
@@ -281,7 +281,7 @@ static void curves_refused(void)
 {
     const struct numbers frequencies = frequencies_refused();
     const struct numbers coefs = sines_refused();
-    const room_phaser state = odd_phaser();
+    const room_phaser state = unusual_phaser();
     unsigned i;
     for (i = 0; i < frequencies.count; i++) {
         struct tick_of_phaser t = good_tick();

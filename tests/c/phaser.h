@@ -15,11 +15,11 @@
 double *phaser_number(room_phaser *state, unsigned which);
 
 /* A state with all of them the same. */
-room_phaser even_phaser(double number, double lfo_phase, double sample_rate);
+room_phaser phaser_of_one_number(double number, double lfo_phase, double sample_rate);
 
 /* A state with other numbers in each place: 1 to 24, or also NaNs, infinities and -0. */
 room_phaser counted_phaser(void);
-room_phaser odd_phaser(void);
+room_phaser unusual_phaser(void);
 
 /* Equal to the bit. */
 int phaser_is(const room_phaser *is, const room_phaser *should);

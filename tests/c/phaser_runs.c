@@ -17,8 +17,8 @@ static double from_to(double low, double high)
 /* Of four in five a number in the range, else one that clamps, tests and roundings have to get right. */
 static double number(double low, double high)
 {
-    const double odd[] = {0.0, -0.0, 0.33, 0.66, 0.95, -0.95, 1.0, -1.0, SMALLEST, -SMALLEST};
-    return drawn(5) == 0u ? odd[drawn(COUNT(odd))] : from_to(low, high);
+    const double unusual[] = {0.0, -0.0, 0.33, 0.66, 0.95, -0.95, 1.0, -1.0, SMALLEST, -SMALLEST};
+    return drawn(5) == 0u ? unusual[drawn(COUNT(unusual))] : from_to(low, high);
 }
 
 static room_port port(double value)
@@ -42,16 +42,16 @@ static struct tick_of_phaser random_tick(void)
     return t;
 }
 
-/* Chains of ticks, from a start and from odd numbers; a chain ends before most of it is NaN. */
+/* Chains of ticks, from a start and from unusual numbers; a chain ends before most of it is NaN. */
 static void random_ticks(void)
 {
-    room_phaser state = odd_phaser();
+    room_phaser state = unusual_phaser();
     unsigned wrong = 0;
     unsigned i;
     for (i = 0; i < 200000u; i++) {
         if (drawn(100) == 0u) {
-            state = drawn(4) == 0u ? odd_phaser()
-                                   : even_phaser(number(-2.0, 2.0), from_to(0.0, 1.0), from_to(8000.0, 192000.0));
+            state = drawn(4) == 0u ? unusual_phaser()
+                                   : phaser_of_one_number(number(-2.0, 2.0), from_to(0.0, 1.0), from_to(8000.0, 192000.0));
         }
         wrong += goes_as_the_paper(&state, random_tick()) == 0;
     }
@@ -94,7 +94,7 @@ static void overflow(void)
 /* Coefficients that jump, with the largest feedback: audio from -5 to 5 overflows too. */
 static void jumps(void)
 {
-    room_phaser state = even_phaser(0.0, 0.0, RATE);
+    room_phaser state = phaser_of_one_number(0.0, 0.0, RATE);
     double out[3] = {0.0, 0.0, 0.0};
     uint32_t refused = 0;
     unsigned i;

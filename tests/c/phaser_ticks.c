@@ -145,7 +145,7 @@ static void stages(void)
 static void stages_rise(void)
 {
     struct tick_of_phaser t = phaser_tick(1.0, 0.5, 1.0, 0.0);
-    room_phaser state = even_phaser(0.0, 0.0, RATE);
+    room_phaser state = phaser_of_one_number(0.0, 0.0, RATE);
     unsigned i;
     state.allpass_y1_l[5] = 32.0;
     state.allpass_y1_r[5] = -64.0;
@@ -162,13 +162,13 @@ static void stages_rise(void)
 /* All-passes that are not in use keep both numbers to the bit, NaNs too, and count in the question. */
 static void idle(void)
 {
-    room_phaser state = odd_phaser();
+    room_phaser state = unusual_phaser();
     int silent = 7;
     unsigned i;
     check(goes_as_the_paper(&state, staged(phaser_tick(1.0, 0.9, 0.5, 0.25), 0.0)), "a tick over odd numbers, two", 0);
-    state = odd_phaser();
+    state = unusual_phaser();
     check(goes_as_the_paper(&state, staged(phaser_tick(1.0, 0.9, 0.5, 0.25), 0.5)), "a tick over odd numbers, four", 0);
-    state = even_phaser(0.0, 0.0, RATE);
+    state = phaser_of_one_number(0.0, 0.0, RATE);
     check(goes_as_the_paper(&state, phaser_tick(1.0, 0.0, 0.5, 0.0)), "a sound into six", 0);
     for (i = 0; i < 10u; i++) {
         check(goes_as_the_paper(&state, phaser_tick(0.0, 0.0, 0.5, 0.0)), "it goes through six", i);
@@ -185,7 +185,7 @@ static void idle(void)
 /* One all-pass: ((c x g) + x1) - (c x y1), each operation rounded once, in this order. */
 static void one_allpass(double coef, double g, double x1, double y1, double y, const char *what, unsigned i)
 {
-    room_phaser state = even_phaser(0.0, 0.0, RATE);
+    room_phaser state = phaser_of_one_number(0.0, 0.0, RATE);
     struct tick_of_phaser t = staged(phaser_tick(g, 0.0, 0.0, coef), 0.0);
     state.allpass_x1_l[0] = state.allpass_x1_r[0] = x1;
     state.allpass_y1_l[0] = state.allpass_y1_r[0] = y1;
@@ -231,16 +231,16 @@ static void mixes(void)
         t.mix.set = 0;
         run(&state, t, 4.0, 7.0, "unset mix is 0.5", i);
     }
-    state = even_phaser(1.0, 0.0, RATE);
+    state = phaser_of_one_number(1.0, 0.0, RATE);
     run(&state, phaser_tick(-0.0, 0.0, -0.0, 0.0), -0.0, -0.0, "a mix of -0 leaves audio of -0", 0);
-    state = even_phaser(1.0, 0.0, RATE);
+    state = phaser_of_one_number(1.0, 0.0, RATE);
     run(&state, phaser_tick(-0.0, 0.0, 0.0, 0.0), 0.0, 0.0, "a mix of +0 makes it +0", 1);
 }
 
 /* What goes into a chain is seen in the first last input; a last output of 2 is fed back. */
 static void goes_in(struct tick_of_phaser t, double first, const char *what, unsigned i)
 {
-    room_phaser state = even_phaser(2.0, 0.0, RATE);
+    room_phaser state = phaser_of_one_number(2.0, 0.0, RATE);
     check(goes_as_the_paper(&state, t), what, i);
     check(same(state.allpass_x1_l[0], first) && same(state.allpass_x1_r[0], first), what, i);
 }

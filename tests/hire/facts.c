@@ -127,7 +127,7 @@ static void number_facts(const struct room *room)
     fact(room->ticks == 0u || (within(&room->delay) && room->delay.delay_primed == 1u && within(&room->linear)),
          "the delays' distances are 1 to L - 1");
     fact(room->refused == 0u, "no tick was refused");
-    fact(room->unsound == 0.0, "what plays under the input rule is finite");
+    fact(room->unsound == 0.0, "what plays under the input rule, but for the phaser, is finite");
 }
 
 static void spare_facts(const struct room *room)

@@ -45,7 +45,7 @@ struct room {
     double heard[PAST]; /* the same under the input rule */
     double samples[SAMPLES]; /* of the last tick */
     uint32_t refused;        /* all numbers that ticks returned */
-    double unsound;          /* NaN once an effect with the input rule has played what is not finite */
+    double unsound;          /* NaN once an effect with the input rule, but the phaser, has played what is not finite */
 };
 
 /* What the host hands to every effect in one tick. */

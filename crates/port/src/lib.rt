@@ -30,7 +30,7 @@ pub enum Outcome {
     Refused(Refusal),
 }
 
-// What a tick answers: one sample (delay, vibrato, tremolo), two (reverb: left, right), three (chorus, flanger: mono, left, right), or a refusal.
+// What a tick answers: one sample (delay, vibrato, tremolo), two (reverb: left, right), three (chorus, flanger, phaser: mono, left, right), or a refusal.
 #[derive(Clone, Copy)]
 pub enum Answer {
     One(f64),
