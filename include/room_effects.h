@@ -102,13 +102,13 @@
  * What calls cost
  *
  * A tick takes some 10 ns (tremolo) to 66 to 72 ns (reverb at 44,100 to 96,000) on an Intel Xeon of 2.5 GHz, whatever the
- * length of the lines, but for two. The reverb takes 90 ns at rates whose lengths are not at hand (at hand are 44,100, 48,000,
+ * length of the lines, but for two. The reverb takes 92 ns at rates whose lengths are not at hand (at hand are 44,100, 48,000,
  * 88,200, 96,000, 176,400 and 192,000), and more above some 130,000, where more than eight of its combs are equally long and
  * fall into one set of the cache; from 161,819 on all sixteen are. At 150,000, 176,400 and 192,000 it took 1.9 to 2.2 times as
- * long as at 96,000, and at 162,000, whose lengths are not at hand, 2.3 times. A delay whose time is swept over a line that no
+ * long as at 96,000, and at 162,000, whose lengths are not at hand, 2.4 times. A delay whose time is swept over a line that no
  * cache holds takes up to 150 ns. Start, retune and reset write all places that are lent, at memset's speed; silent reads the
- * places in use, up to the first part of 512 that sounds. Seen there: reset 15 us for the reverb, 14 ms for a delay of 60 s at
- * 192,000; silent, of a unit that is, 27 us and 14 ms. A sample at 192,000 lasts 5.2 us: these calls belong between
+ * places in use, up to the first part of 512 that sounds. Seen there: reset 15 us for the reverb, 16 ms for a delay of 60 s at
+ * 192,000; silent, of a unit that is, 28 us and 15 ms. A sample at 192,000 lasts 5.2 us: these calls belong between
  * takes. docs/BENCHMARKS.md has more.
  *
  * Curve numbers
