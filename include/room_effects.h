@@ -73,7 +73,7 @@
  * need not feed back to go on for good: an all-pass multiplies its own last output by its coefficient, and one above 0.5 or
  * below -0.5 keeps it as above. At 0.7 it ends at 2^-1074 and -2^-1074 in turns. The coefficients that a host makes (see "Curve
  * numbers") are above 0.5 at every depth from a rate of 40,000 on, and at every rate where the depth is small, so that a phaser
- * that has sounded hardly ever falls silent there. Each tick then takes some 35 times as long: 1.1 us where it took 31 ns, on
+ * that has sounded hardly ever falls silent there. Each tick then takes some 20 times as long: 0.6 us where it took 29 ns, on
  * the machine below. A phaser that overflowed is not silent either. Again the remedy is a reset.
  *
  * Floating-point mode

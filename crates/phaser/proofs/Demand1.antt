@@ -18,7 +18,10 @@ blank-refused = refl
 
 frequency-in : (t : Tick) → tick_number t ≡ 0 → frequency_fits t.frequency ≡ true
 unfolding tick_number
-frequency-in t n = let others = allpass_fits t.coef_l && allpass_fits t.coef_r in (both (frequency_fits t.frequency) others (none-5-6 _ (frequency_fits t.frequency && (allpass_fits t.coef_l && allpass_fits t.coef_r)) n)).0
+frequency-in t n =
+    let fits = frequency_fits t.frequency in
+    let others = allpass_fits t.coef_l && allpass_fits t.coef_r in
+    (both fits others (none-5-6 _ (fits && others) n)).0
 
 pub laws : Laws phaser
 unfolding state_fits next

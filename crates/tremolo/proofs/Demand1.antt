@@ -1,10 +1,9 @@
 -- Demand 1 (docs/DEMANDS.md) for the tremolo, by the laws of its parts. Assumes nothing.
 use mathlib.Core.Path.{◌≡◌, refl}
-use mathlib.Core.Bool.{true, false, ◌&&◌, ◌||◌}
+use mathlib.Core.Bool.{true, false, ◌&&◌}
 use lib.Ieee.{le, of_int}
 use lib.Ieee as Ieee
 use Rattle.float64.specs.Number.{rate_fits, frequency_fits, sine_fits, in_range}
-use Rattle.port.specs.Port.{is_nan_set}
 use Rattle.common.proofs.Phases.{fresh-fits, reset-fits, next_fits}
 use Rattle.float64.proofs.Tests.{both}
 use Rattle.effect.proofs.Table.{none_1, none-5-6}
@@ -19,7 +18,7 @@ blank-refused = refl
 
 frequency-in : (t : Tick) → tick_number t ≡ 0 → frequency_fits t.frequency ≡ true
 unfolding tick_number
-frequency-in t n = let others = sine_fits t.sine in (both (frequency_fits t.frequency) others (none-5-6 (is_nan_set t.depth || is_nan_set t.shape) (frequency_fits t.frequency && sine_fits t.sine) n)).0
+frequency-in t n = let fits = frequency_fits t.frequency in (both fits (sine_fits t.sine) (none-5-6 _ (fits && sine_fits t.sine) n)).0
 
 pub laws : Laws tremolo
 unfolding state_fits next
