@@ -8,6 +8,7 @@ use Rattle.float64.specs.Number.{plus_zero, float_of, fraction, rate_fits, phase
 use Rattle.float64.proofs.Interval.{In, point, widen}
 use Rattle.common.proofs.Phases.{detuned-stays}
 use Rattle.common.proofs.Ring.{next-lt}
+use Rattle.effect.proofs.Parts.{first_in_order, within_first}
 use Rattle.effect.proofs.Table.{none_1}
 use Rattle.effect.proofs.Laws.{Laws, Below}
 use Rattle.effect.specs.Demand1.{Demand1}
@@ -81,8 +82,8 @@ laws =
       retuned-fits = λ k s e f. let g = fits-parts s f in
           cleared-fits (phases_of s) k (none_1 (rate_fits k) e) (record { phase0 = g.phase0; phase1 = g.phase1; phase2 = g.phase2 });
       next_fits = λ t s m e r n. next_fits t s e n;
-      used = λ k p h. h;
-      inside = λ t s m e. inside t s e;
+      in_order = λ k. first_in_order (line_length k);
+      inside = λ t s m e. within_first (line_length s.sample_rate) (writes t s) (inside t s e);
     }
 
 pub shown : Demand1 chorus

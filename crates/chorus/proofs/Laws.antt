@@ -132,6 +132,7 @@ module _ (s : Chorus) where
 
 pub record TickFits (t : Tick) : Type 0 where
   pub depth : is_nan_set t.depth ≡ false
+  pub mix : is_nan_set t.mix ≡ false
   pub frequency : frequency_fits t.frequency ≡ true
   pub sine0 : sine_fits t.sine0 ≡ true
   pub sine1 : sine_fits t.sine1 ≡ true
@@ -146,7 +147,8 @@ tick-fits t e =
     let a = both (frequency_fits t.frequency) sines v.1 in
     let b = both (sine_fits t.sine0) others a.1 in
     let c = both (sine_fits t.sine1) (sine_fits t.sine2) b.1 in
-    record { depth = (neither (is_nan_set t.depth) (is_nan_set t.mix) v.0).0; frequency = a.0; sine0 = b.0; sine1 = c.0; sine2 = c.1 }
+    let d = neither (is_nan_set t.depth) (is_nan_set t.mix) v.0 in
+    record { depth = d.0; mix = d.1; frequency = a.0; sine0 = b.0; sine1 = c.0; sine2 = c.1 }
 
 -- ---- distances
 

@@ -18,6 +18,7 @@ use Rattle.common.proofs.Zeros.{drop_more, zeros-split}
 use Rattle.effect.specs.Run.{tick, retune, reset, ask, CallOf, Device, device_of, if_none, first, memory_number, number_in, number_at, start_number, started, start, start_reply, changed, says, step, reply, after, replies, Run}
 use Rattle.effect.specs.Demand1.{initial}
 use Rattle.effect.specs.Demand3.{Demand3}
+use Rattle.effect.proofs.Parts.{first-zeros, first_in_order, within_first}
 use Rattle.effect.proofs.Laws.{Laws, Below}
 use Rattle.effect.proofs.LineLaws.{LineLaws}
 use Rattle.effect.proofs.Demand3.{demand-3}
@@ -170,7 +171,7 @@ module _ (s : Chorus) (m n : List Float) (r : Corresponds (device_of s m) (devic
   says-alike reset e = refl
   says-alike ask e =
       let a = accepted chorus (length m) ask s e in
-      ap silent (silence-alike (fits-parts s a.state_fits).inside (enough L (length m) a.number))
+      ap silent (first-zeros (3 * L) n ∙ silence-alike (fits-parts s a.state_fits).inside (enough L (length m) a.number) ∙ sym (first-zeros L m))
 
   -- any call: it is accepted, or refused with the same number, of both
   same-call-alike : (c : CallOf chorus) → CallAlike c h g
@@ -234,8 +235,8 @@ three-laws =
       reset-fits = laws.reset-fits;
       retuned-fits = laws.retuned-fits;
       next_fits = λ t s m e r n. laws.next_fits t s m e (omega arith) n;
-      used = λ k p h. h;
-      inside = λ t s m e. inside t s e;
+      in_order = λ k. first_in_order (three.places k);
+      inside = λ t s m e. within_first (three.places s.sample_rate) (three.writes t s) (inside t s e);
     }
   where
     inside : (t : Tick) (s : Chorus) → state_fits s ≡ true → Below (three.places s.sample_rate) (three.writes t s)

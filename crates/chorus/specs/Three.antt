@@ -1,7 +1,7 @@
 -- The chorus with three lines, one for each voice, as the Rust has it, for comparison with ours (document 02, A.4); no code has it. It is the chorus of
 -- Chorus.antt but for what goes by the lines. And when a chorus with one line and one with three correspond. Definitions only. Assumes nothing.
 use Rattle.std.specs.Prelude.{ℕ, ◌*◌, ◌<◌, ◌≡◌, List, length, take, drop, Float}
-use Rattle.common.specs.Line.{all_zero}
+use Rattle.effect.specs.Parts.{first_places}
 use Rattle.effect.specs.Effect.{Effect, Write}
 use Rattle.effect.specs.Lines.{Lines, in_each, line_of}
 use Rattle.effect.specs.Run.{Device}
@@ -39,7 +39,7 @@ three_lined =
       retune_settings = chorus.retune_settings;
       settings_number = chorus.settings_number;
       places = places;
-      InUse = λ k p. p < places k;
+      parts = λ rate. first_places (places rate);
       tick_number = chorus.tick_number;
       blank = chorus.blank;
       fresh = chorus.fresh;
@@ -47,7 +47,8 @@ three_lined =
       next = chorus.next;
       writes = λ t s m. writes t s;
       samples = samples;
-      silence = λ s m. all_zero (take (places s.sample_rate) m);
+      input = chorus.input;
+      quiet = chorus.quiet;
     }
 
 -- its lines, for the recent pasts

@@ -1,9 +1,9 @@
 -- A line of L places in lent memory, from place o on, with its write position w: where its samples lie, how it is read, and what a clearing leaves.
 -- Definitions only. Assumes nothing.
-use Rattle.std.specs.Prelude.{ℕ, zero, suc, ◌+◌, ◌-◌, ◌%◌, Bool, true, ◌&&◌, List, [], ◌∷◌, get_or, replicate, nat_le, Float}
+use Rattle.std.specs.Prelude.{ℕ, zero, suc, ◌+◌, ◌-◌, ◌%◌, Bool, true, ◌&&◌, List, [], ◌∷◌, length, get_or, replicate, nat_le, ◌==◌, Float}
 use Rattle.std.specs.Float.{nan, binary64}
-use Rattle.std.specs.Float.Ieee.{mul, div, eq}
-use Rattle.float64.specs.Number.{plus_zero, float_of, whole_part, fraction_part}
+use Rattle.std.specs.Float.Ieee.{mul, div}
+use Rattle.float64.specs.Number.{plus_zero, float_of, is_zero, whole_part, fraction_part}
 use Rattle.common.specs.Signal.{blended}
 
 -- L of a swept line: the whole part of rate × milliseconds / 1000, plus 10. No effect's milliseconds lie outside 1 to 100
@@ -43,11 +43,11 @@ table f (suc n) = f zero ∷ table (λ i. f (suc i)) n
 abbrev pub newest_first : ℕ → ℕ → ℕ → List Float → List Float
 newest_first o L w m = table (λ i. line_at o L w m (i + 1)) L
 
--- +0 or −0
-abbrev pub is_zero : Float → Bool
-is_zero x = eq x plus_zero
-
 -- every place is +0 or −0
 unfoldable pub all_zero : List Float → Bool
 all_zero [] = true
 all_zero (x ∷ xs) = is_zero x && all_zero xs
+
+-- the list has n entries, as an array of n floats has, and each is +0 or −0
+abbrev pub are_zeros : ℕ → List Float → Bool
+are_zeros n l = (length l == n) && all_zero l

@@ -8,6 +8,7 @@ use lib.Ieee as Ieee
 use Rattle.float64.specs.Number.{in_range, is_plus_zero, rate_fits, coefficient_fits}
 use Rattle.float64.proofs.Ranges.{in-range}
 use Rattle.common.proofs.Ring.{next-lt}
+use Rattle.effect.proofs.Parts.{first_in_order, within_first}
 use Rattle.effect.proofs.Table.{none-1-2}
 use Rattle.effect.proofs.Laws.{Laws, Below}
 use Rattle.effect.specs.Demand1.{Demand1}
@@ -64,8 +65,8 @@ laws =
           let r = row a.rate a.coefficient e in
           cleared-fits (delay_line.retune_settings a (settings s)) r.0 r.1 (fits-parts s f).maximum;
       next_fits = λ t s m e r n. next_fits t s e n;
-      used = λ k p h. h;
-      inside = λ t s m e. inside t s m e;
+      in_order = λ k. first_in_order (places k);
+      inside = λ t s m e. within_first (places (settings s)) (writes t s m) (inside t s m e);
     }
 
 pub shown : Demand1 delay_line

@@ -137,6 +137,8 @@ module _ (s : DelayLine) where
 
 pub record TickFits (t : Tick) (linear : Bool) : Type 0 where
   pub time : linear ≡ true → is_nan_set t.time ≡ false
+  pub feedback : is_nan_set t.feedback ≡ false
+  pub mix : is_nan_set t.mix ≡ false
   pub milliseconds : linear ≡ false → is_number t.milliseconds ≡ true
 
 pub tick-fits : (t : Tick) (linear : Bool) → tick_number t linear ≡ 0 → TickFits t linear
@@ -144,8 +146,10 @@ unfolding tick_number
 tick-fits t linear e =
     let others = is_nan_set t.feedback || is_nan_set t.mix in
     let v = no-cause (linear && is_nan_set t.time || others) (linear || is_number t.milliseconds) e in
-    let a = (neither (linear && is_nan_set t.time) others v.0).0 in
-    record { time = λ l. rw l at a; milliseconds = λ l. rw l at v.1 }
+    let a = neither (linear && is_nan_set t.time) others v.0 in
+    let b = neither (is_nan_set t.feedback) (is_nan_set t.mix) a.1 in
+    let time = a.0 in
+    record { time = λ l. rw l at time; feedback = b.0; mix = b.1; milliseconds = λ l. rw l at v.1 }
 
 -- a tick with these numbers: time, feedback, mix and milliseconds
 abbrev pub set_tick : Float → Float → Float → Float → Tick

@@ -1,2 +1,3 @@
 pub mod Laws
 pub mod Demand1
+pub mod Lamp

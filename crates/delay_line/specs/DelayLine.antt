@@ -1,12 +1,13 @@
 -- The delay line: one line with feedback, read at a distance that glides to the delay time. Definitions only. Assumes nothing.
-use Rattle.std.specs.Prelude.{ℕ, ◌+◌, ◌-◌, ◌<◌, Bool, true, false, ◌&&◌, ◌||◌, cond, List, [], ◌∷◌, ltb, take, Float}
+use Rattle.std.specs.Prelude.{ℕ, ◌+◌, ◌-◌, Bool, true, false, ◌&&◌, ◌||◌, cond, List, [], ◌∷◌, ltb, Float}
 use Rattle.std.specs.Float.{binary64}
 use Rattle.std.specs.Float.Ieee.{add, sub, mul, div}
 use Rattle.float64.specs.Number.{plus_zero, float_of, fraction, half, is_number, is_finite, in_range, is_plus_zero, rate_fits, coefficient_fits, clamp_of, whole_part}
 use Rattle.port.specs.declared.Port.{Port}
 use Rattle.port.specs.Port.{value_or, is_nan_set}
 use Rattle.common.specs.Signal.{sanitized, blended, cause_number}
-use Rattle.common.specs.Line.{line_at, read_at, next_place, all_zero}
+use Rattle.common.specs.Line.{line_at, read_at, next_place}
+use Rattle.effect.specs.Parts.{first_places}
 use Rattle.effect.specs.Effect.{Effect, Write}
 use Rattle.delay_line.specs.declared.DelayLine.{DelayLine}
 
@@ -179,7 +180,7 @@ delay_line =
       retune_settings = retune_settings;
       settings_number = λ k. settings_number k.rate k.coefficient;
       places = places;
-      InUse = λ k p. p < places k;
+      parts = λ k. first_places (places k);
       tick_number = λ t k. tick_number t k.linear;
       blank = blank;
       fresh = cleared;
@@ -187,5 +188,6 @@ delay_line =
       next = λ t s m. next t s;
       writes = writes;
       samples = samples;
-      silence = λ s m. all_zero (take (line_length s.sample_rate s.max_delay_secs) m);
+      input = input;
+      quiet = λ s. true;
     }

@@ -5,10 +5,11 @@ use mathlib.Core.List.{List, [], ◌∷◌, ◌++◌}
 use lib.ListN.{length, get_or}
 use Rattle.float64.specs.Number.{plus_zero}
 use Rattle.common.specs.Line.{zeros}
-use Rattle.effect.specs.Effect.{Effect, Unnamed}
+use Rattle.effect.specs.Effect.{Effect, InUse, Unnamed}
 use Rattle.effect.specs.Run.{tick, retune, reset, ask, CallOf, Device, number_at, start_number, started, changed, step, after, replies, Run, final}
 use Rattle.effect.specs.Demand1.{Demand1, EndsCleared, at-start, at-reset, at-retune, cleared_state, initial}
 use Rattle.effect.proofs.Laws.{Laws}
+use Rattle.effect.proofs.Parts.{below}
 use Rattle.effect.proofs.Memory.{laid-elsewhere, within-unnamed}
 use Rattle.effect.proofs.Table.{if_none-both, if_none-some, accepted}
 use Rattle.effect.proofs.Runs.{InRun, number_is, retune-clears, reset-clears, length-changed, changed-fits, start-in, after-in, run_in, along, run-traced}
@@ -63,14 +64,14 @@ module _ (E : Effect) (laws : Laws E) where
   -- ---- spare places
 
   abbrev SpareZero : ℕ → Device E.State → Type 0
-  SpareZero p h = ¬ E.InUse (E.settings h.state) p → get_or h.memory p plus_zero ≡ plus_zero
+  SpareZero p h = ¬ InUse E (E.settings h.state) p → get_or h.memory p plus_zero ≡ plus_zero
 
   spare-changed : (p n : ℕ) (u : Device E.State) (c : CallOf E) → InRun E n u → SpareZero p u → SpareZero p (changed E c u)
   spare-changed p n u (tick t) i z h =
       let ws = E.writes t u.state u.memory in
       let k = E.settings u.state in
-      let free : ¬ E.InUse k p = subst (λ (q : E.Settings). ¬ E.InUse q p) (laws.next-settings t u.state u.memory) h in
-      laid-elsewhere ws u.memory p plus_zero (within-unnamed (E.InUse k) ws p (laws.inside t u.state u.memory i.state_fits) free) ∙ z free
+      let free : ¬ InUse E k p = subst (λ (q : E.Settings). ¬ InUse E q p) (laws.next-settings t u.state u.memory) h in
+      laid-elsewhere ws u.memory p plus_zero (within-unnamed (InUse E k) ws p (laws.inside t u.state u.memory i.state_fits) free) ∙ z free
   spare-changed p n u (retune r) i z h = rw (retune-clears E r u) (get_or-zeros (length u.memory) p)
   spare-changed p n u reset i z h = rw (reset-clears E u) (get_or-zeros (length u.memory) p)
   spare-changed p n u ask i z h = z h
@@ -82,11 +83,11 @@ module _ (E : Effect) (laws : Laws E) where
 
   -- ---- one call, in a run or not
 
-  spares : (t : E.Tick) (h : Device E.State) (p : ℕ) → number_at E (tick t) h ≡ 0 → ¬ E.InUse (E.settings h.state) p
+  spares : (t : E.Tick) (h : Device E.State) (p : ℕ) → number_at E (tick t) h ≡ 0 → ¬ InUse E (E.settings h.state) p
       → get_or (step E (tick t) h).memory p plus_zero ≡ get_or h.memory p plus_zero
   spares t h p e l =
       let inside = laws.inside t h.state h.memory (accepted E (length h.memory) (tick t) h.state e).state_fits in
-      leaves E t h p (within-unnamed (E.InUse (E.settings h.state)) (E.writes t h.state h.memory) p inside l)
+      leaves E t h p (within-unnamed (InUse E (E.settings h.state)) (E.writes t h.state h.memory) p inside l)
 
   pub demand-1 : Demand1 E
   demand-1 =
@@ -100,7 +101,7 @@ module _ (E : Effect) (laws : Laws E) where
         passes = λ x. (run_in E laws x).state_fits;
         numbers = λ x c. number_is E c (run_in E laws x) refl;
         enough = λ x. (run_in E laws x).enough;
-        in_use = laws.used;
+        in_use = λ k p. below 0 (E.places k) (E.parts k) (laws.in_order k);
         spare = spare;
         leaves = leaves E;
         spares = spares;

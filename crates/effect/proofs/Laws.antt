@@ -2,15 +2,16 @@
 use Prim.Native.Nat.{ℕ, ◌≤◌, ◌<◌}
 use mathlib.Core.Path.{◌≡◌}
 use mathlib.Core.Bool.{true, false}
-use mathlib.Core.List.{List, [], ◌∷◌}
+use mathlib.Core.List.{List}
 use lib.ListN.{length}
 use lib.Ieee.{Float}
-use Rattle.effect.specs.Effect.{Effect, Write}
+use Rattle.effect.specs.Parts.{InOrder}
+use Rattle.effect.specs.Effect.{Effect, Write, InUse}
+use Rattle.effect.specs.EachTick.{EachWrite}
 
 -- all the places that are written are in P
 abbrev pub Within : (ℕ → Type 0) → List Write → Type 0
-Within P [] = Unit {0}
-Within P (w ∷ ws) = P w.place × Within P ws
+Within P ws = EachWrite (λ w. P w.place) ws
 
 -- they lie below n
 abbrev pub Below : ℕ → List Write → Type 0
@@ -31,7 +32,7 @@ pub record Laws (E : Effect) : Type 0 where
   pub next_fits : (t : E.Tick) (s : E.State) (m : List Float) → E.state_fits s ≡ true → E.places (E.settings s) ≤ length m
       → E.tick_number t (E.settings s) ≡ 0
       → E.state_fits (E.next t s m) ≡ true
-  -- places in use are among those needed
-  pub used : (k : E.Settings) (p : ℕ) → E.InUse k p → p < E.places k
+  -- the places in use follow each other among those needed
+  pub in_order : (k : E.Settings) → InOrder 0 (E.places k) (E.parts k)
   -- a tick writes only places in use
-  pub inside : (t : E.Tick) (s : E.State) (m : List Float) → E.state_fits s ≡ true → Within (E.InUse (E.settings s)) (E.writes t s m)
+  pub inside : (t : E.Tick) (s : E.State) (m : List Float) → E.state_fits s ≡ true → Within (InUse E (E.settings s)) (E.writes t s m)

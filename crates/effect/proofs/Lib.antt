@@ -1,4 +1,5 @@
 pub mod Laws
+pub mod Parts
 pub mod Memory
 pub mod Table
 pub mod Outcomes
@@ -13,3 +14,5 @@ pub mod Past
 pub mod Later
 pub mod Demand3
 pub mod Covers
+pub mod LampLaws
+pub mod Lamp

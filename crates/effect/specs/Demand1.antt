@@ -3,7 +3,7 @@
 use Rattle.std.specs.Prelude.{ℕ, ◌≤◌, ◌<◌, ◌≡◌, ◌≢◌, true, false, List, [], ◌∷◌, ◌++◌, length, get_or, Float}
 use Rattle.float64.specs.Number.{plus_zero}
 use Rattle.common.specs.Line.{zeros}
-use Rattle.effect.specs.Effect.{Effect, Unnamed}
+use Rattle.effect.specs.Effect.{Effect, InUse, Unnamed}
 use Rattle.effect.specs.Run.{tick, retune, reset, ask, CallOf, Device, number_for, number_at, start_number, start, step, after, replies, Run, final}
 use Rattle.effect.specs.Trace.{traced, laid_out}
 
@@ -43,14 +43,14 @@ pub record Demand1 (E : Effect) : Type 0 where
   pub numbers : (x : Run E) (c : CallOf E) → number_at E c (final E x) ≡ number_for E c (length x.memory) (E.settings (final E x).state)
   -- the places needed are there, those in use are among them, and all others are +0
   pub enough : (x : Run E) → E.places (E.settings (final E x).state) ≤ length x.memory
-  pub in_use : (k : E.Settings) (p : ℕ) → E.InUse k p → p < E.places k
-  pub spare : (x : Run E) (p : ℕ) → ¬ E.InUse (E.settings (final E x).state) p → get_or (final E x).memory p plus_zero ≡ plus_zero
+  pub in_use : (k : E.Settings) (p : ℕ) → InUse E k p → p < E.places k
+  pub spare : (x : Run E) (p : ℕ) → ¬ InUse E (E.settings (final E x).state) p → get_or (final E x).memory p plus_zero ≡ plus_zero
   -- ---- what one call leaves, in a run or not
 
   -- a tick leaves every place that it does not name; an accepted one names only places in use
   pub leaves : (t : E.Tick) (h : Device E.State) (p : ℕ) → Unnamed p (E.writes t h.state h.memory)
       → get_or (step E (tick t) h).memory p plus_zero ≡ get_or h.memory p plus_zero
-  pub spares : (t : E.Tick) (h : Device E.State) (p : ℕ) → number_at E (tick t) h ≡ 0 → ¬ E.InUse (E.settings h.state) p
+  pub spares : (t : E.Tick) (h : Device E.State) (p : ℕ) → number_at E (tick t) h ≡ 0 → ¬ InUse E (E.settings h.state) p
       → get_or (step E (tick t) h).memory p plus_zero ≡ get_or h.memory p plus_zero
   -- a refused call leaves every place and field, and so does the question "silent?"
   pub refuses : (c : CallOf E) (h : Device E.State) → number_at E c h ≢ 0 → step E c h ≡ h

@@ -1,6 +1,7 @@
 -- What an effect is: its states, its rows of the table of refusals, and what each accepted call does. Each effect is one value of `Effect`.
 -- Definitions only. Assumes nothing.
 use Rattle.std.specs.Prelude.{ℕ, ◌≢◌, Bool, List, [], ◌∷◌, set, Float}
+use Rattle.effect.specs.Parts.{Part, InPart}
 
 -- ---- memory
 
@@ -37,9 +38,9 @@ pub record Effect : Type 1 where
   pub retune_settings : Retune → Settings → Settings
   -- causes 1 and 2: the number of the first that applies, 0 for none
   pub settings_number : Settings → ℕ
-  -- the places needed, and which places are in use: all of these, but for the reverb, whose lines have room up to their longest length
+  -- the places needed, and those in use, part by part in order: all of these, but for the reverb, whose lines have room up to their longest length
   pub places : Settings → ℕ
-  pub InUse : Settings → ℕ → Type 0
+  pub parts : Settings → List Part
   -- causes 5 and 6: the number of the first that applies, 0 for none
   pub tick_number : Tick → Settings → ℕ
   -- the state that a refused start gives
@@ -51,5 +52,11 @@ pub record Effect : Type 1 where
   pub next : Tick → State → List Float → State
   pub writes : Tick → State → List Float → List Write
   pub samples : Tick → State → List Float → List Float
-  -- whether the unit is silent: every place in use, of a phaser every number of its chains, is +0 or −0
-  pub silence : State → List Float → Bool
+  -- the audio of a tick as the tick takes it: the port's number, +0 if unset, and after the input rule where the effect has that
+  pub input : Tick → Float
+  -- what the state itself keeps of the sound is +0 or −0: the reverb's damping stores, the numbers of the phaser's chains; true where it keeps nothing
+  pub quiet : State → Bool
+
+-- the place p is in use
+abbrev pub InUse : (E : Effect) → E.Settings → ℕ → Type 0
+InUse E k p = InPart p (E.parts k)

@@ -1,3 +1,4 @@
+pub mod Parts
 pub mod Effect
 pub mod Run
 pub mod Contract
@@ -9,3 +10,5 @@ pub mod Past
 pub mod Later
 pub mod Demand3
 pub mod Covers
+pub mod EachTick
+pub mod Lamp

@@ -1,8 +1,9 @@
 -- The calls of an effect, the order of refusals, what each call leaves and answers, and lists of calls: each gets the state last returned and the
 -- same memory. Definitions only. Assumes nothing.
-use Rattle.std.specs.Prelude.{ℕ, zero, suc, ◌≡◌, cond, List, [], ◌∷◌, ltb, length, Float}
+use Rattle.std.specs.Prelude.{ℕ, zero, suc, ◌≡◌, Bool, ◌&&◌, cond, List, [], ◌∷◌, ltb, length, Float}
 use Rattle.port.specs.Answer.{Reply, played, done, silent, refused}
-use Rattle.common.specs.Line.{zeros}
+use Rattle.common.specs.Line.{zeros, all_zero}
+use Rattle.effect.specs.Parts.{held_in}
 use Rattle.effect.specs.Effect.{Effect, laid}
 
 -- a call after the start
@@ -60,6 +61,11 @@ module _ (E : Effect) where
   abbrev pub number_at : CallOf → DeviceOf → ℕ
   number_at c h = number_in c (length h.memory) h.state
 
+  -- ---- silent: what the state keeps of the sound is quiet, and every place in use is +0 or −0
+
+  abbrev pub is_silent : DeviceOf → Bool
+  is_silent h = E.quiet h.state && all_zero (held_in (E.parts (E.settings h.state)) h.memory)
+
   -- ---- an accepted call: what it leaves, and what it answers
 
   abbrev pub started : E.Start → List Float → DeviceOf
@@ -76,7 +82,7 @@ module _ (E : Effect) where
   says (tick t) h = played (E.samples t h.state h.memory)
   says (retune r) h = done
   says reset h = done
-  says ask h = silent (E.silence h.state h.memory)
+  says ask h = silent (is_silent h)
 
   -- ---- any call: accepted, or refused, which leaves every place and field and answers the number. A refused start gives the blank state
 

@@ -1,9 +1,10 @@
 // One machine for all effects: its definitions are in specs/, its theorems in proofs/. The functions are the parts of the calls that all effects share.
 #![tactic(auto)]
 
-ghost use Rattle.std.specs.Prelude.{◌≡◌, cond, min, length, take};
+ghost use Rattle.std.specs.Prelude.{◌≡◌, cond, min, length};
 ghost use Rattle.port.specs.Answer.{silent, refused, number_of, silence_reply};
 ghost use Rattle.common.specs.Line.{zeros, all_zero};
+ghost use Rattle.effect.specs.Parts.{first_places, held_in};
 ghost use Rattle.effect.specs.Run.{if_none, memory_number};
 ghost use Rattle.effect.specs.Needed.{rate_number, places_or_none};
 
@@ -67,7 +68,7 @@ fn fewer(a: usize, b: usize) -> usize
 
 // The answer to "silent?" of a unit whose tests came to this outcome: whether the first `used` places are +0 or -0.
 pub fn silence(outcome: Outcome, used: usize, mem: &[f64]) -> Silence
-    ensures { silence_reply result ≡ if_none (number_of outcome) (silent (all_zero (take used mem.now)))
+    ensures { silence_reply result ≡ if_none (number_of outcome) (silent (all_zero (held_in (first_places used) mem.now)))
         (refused (number_of outcome)) }
 {
     if let Outcome::Refused(cause) = outcome {

@@ -8,6 +8,7 @@ use lib.Ieee as Ieee
 use Rattle.float64.specs.Number.{plus_zero, rate_fits, phase_fits, in_range}
 use Rattle.common.proofs.Phases.{zero-phase, phase-stays}
 use Rattle.common.proofs.Ring.{next-lt}
+use Rattle.effect.proofs.Parts.{first_in_order, within_first}
 use Rattle.effect.proofs.Table.{none_1}
 use Rattle.effect.proofs.Laws.{Laws, Below}
 use Rattle.effect.specs.Demand1.{Demand1}
@@ -54,8 +55,8 @@ laws =
       reset-fits = λ s f. cleared-fits plus_zero s.sample_rate (fits-parts s f).rate zero-phase;
       retuned-fits = λ k s e f. cleared-fits s.lfo_phase k (none_1 (rate_fits k) e) (fits-parts s f).phase;
       next_fits = λ t s m e r n. next_fits t s e n;
-      used = λ k p h. h;
-      inside = λ t s m e. inside t s m e;
+      in_order = λ k. first_in_order (places k);
+      inside = λ t s m e. within_first (places s.sample_rate) (writes t s m) (inside t s m e);
     }
 
 pub shown : Demand1 flanger

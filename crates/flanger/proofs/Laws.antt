@@ -85,6 +85,8 @@ module _ (s : Flanger) where
 
 pub record TickFits (t : Tick) : Type 0 where
   pub depth : is_nan_set t.depth ≡ false
+  pub feedback : is_nan_set t.feedback ≡ false
+  pub mix : is_nan_set t.mix ≡ false
   pub frequency : frequency_fits t.frequency ≡ true
   pub sine0 : sine_fits t.sine0 ≡ true
   pub sine1 : sine_fits t.sine1 ≡ true
@@ -97,7 +99,9 @@ tick-fits t e =
     let v = no-cause (is_nan_set t.depth || others) (frequency_fits t.frequency && sines) e in
     let a = both (frequency_fits t.frequency) sines v.1 in
     let b = both (sine_fits t.sine0) (sine_fits t.sine1) a.1 in
-    record { depth = (neither (is_nan_set t.depth) others v.0).0; frequency = a.0; sine0 = b.0; sine1 = b.1 }
+    let c = neither (is_nan_set t.depth) others v.0 in
+    let d = neither (is_nan_set t.feedback) (is_nan_set t.mix) c.1 in
+    record { depth = c.0; feedback = d.0; mix = d.1; frequency = a.0; sine0 = b.0; sine1 = b.1 }
 
 -- ---- accepted ticks
 

@@ -1,12 +1,13 @@
 -- The flanger: two lines, left and right, swept by one phase, each fed back into itself. Definitions only. Assumes nothing.
-use Rattle.std.specs.Prelude.{ℕ, ◌+◌, ◌-◌, ◌*◌, ◌<◌, Bool, ◌&&◌, ◌||◌, cond, List, [], ◌∷◌, ltb, take, Float}
+use Rattle.std.specs.Prelude.{ℕ, ◌+◌, ◌-◌, ◌*◌, Bool, true, ◌&&◌, ◌||◌, cond, List, [], ◌∷◌, ltb, Float}
 use Rattle.std.specs.Float.{binary64}
 use Rattle.std.specs.Float.Ieee.{add, mul, div, neg}
 use Rattle.float64.specs.Number.{plus_zero, float_of, fraction, half, rate_fits, phase_fits, frequency_fits, sine_fits, clamp_of}
 use Rattle.port.specs.declared.Port.{Port}
 use Rattle.port.specs.Port.{value_or, is_nan_set}
 use Rattle.common.specs.Signal.{sanitized, blended, advanced, cause_number}
-use Rattle.common.specs.Line.{swept_length, line_at, read_at, next_place, all_zero}
+use Rattle.common.specs.Line.{swept_length, line_at, read_at, next_place}
+use Rattle.effect.specs.Parts.{first_places}
 use Rattle.effect.specs.Effect.{Effect, Write}
 use Rattle.flanger.specs.declared.Flanger.{Flanger}
 
@@ -130,7 +131,7 @@ flanger =
       retune_settings = λ rate old. rate;
       settings_number = λ rate. cond (rate_fits rate) 0 1;
       places = places;
-      InUse = λ k p. p < places k;
+      parts = λ rate. first_places (places rate);
       tick_number = λ t rate. tick_number t;
       blank = blank;
       fresh = fresh;
@@ -138,5 +139,6 @@ flanger =
       next = λ t s m. next t s;
       writes = writes;
       samples = samples;
-      silence = λ s m. all_zero (take (places s.sample_rate) m);
+      input = input;
+      quiet = λ s. true;
     }

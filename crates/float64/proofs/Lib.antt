@@ -5,6 +5,7 @@ pub mod Keys
 pub mod Near
 pub mod Order
 pub mod Same
+pub mod Zeros
 pub mod Interval
 pub mod Ranges
 pub mod Clamped

@@ -50,7 +50,7 @@ round-shape f s a c =
 pub round-num : (f : Format) (s : Bool) (a c : ℕ) → T (not (is_nan (round f s a c)))
 round-num f s a c = (round-shape f s a c).1
 
-round-neg : (f : Format) (a c : ℕ) → round f true a c ≡ neg (round f false a c)
+pub round-neg : (f : Format) (a c : ℕ) → round f true a c ≡ neg (round f false a c)
 round-neg f a c = round_is f true a c ∙ units-neg f (kept (prec f) (a * 2 ^ low f) c) (drop (prec f) (a * 2 ^ low f) c) ∙ ap neg (sym (round_is f false a c))
 
 -- ---- a fraction rounded, in units

@@ -1,7 +1,7 @@
--- When two values are the same as data: both fit and have one sign and one size (`unique`), or one key above 0's (`same_key`). And a finite value less itself is +0. Assumes nothing.
-use Rattle.std.proofs.Common.{◌≡◌, ℕ, ◌+◌, ◌-◌, ◌*◌, ◌/◌, ◌^◌, ◌<◌, Bool, true, false, cond, not, T, ℤ, sym, ap, ◌∙◌, inl, inr, le_refl, mul-pos, ne_of_gt, arith, le-ltb}
+-- When two values are the same as data: both fit and have one sign and one size (`unique`), or one key above 0's (`same_key`). And a finite value less itself is +0; a product is the same turned round. Assumes nothing.
+use Rattle.std.proofs.Common.{◌≡◌, ℕ, ◌+◌, ◌-◌, ◌*◌, ◌/◌, ◌^◌, ◌<◌, Bool, true, false, cond, not, T, ℤ, refl, sym, ap, ◌∙◌, inl, inr, le_refl, mul-pos, mul_comm, ne_of_gt, arith, eqb, le-ltb}
 use native.Mathlib.Nat.{sub_self}
-use lib.Ieee.{Float, nan, inf, fin, Format, prec, up, down, size, top, hid, round, sum, add, sub, neg, fits, is_nan, to_bits, of_bits}
+use lib.Ieee.{Float, nan, inf, fin, Format, prec, up, down, size, top, hid, unlike, round, sum, add, sub, mul, neg, fits, is_nan, to_bits, of_bits}
 use lib.Ieee.Bits.{of_bits-to_bits}
 use lib.Ieee.Fits.{round-fits, down_pos}
 use lib.Ieee.Scale.{finite}
@@ -47,7 +47,7 @@ same_key {f} {x} {y} {n} a b p q =
     unique f x y a.fit b.fit u.0 v.0 (u.1 ∙ sym v.1) (u.2 ∙ sym v.2)
 
 -- ---- x - x
-round-zero : (f : Format) (c : ℕ) → 0 < c → round f false 0 c ≡ plus_zero
+pub round-zero : (f : Format) (c : ℕ) → 0 < c → round f false 0 c ≡ plus_zero
 unfolding rounded sign
 round-zero f c h =
     let r = round f false 0 c in
@@ -66,3 +66,24 @@ unfolding sub add neg
 less-itself f nan h = absurd h
 less-itself f (inf s) h = absurd h
 less-itself f (fin s m e) h = cancelled f s (m * up e * down e) (down e * down e) (mul-pos (down_pos e) (down_pos e))
+
+-- ---- a product, turned round
+
+unlike-turned : (s t : Bool) → unlike s t ≡ unlike t s
+unlike-turned true true = refl
+unlike-turned true false = refl
+unlike-turned false true = refl
+unlike-turned false false = refl
+
+pub mul-turned : (f : Format) (x y : Float) → mul f x y ≡ mul f y x
+unfolding mul
+mul-turned f nan nan = refl
+mul-turned f nan (inf t) = refl
+mul-turned f nan (fin t n d) = refl
+mul-turned f (inf s) nan = refl
+mul-turned f (inf s) (inf t) = ap inf (unlike-turned s t)
+mul-turned f (inf s) (fin t n d) = ap (λ (b : Bool). cond (eqb n 0) nan (inf b)) (unlike-turned s t)
+mul-turned f (fin s m e) nan = refl
+mul-turned f (fin s m e) (inf t) = ap (λ (b : Bool). cond (eqb m 0) nan (inf b)) (unlike-turned s t)
+mul-turned f (fin s m e) (fin t n d) =
+    λ i. round f (unlike-turned s t i) (mul_comm (m * up e) (n * up d) i) (mul_comm (down e) (down d) i)

@@ -41,3 +41,6 @@ no_bits x h e = sym (of_bits-to_bits binary64 x h) ∙ ap (Ieee.of_bits binary64
 pub both : (a b : Bool) → a && b ≡ true → (a ≡ true) × (b ≡ true)
 both true b e = (refl, e)
 both false b e = clash e refl
+
+pub both-true : {a b : Bool} → a ≡ true → b ≡ true → a && b ≡ true
+both-true e f = rw (e, f)

@@ -2,7 +2,7 @@
 -- Two floats are equal here as data: every NaN is the one `nan`, and +0 and −0 differ. Assumes nothing.
 use Rattle.std.specs.Prelude.{ℕ, ◌+◌, ◌-◌, ◌*◌, ◌/◌, ◌%◌, ◌^◌, min, Bool, false, cond, not, ◌&&◌, T, pos, ◌==◌, is_nan, to_bits, Float}
 use Rattle.std.specs.Float.{nan, inf, fin, binary64}
-use Rattle.std.specs.Float.Ieee.{round, of_int, neg, sub, lt, le, to_unsigned, up, down, fits}
+use Rattle.std.specs.Float.Ieee.{round, of_int, neg, sub, eq, lt, le, to_unsigned, up, down, fits}
 use Rattle.std.specs.Float.Ieee.Scale.{finite}
 
 -- ---- values
@@ -42,6 +42,10 @@ in_unit x = fits binary64 x && (le plus_zero x && lt x (float_of 1))
 -- −1 ≤ x ≤ 1
 abbrev pub in_signed_unit : Float → Bool
 in_signed_unit x = in_range x (neg (float_of 1)) (float_of 1)
+
+-- +0 or −0
+abbrev pub is_zero : Float → Bool
+is_zero x = eq x plus_zero
 
 -- +0, sign included: all its bits are 0
 unfoldable pub is_plus_zero : Float → Bool

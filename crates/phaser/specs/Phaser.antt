@@ -1,6 +1,6 @@
 -- The phaser: on each side a chain of six all-passes, of which a tick runs the first 2, 4 or 6, fed back from the last of these. It has no line and is lent no
 -- memory, so cause 3 never applies, and it has no retune: a new rate means a new start. Definitions only. Assumes nothing.
-use Rattle.std.specs.Prelude.{◌≡◌, ℕ, ◌-◌, ◌<◌, Bool, ◌&&◌, ◌||◌, cond, List, [], ◌∷◌, get_or, Float}
+use Rattle.std.specs.Prelude.{◌≡◌, ℕ, ◌-◌, Bool, ◌&&◌, ◌||◌, cond, List, [], ◌∷◌, get_or, Float}
 use Rattle.std.specs.Float.{nan, binary64}
 use Rattle.std.specs.Float.Ieee.{add, mul, div, neg, lt}
 use Rattle.float64.specs.Number.{plus_zero, float_of, fraction, half, rate_fits, phase_fits, frequency_fits, allpass_fits, clamp_of}
@@ -8,7 +8,7 @@ use Rattle.port.specs.declared.Port.{Port}
 use Rattle.port.specs.Port.{value_or, is_nan_set}
 use Rattle.port.specs.Answer.{Reply, played}
 use Rattle.common.specs.Signal.{sanitized, blended, advanced, cause_number}
-use Rattle.common.specs.Line.{zeros, all_zero}
+use Rattle.common.specs.Line.{zeros, are_zeros}
 use Rattle.effect.specs.Effect.{Effect}
 use Rattle.phaser.specs.declared.Phaser.{Phaser}
 use Rattle.phaser.specs.Allpass.{Chain, chain_of, passed}
@@ -49,9 +49,11 @@ blank = fresh plus_zero
 unfoldable pub state_fits : Phaser → Bool
 state_fits s = rate_fits s.sample_rate && phase_fits s.lfo_phase
 
--- silent: all 24 numbers of the chains are +0 or −0, those of idle stages too
-unfoldable pub silence : Phaser → Bool
-silence s = (all_zero s.allpass_x1_l && all_zero s.allpass_x1_r) && (all_zero s.allpass_y1_l && all_zero s.allpass_y1_r)
+-- what the chains keep of the sound: all 24 numbers are +0 or −0, those of idle stages too
+unfoldable pub quiet : Phaser → Bool
+quiet s =
+    (are_zeros max_stages s.allpass_x1_l && are_zeros max_stages s.allpass_x1_r)
+    && (are_zeros max_stages s.allpass_y1_l && are_zeros max_stages s.allpass_y1_r)
 
 -- causes 5 and 6
 unfoldable pub tick_number : Tick → ℕ
@@ -129,7 +131,7 @@ phaser =
       retune_settings = λ none rate. rate;
       settings_number = λ rate. cond (rate_fits rate) 0 1;
       places = λ rate. 0;
-      InUse = λ rate p. p < 0;
+      parts = λ rate. [];
       tick_number = λ t rate. tick_number t;
       blank = blank;
       fresh = fresh;
@@ -137,5 +139,6 @@ phaser =
       next = λ t s m. next t s;
       writes = λ t s m. [];
       samples = λ t s m. samples t s;
-      silence = λ s m. silence s;
+      input = input;
+      quiet = quiet;
     }

@@ -8,7 +8,7 @@ ghost use Rattle.port.specs.Answer.{outcome_reply, silence_reply};
 ghost use Rattle.effect.specs.Run.{reset, ask};
 ghost use Rattle.effect.specs.Contract.{Does, Starts};
 ghost use Rattle.effect.specs.Needed.{places_needed};
-ghost use Rattle.phaser.specs.Phaser.{phaser, fresh, state_fits, silence};
+ghost use Rattle.phaser.specs.Phaser.{phaser, fresh, state_fits, quiet};
 
 mod allpass;
 mod tick;
@@ -114,8 +114,8 @@ impl Phaser {
     }
 
     // Whether all 24 numbers of the chains are +0 or -0.
-    fn chains_zero(self) -> bool
-        ensures { result ≡ silence self }
+    fn quiet(self) -> bool
+        ensures { result ≡ quiet self }
     {
         let x1_l = self.allpass_x1_l;
         let x1_r = self.allpass_x1_r;
@@ -133,7 +133,7 @@ impl Phaser {
         if !self.state_fits() {
             return Silence::Refused(Refusal::State);
         }
-        if self.chains_zero() {
+        if self.quiet() {
             Silence::Silent
         } else {
             Silence::Sounding

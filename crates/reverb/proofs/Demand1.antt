@@ -1,20 +1,23 @@
 -- Demand 1 (docs/DEMANDS.md) for the reverb, by the laws of its parts. Assumes nothing.
-use Rattle.std.proofs.Common.{◌≡◌, ℕ, zero, suc, ◌<◌, true, false, List, [], ◌∷◌, ◌++◌, refl, arith}
+use Rattle.std.proofs.Common.{◌≡◌, ℕ, zero, suc, ◌<◌, true, false, List, [], ◌∷◌, refl, arith}
 use lib.Ieee.{Float, le, of_int}
 use lib.Ieee as Ieee
 use Rattle.float64.specs.Number.{rate_fits, in_range}
 use Rattle.common.proofs.Ring.{next-lt}
-use Rattle.effect.specs.Effect.{Write}
+use Rattle.effect.specs.Effect.{Write, InUse}
+use Rattle.effect.specs.EachTick.{EachWrite}
 use Rattle.effect.specs.Demand1.{Demand1}
 use Rattle.effect.proofs.Table.{none_1}
 use Rattle.effect.proofs.Laws.{Laws, Within}
+use Rattle.effect.proofs.Memory.{each-append}
 use Rattle.effect.proofs.Demand1.{demand-1}
 use Rattle.reverb.specs.declared.tick.Controls.{Controls}
 use Rattle.reverb.specs.declared.Reverb.{Reverb}
 use Rattle.reverb.specs.Tunings.{Side, left, right, predelay_size, comb_most, allpass_most, comb_tunings, allpass_tunings, tuned}
-use Rattle.reverb.specs.Tank.{comb_start, allpass_start, tank_size, place_of, next_position, by_sides, combs_held, comb_write, allpasses_held, allpass_write, InUse, of-comb, of-allpass, of-predelay}
+use Rattle.reverb.specs.Tank.{comb_start, allpass_start, place_of, next_position, by_sides, combs_held, comb_write, allpasses_held, allpass_write}
 use Rattle.reverb.specs.Reverb.{reverb, combs, stores, allpasses, fresh, blank, state_fits, controls_of, damping, feedback, predelayed, summed, next, writes}
-use Rattle.reverb.proofs.Scaling.{lines-some, lines-most}
+use Rattle.reverb.proofs.Scaling.{lines-some}
+use Rattle.reverb.proofs.Used.{in_order, comb-used, pass-used, predelay-used}
 use Rattle.reverb.proofs.Lists.{next-below}
 use Rattle.reverb.proofs.Laws.{combs-in, allpasses-in, Fits, fits-parts, fit}
 use Rattle.reverb.proofs.Apart.{line-below}
@@ -57,45 +60,31 @@ next_fits c s m e =
 
 -- ---- writes
 
-module _ (P : ℕ → Type 0) where
-  within-append : (vs ws : List Write) → Within P vs → Within P ws → Within P (vs ++ ws)
-  within-append [] ws a b = b
-  within-append (v ∷ vs) ws a b = (a.0, within-append vs ws a.1 b)
+pub each-side : (P : Write → Type 0) (f : ℕ → Side → Write) (k : ℕ) → ((i : ℕ) → i < k → (side : Side) → P (f i side)) → EachWrite P (by_sides f k)
+unfolding by_sides
+each-side P f zero h = tt
+each-side P f (suc k) h =
+    each-append P (by_sides f k) (f k left ∷ f k right ∷ []) (each-side P f k (λ i l. h i (omega arith))) (h k (omega arith) left, (h k (omega arith) right, tt))
 
-  within-sides : (f : ℕ → Side → Write) (k : ℕ) → ((i : ℕ) → i < k → (side : Side) → P (f i side).place) → Within P (by_sides f k)
-  unfolding by_sides
-  within-sides f zero h = tt
-  within-sides f (suc k) h =
-      within-append (by_sides f k) (f k left ∷ f k right ∷ []) (within-sides f k (λ i l. h i (omega arith))) (h k (omega arith) left, (h k (omega arith) right, tt))
+-- the places of combs and all-passes are in use
+pub comb_in : (s : Reverb) → Fits s → (i : ℕ) → i < 8 → (side : Side) → InUse reverb s.sample_rate (place_of comb_start (combs s) side i)
+comb_in s f i h left = comb-used s.sample_rate left i _ h (line-below f.combs left i h).0
+comb_in s f i h right = comb-used s.sample_rate right i _ h (line-below f.combs right i h).0
 
-inside : (c : Controls) (s : Reverb) (m : List Float) → state_fits s ≡ true → Within (InUse s.sample_rate) (writes c s m)
+pub pass_in : (s : Reverb) → Fits s → (i : ℕ) → i < 4 → (side : Side) → InUse reverb s.sample_rate (place_of allpass_start (allpasses s) side i)
+pass_in s f i h left = pass-used s.sample_rate left i _ h (line-below f.allpasses left i h).0
+pass_in s f i h right = pass-used s.sample_rate right i _ h (line-below f.allpasses right i h).0
+
+inside : (c : Controls) (s : Reverb) (m : List Float) → state_fits s ≡ true → Within (InUse reverb s.sample_rate) (writes c s m)
 unfolding writes comb_write allpass_write
 inside c s m e =
-    let used = InUse s.sample_rate in
+    let f = fits-parts s e in
+    let used : Write → Type 0 = λ w. InUse reverb s.sample_rate w.place in
     let comb = comb_write (predelayed c s m) (damping c) (feedback c) (combs s) (stores s) (combs_held (combs s) m) in
     let pass = allpass_write (summed s m) (allpasses s) (allpasses_held (allpasses s) m) in (
-      of-predelay s.predelay_pos f.predelay,
-      within-append used (by_sides comb 8) (by_sides pass 4) (within-sides used comb 8 in-comb) (within-sides used pass 4 in-pass),
+      predelay-used s.sample_rate s.predelay_pos f.predelay,
+      each-append used (by_sides comb 8) (by_sides pass 4) (each-side used comb 8 (comb_in s f)) (each-side used pass 4 (pass_in s f)),
     )
-  where
-    f : Fits s
-    f = fits-parts s e
-
-    in-comb : (i : ℕ) → i < 8 → (side : Side) → InUse s.sample_rate (place_of comb_start (combs s) side i)
-    in-comb i h left = of-comb left i _ h (line-below f.combs left i h).0
-    in-comb i h right = of-comb right i _ h (line-below f.combs right i h).0
-
-    in-pass : (i : ℕ) → i < 4 → (side : Side) → InUse s.sample_rate (place_of allpass_start (allpasses s) side i)
-    in-pass i h left = of-allpass left i _ h (line-below f.allpasses left i h).0
-    in-pass i h right = of-allpass right i _ h (line-below f.allpasses right i h).0
-
--- the places in use at any rate lie in the tank
-used : (rate : Float) (p : ℕ) → InUse rate p → p < tank_size
-used rate p (of-comb left i w h l) = omega (arith, lines-most comb_most comb_tunings left rate i)
-used rate p (of-comb right i w h l) = omega (arith, lines-most comb_most comb_tunings right rate i)
-used rate p (of-allpass left i w h l) = omega (arith, lines-most allpass_most allpass_tunings left rate i)
-used rate p (of-allpass right i w h l) = omega (arith, lines-most allpass_most allpass_tunings right rate i)
-used rate p (of-predelay w l) = omega arith
 
 pub laws : Laws reverb
 unfolding next
@@ -109,7 +98,7 @@ laws =
       reset-fits = λ s e. fresh-fits s.sample_rate (fits-parts s e).rate;
       retuned-fits = λ k s e f. fresh-fits k (none_1 (rate_fits k) e);
       next_fits = λ t s m e r n. next_fits (controls_of t) s m e;
-      used = used;
+      in_order = in_order;
       inside = λ t s m e. inside (controls_of t) s m e;
     }
 

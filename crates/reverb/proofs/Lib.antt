@@ -4,4 +4,5 @@ pub mod Predelay
 pub mod Laws
 pub mod Apart
 pub mod Ticks
+pub mod Used
 pub mod Demand1

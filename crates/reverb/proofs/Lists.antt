@@ -4,7 +4,9 @@ use lib.Ieee.{Float}
 use Rattle.float64.proofs.Tests.{both, clash}
 use Rattle.common.specs.Line.{next_place, table, all_zero}
 use Rattle.common.proofs.Ring.{next-lt}
-use Rattle.reverb.specs.Tank.{all_below, lines_zero}
+use Rattle.common.proofs.Zeros.{zeros-append}
+use Rattle.effect.specs.Parts.{held_in}
+use Rattle.reverb.specs.Tank.{all_below, line_parts, lines_zero}
 
 -- ---- positions below their lengths
 
@@ -50,8 +52,10 @@ next-below (w ∷ ws) (n ∷ ns) e =
 
 pub zero_more : (o apart : ℕ) (ns : List ℕ) (m : List Float) (i : ℕ) → i < length ns
     → lines_zero o apart (drop i ns) m ≡ all_zero (take (get_or ns i 0) (drop o m)) && lines_zero (o + apart) apart (drop (i + 1) ns) m
-unfolding lines_zero
-zero_more o apart ns m i h = rw (drop-cons ns i 0 h, add-one i)
+unfolding line_parts held_in
+zero_more o apart ns m i h =
+    rw (drop-cons ns i 0 h, add-one i)
+    (zeros-append (take (get_or ns i 0) (drop o m)) (held_in (line_parts (o + apart) apart (drop (suc i) ns)) m))
 
 -- the room that is left for them
 pub room-more : (n i o apart size : ℕ) → i < n → o + (n - i) * apart ≤ size → o + apart + (n - (i + 1)) * apart ≤ size

@@ -7,12 +7,12 @@ use Rattle.port.specs.declared.Port.{Port}
 use Rattle.port.specs.Port.{value_or, is_nan_set}
 use Rattle.port.specs.Answer.{Reply, played}
 use Rattle.common.specs.Signal.{sanitized, blended}
-use Rattle.common.specs.Line.{zeros, next_place, table}
+use Rattle.common.specs.Line.{zeros, are_zeros, next_place, table}
 use Rattle.effect.specs.Effect.{Effect, Write, laid}
 use Rattle.reverb.specs.declared.tick.Controls.{Controls}
 use Rattle.reverb.specs.declared.Reverb.{Reverb}
 use Rattle.reverb.specs.Tunings.{Side, left, right, sided, predelay_size, lengths_at}
-use Rattle.reverb.specs.Tank.{SidedLines, comb_lines, allpass_lines, predelay_start, tank_size, positions_fit, next_position, by_sides, combs_held, sum_of, comb_stored, comb_write, allpasses_held, passed_on, allpass_write, delayed, InUse, silence}
+use Rattle.reverb.specs.Tank.{SidedLines, comb_lines, allpass_lines, predelay_start, tank_size, positions_fit, next_position, by_sides, combs_held, sum_of, comb_stored, comb_write, allpasses_held, passed_on, allpass_write, delayed, parts}
 
 -- what a tick is handed: its ports; no curve number
 pub record Tick : Type 0 where
@@ -64,6 +64,10 @@ unfoldable pub state_fits : Reverb → Bool
 state_fits s =
     rate_fits s.sample_rate
     && positions_fit s.comb_pos_l s.comb_pos_r s.allpass_pos_l s.allpass_pos_r s.predelay_pos (lengths_at s.sample_rate)
+
+-- what the damping stores keep of the sound: all sixteen are +0 or −0
+unfoldable pub quiet : Reverb → Bool
+quiet s = are_zeros 8 s.comb_filter_state_l && are_zeros 8 s.comb_filter_state_r
 
 -- cause 5; cause 6 never applies
 unfoldable pub tick_number : Tick → ℕ
@@ -166,7 +170,7 @@ reverb =
       retune_settings = λ rate old. rate;
       settings_number = λ rate. cond (rate_fits rate) 0 1;
       places = λ rate. tank_size;
-      InUse = InUse;
+      parts = λ rate. parts (lengths_at rate);
       tick_number = λ t rate. tick_number t;
       blank = blank;
       fresh = fresh;
@@ -174,5 +178,6 @@ reverb =
       next = λ t s m. next (controls_of t) s m;
       writes = λ t s m. writes (controls_of t) s m;
       samples = λ t s m. samples (controls_of t) s m;
-      silence = λ s m. silence (lengths_at s.sample_rate) m;
+      input = λ t. input (controls_of t);
+      quiet = quiet;
     }

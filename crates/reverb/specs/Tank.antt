@@ -1,15 +1,16 @@
--- The tank: eight left combs, eight right, four left all-passes, four right, and the predelay. What a step of its lines leaves and answers, and when they are
--- silent. Definitions only. Assumes nothing.
-use Rattle.std.specs.Prelude.{◌≡◌, ℕ, zero, suc, ◌+◌, ◌*◌, ◌<◌, Bool, true, false, cond, ◌&&◌, List, [], ◌∷◌, ◌++◌, length, get_or, take, drop, ◌==◌, nat_lt, slice_index, slice_index_or, Float}
+-- The tank: eight left combs, eight right, four left all-passes, four right, and the predelay. What a step of its lines leaves and answers, and which of its
+-- places are in use. Definitions only. Assumes nothing.
+use Rattle.std.specs.Prelude.{◌≡◌, ℕ, zero, suc, ◌+◌, ◌*◌, Bool, true, false, cond, ◌&&◌, List, [], ◌∷◌, ◌++◌, length, get_or, ◌==◌, nat_lt, slice_index, slice_index_or, Float}
 use Rattle.std.specs.Float.{nan, binary64}
 use Rattle.std.specs.Float.Ieee.{add}
 use Rattle.float64.specs.Number.{plus_zero}
 use Rattle.common.specs.Line.{next_place, line_at, table, all_zero}
+use Rattle.effect.specs.Parts.{Part, part, held_in}
 use Rattle.effect.specs.Effect.{Write, laid}
 use Rattle.reverb.specs.declared.tunings.Lengths.{Lengths}
 use Rattle.reverb.specs.declared.tank.Sides.{Sides}
 use Rattle.reverb.specs.Freeverb.{comb_store, comb_fed, pass_output, pass_fed}
-use Rattle.reverb.specs.Tunings.{Side, left, right, sided, comb_size, allpass_size, predelay_size, comb_lengths, allpass_lengths, Capped}
+use Rattle.reverb.specs.Tunings.{Side, left, right, sided, comb_size, allpass_size, predelay_size, Capped}
 
 -- ---- where comb i and all-pass i of a side start, and the predelay; the end
 
@@ -130,22 +131,20 @@ delayed o w d x m = cond (d == 0) x (line_at o predelay_size w m d)
 
 -- ---- the places in use: each line's first `length` places, and the whole predelay
 
-pub data InUse (rate : Float) : ℕ → Type 0 where
-  of-comb : (side : Side) (i w : ℕ) → i < 8 → w < slice_index (comb_lengths side rate) i → InUse rate (comb_start side i + w)
-  of-allpass : (side : Side) (i w : ℕ) → i < 4 → w < slice_index (allpass_lengths side rate) i → InUse rate (allpass_start side i + w)
-  of-predelay : (w : ℕ) → w < predelay_size → InUse rate (predelay_start + w)
+-- lines with these lengths that lie `apart` places from each other, the first from place o on
+unfoldable pub line_parts : ℕ → ℕ → List ℕ → List Part
+line_parts o apart [] = []
+line_parts o apart (n ∷ ns) = part o n ∷ line_parts (o + apart) apart ns
 
--- ---- silence: each line is zeros up to its length, and so is the whole predelay
-
--- of lines that lie `apart` places from each other, the first from place o on: each is zeros up to its length
-unfoldable pub lines_zero : ℕ → ℕ → List ℕ → List Float → Bool
-lines_zero o apart [] m = true
-lines_zero o apart (n ∷ ns) m = all_zero (take n (drop o m)) && lines_zero (o + apart) apart ns m
+-- they hold zeros
+abbrev pub lines_zero : ℕ → ℕ → List ℕ → List Float → Bool
+lines_zero o apart ns m = all_zero (held_in (line_parts o apart ns) m)
 
 -- of lines with the lengths n
-unfoldable pub silence : Lengths → List Float → Bool
-silence n m =
-    (((lines_zero (comb_start left 0) comb_size n.comb_l m && lines_zero (allpass_start left 0) allpass_size n.allpass_l m)
-    && lines_zero (comb_start right 0) comb_size n.comb_r m)
-    && lines_zero (allpass_start right 0) allpass_size n.allpass_r m)
-    && all_zero (take predelay_size (drop predelay_start m))
+unfoldable pub parts : Lengths → List Part
+parts n =
+    line_parts (comb_start left 0) comb_size n.comb_l
+    ++ (line_parts (comb_start right 0) comb_size n.comb_r
+    ++ (line_parts (allpass_start left 0) allpass_size n.allpass_l
+    ++ (line_parts (allpass_start right 0) allpass_size n.allpass_r
+    ++ (part predelay_start predelay_size ∷ []))))

@@ -10,7 +10,7 @@ ghost use Rattle.effect.specs.Contract.{Does, Starts};
 ghost use Rattle.effect.specs.Needed.{places_needed};
 ghost use Rattle.reverb.specs.Tunings.{lengths_for};
 ghost use Rattle.reverb.specs.Tank.{tank_size};
-ghost use Rattle.reverb.specs.Reverb.{reverb, fresh, state_fits};
+ghost use Rattle.reverb.specs.Reverb.{reverb, fresh, state_fits, quiet};
 
 mod filters;
 mod tank;
@@ -202,7 +202,16 @@ impl Reverb {
         Reverb::settled(outcome, self.sample_rate, self)
     }
 
-    // Silent? Whether every place in use is +0 or -0.
+    // Whether all sixteen damping stores are +0 or -0.
+    fn quiet(self) -> bool
+        ensures { result ≡ quiet self }
+    {
+        let left = self.comb_filter_state_l;
+        let right = self.comb_filter_state_r;
+        common::all_zero(&left) & common::all_zero(&right)
+    }
+
+    // Silent? Whether every damping store and every place in use is +0 or -0: a store alone would bring the sound back.
     pub fn silent(self, mem: &[f64]) -> Silence
         ensures { Does reverb ask self mem.now self mem.now (silence_reply result) }
     {
@@ -211,7 +220,7 @@ impl Reverb {
         if let Outcome::Refused(cause) = outcome {
             return Silence::Refused(cause);
         }
-        if tank::all_silent(n, mem) {
+        if self.quiet() && tank::places_zero(n, mem) {
             Silence::Silent
         } else {
             Silence::Sounding

@@ -1,8 +1,10 @@
 // The tank: eight left combs, eight right, four left all-passes, four right, and the predelay, in one lent memory; a step of its lines, and their tests.
 ghost use Rattle.std.specs.Prelude.{◌≡◌, ◌+◌, ◌*◌, ◌<◌, ◌≤◌};
 ghost use Rattle.std.proofs.Math.ListN as ListN;
+ghost use Rattle.common.specs.Line.{all_zero};
+ghost use Rattle.effect.specs.Parts.{held_in};
 ghost use Rattle.reverb.specs.Tunings.{comb_most, allpass_most, Capped, Roomy, sided};
-ghost use Rattle.reverb.specs.Tank.{tank_size, comb_lines, allpass_lines, all_below, positions_fit, InLines, CombsStep, AllpassesStep, lines_zero, silence};
+ghost use Rattle.reverb.specs.Tank.{tank_size, comb_lines, allpass_lines, all_below, positions_fit, InLines, CombsStep, AllpassesStep, lines_zero, parts};
 
 use crate::Reverb;
 use crate::filters::{allpass_at, comb_at};
@@ -154,20 +156,20 @@ fn lines_zero(mem: &[f64], o: usize, apart: usize, lengths: &[u16]) -> bool
 }
 
 // Whether every place in use is +0 or -0.
-pub fn all_silent(n: Lengths, mem: &[f64]) -> bool
+pub fn places_zero(n: Lengths, mem: &[f64]) -> bool
     requires roomy { Roomy n }
     requires tank_size_bound { tank_size ≤ ListN.length mem.now }
-    ensures { result ≡ silence n mem.now }
+    ensures { result ≡ all_zero (held_in (parts n) mem.now) }
 {
     let n0 = n.comb_l;
-    let n1 = n.allpass_l;
-    let n2 = n.comb_r;
+    let n1 = n.comb_r;
+    let n2 = n.allpass_l;
     let n3 = n.allpass_r;
     let o = Reverb::PREDELAY;
     let e = Reverb::END;
     lines_zero(mem, 0, Reverb::MAX_COMB_SIZE, &n0)
-        && lines_zero(mem, Reverb::ALLPASSES_L, Reverb::MAX_ALLPASS_SIZE, &n1)
-        && lines_zero(mem, Reverb::COMBS_R, Reverb::MAX_COMB_SIZE, &n2)
+        && lines_zero(mem, Reverb::COMBS_R, Reverb::MAX_COMB_SIZE, &n1)
+        && lines_zero(mem, Reverb::ALLPASSES_L, Reverb::MAX_ALLPASS_SIZE, &n2)
         && lines_zero(mem, Reverb::ALLPASSES_R, Reverb::MAX_ALLPASS_SIZE, &n3)
         && common::all_zero(&mem[o..e])
 }

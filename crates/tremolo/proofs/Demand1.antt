@@ -1,4 +1,5 @@
 -- Demand 1 (docs/DEMANDS.md) for the tremolo, by the laws of its parts. Assumes nothing.
+use native.Mathlib.Nat.{le_refl}
 use mathlib.Core.Path.{◌≡◌, refl}
 use mathlib.Core.Bool.{true, false, ◌&&◌}
 use lib.Ieee.{le, of_int}
@@ -32,7 +33,7 @@ laws =
       reset-fits = λ s e. reset-fits s.sample_rate s.lfo_phase e;
       retuned-fits = λ r s e f. absurd r;
       next_fits = λ t s m e r n. next_fits s.sample_rate s.lfo_phase t.frequency e (frequency-in t n);
-      used = λ k p h. h;
+      in_order = λ k. le_refl 0;
       inside = λ t s m e. tt;
     }
 

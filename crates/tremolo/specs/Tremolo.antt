@@ -1,6 +1,6 @@
 -- The tremolo: it has no line and is lent no memory, so cause 3 never applies, and it has no retune: a new rate means a new start.
 -- Definitions only. Assumes nothing.
-use Rattle.std.specs.Prelude.{ℕ, ◌<◌, Bool, true, ◌&&◌, ◌||◌, cond, List, [], ◌∷◌, Float}
+use Rattle.std.specs.Prelude.{ℕ, Bool, true, ◌&&◌, ◌||◌, cond, List, [], ◌∷◌, Float}
 use Rattle.std.specs.Float.{binary64}
 use Rattle.std.specs.Float.Ieee.{add, sub, mul, div}
 use Rattle.float64.specs.Number.{plus_zero, float_of, half, rate_fits, phase_fits, frequency_fits, sine_fits, clamp_of, absolute}
@@ -86,7 +86,7 @@ tremolo =
       retune_settings = λ none rate. rate;
       settings_number = λ rate. cond (rate_fits rate) 0 1;
       places = λ rate. 0;
-      InUse = λ rate p. p < 0;
+      parts = λ rate. [];
       tick_number = λ t rate. tick_number t;
       blank = blank;
       fresh = fresh;
@@ -94,5 +94,6 @@ tremolo =
       next = λ t s m. next t s;
       writes = λ t s m. [];
       samples = λ t s m. samples t s;
-      silence = λ s m. true;
+      input = input;
+      quiet = λ s. true;
     }

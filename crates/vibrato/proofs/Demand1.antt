@@ -7,6 +7,7 @@ use lib.Ieee as Ieee
 use Rattle.float64.specs.Number.{rate_fits, in_range}
 use Rattle.common.proofs.Phases.{zero-phase, phase-stays}
 use Rattle.common.proofs.Ring.{next-lt}
+use Rattle.effect.proofs.Parts.{first_in_order, within_first}
 use Rattle.effect.proofs.Table.{none_1}
 use Rattle.effect.proofs.Laws.{Laws, Below}
 use Rattle.effect.specs.Demand1.{Demand1}
@@ -53,8 +54,8 @@ laws =
       reset-fits = λ s f. fresh-fits s.sample_rate (fits-parts s f).rate;
       retuned-fits = λ k s e f. fresh-fits k (none_1 (rate_fits k) e);
       next_fits = λ t s m e r n. next_fits t s e n;
-      used = λ k p h. h;
-      inside = λ t s m e. inside t s e;
+      in_order = λ k. first_in_order (line_length k);
+      inside = λ t s m e. within_first (line_length s.sample_rate) (writes t s) (inside t s e);
     }
 
 pub shown : Demand1 vibrato

@@ -73,6 +73,7 @@ module _ (s : Vibrato) where
 
 pub record TickFits (t : Tick) : Type 0 where
   pub depth : is_nan_set t.depth ≡ false
+  pub mix : is_nan_set t.mix ≡ false
   pub frequency : frequency_fits t.frequency ≡ true
   pub sine : sine_fits t.sine ≡ true
 
@@ -81,7 +82,8 @@ unfolding tick_number
 tick-fits t e =
     let v = no-cause (is_nan_set t.depth || is_nan_set t.mix) (frequency_fits t.frequency && sine_fits t.sine) e in
     let a = both (frequency_fits t.frequency) (sine_fits t.sine) v.1 in
-    record { depth = (neither (is_nan_set t.depth) (is_nan_set t.mix) v.0).0; frequency = a.0; sine = a.1 }
+    let b = neither (is_nan_set t.depth) (is_nan_set t.mix) v.0 in
+    record { depth = b.0; mix = b.1; frequency = a.0; sine = a.1 }
 
 -- ---- the distance
 

@@ -1,12 +1,13 @@
 -- The vibrato: one line, read at a swept distance. Definitions only. Assumes nothing.
-use Rattle.std.specs.Prelude.{ℕ, ◌-◌, ◌<◌, Bool, ◌&&◌, ◌||◌, cond, List, [], ◌∷◌, ltb, take, Float}
+use Rattle.std.specs.Prelude.{ℕ, ◌-◌, Bool, true, ◌&&◌, ◌||◌, cond, List, [], ◌∷◌, ltb, Float}
 use Rattle.std.specs.Float.{binary64}
 use Rattle.std.specs.Float.Ieee.{add, mul, div}
 use Rattle.float64.specs.Number.{plus_zero, float_of, fraction, half, rate_fits, phase_fits, frequency_fits, sine_fits, clamp_of}
 use Rattle.port.specs.declared.Port.{Port}
 use Rattle.port.specs.Port.{value_or, is_nan_set}
 use Rattle.common.specs.Signal.{blended, advanced, cause_number}
-use Rattle.common.specs.Line.{swept_length, line_at, read_at, next_place, all_zero}
+use Rattle.common.specs.Line.{swept_length, line_at, read_at, next_place}
+use Rattle.effect.specs.Parts.{first_places}
 use Rattle.effect.specs.Effect.{Effect, Write}
 use Rattle.effect.specs.Lines.{Lines, in_each}
 use Rattle.vibrato.specs.declared.Vibrato.{Vibrato}
@@ -99,7 +100,7 @@ vibrato =
       retune_settings = λ rate old. rate;
       settings_number = λ rate. cond (rate_fits rate) 0 1;
       places = line_length;
-      InUse = λ k p. p < line_length k;
+      parts = λ rate. first_places (line_length rate);
       tick_number = λ t rate. tick_number t;
       blank = blank;
       fresh = fresh;
@@ -107,7 +108,8 @@ vibrato =
       next = λ t s m. next t s;
       writes = λ t s m. writes t s;
       samples = samples;
-      silence = λ s m. all_zero (take (line_length s.sample_rate) m);
+      input = input;
+      quiet = λ s. true;
     }
 
 -- ---- its line, for the recent pasts

@@ -2,7 +2,8 @@
 use Rattle.std.proofs.Common.{◌≡◌, ℕ, ◌+◌, ◌-◌, ◌<◌, Bool, ◌&&◌, List, length, get_or, take, drop, sym, ap, ◌∙◌, arith, drop_of_length-le}
 use lib.Ieee.{Float}
 use Rattle.common.specs.Line.{all_zero}
-use Rattle.reverb.specs.Tank.{lines_zero}
+use Rattle.effect.specs.Parts.{held_in}
+use Rattle.reverb.specs.Tank.{line_parts, lines_zero}
 use Rattle.reverb.proofs.Lists.{zero_more, room-more}
 use Rattle.reverb.proofs.tank.lines_zero.Goals as goal
 
@@ -34,7 +35,7 @@ loop-i-preserved c =
     )
 
 pub returns : goal.returns
-unfolding lines_zero
+unfolding line_parts held_in all_zero
 returns c =
     let l = c.loop-i in
     let a = c.args in

@@ -1,0 +1,55 @@
+-- A silent delay line stays silent: it reads zeros, and what it stores and plays is a zero then. Assumes nothing.
+use Rattle.std.proofs.Common.{◌≡◌, true, List, refl, arith}
+use lib.Ieee.{Float, binary64, mul, le}
+use lib.Ieee as Ieee
+use Rattle.float64.specs.Number.{plus_zero, half, is_number, is_zero}
+use Rattle.float64.proofs.Tests.{both-true}
+use Rattle.float64.proofs.Interval.{in-finite}
+use Rattle.float64.proofs.Clamped.{clamp-in}
+use Rattle.float64.proofs.Zeros.{Zero, zero-times, zero-plus}
+use Rattle.port.specs.Port.{value_or}
+use Rattle.common.specs.Line.{all_zero}
+use Rattle.common.proofs.Sweep.{control-in, value-number}
+use Rattle.common.proofs.Silent.{mix-zero}
+use Rattle.effect.specs.EachTick.{EachWritten}
+use Rattle.effect.specs.Lamp.{Lamp}
+use Rattle.effect.proofs.Parts.{first-read}
+use Rattle.effect.proofs.LampLaws.{SilentTick, LampLaws}
+use Rattle.effect.proofs.Lamp.{lamp-rule}
+use Rattle.delay_line.specs.declared.DelayLine.{DelayLine}
+use Rattle.delay_line.specs.DelayLine.{Tick, delay_line, line_length, input, feedback, distance, delayed_by, delayed, writes, samples}
+use Rattle.delay_line.proofs.Laws.{fits-parts, length-fits, tick-fits, distance-in}
+use Rattle.delay_line.proofs.Demand1.{laws}
+
+module _ (t : Tick) (s : DelayLine) (m : List Float) (u : SilentTick delay_line t s m) where
+  heard : Zero (delayed t s m)
+  unfolding delayed delayed_by distance
+  heard =
+      let f = fits-parts s u.state_fits in
+      let L = line_length s.sample_rate s.max_delay_secs in
+      let long = length-fits s.sample_rate s.max_delay_secs f.rate f.maximum in
+      first-read L 0 L s.write_pos m (distance t s) u.enough u.zeros (omega arith) f.inside (omega (arith, long.1)) (distance-in t s f (tick-fits t s.linear_time u.number))
+
+  answers : all_zero (samples t s m) ≡ true
+  unfolding samples all_zero is_number Ieee.fits Ieee.is_nan Ieee.round
+  answers =
+      both-true (mix-zero (input t) (delayed t s m) u.audio heard (control-in t.mix half (tick-fits t s.linear_time u.number).mix refl)) refl
+
+  written : EachWritten (λ x. is_zero x ≡ true) (writes t s m)
+  unfolding writes is_number le Ieee.fits Ieee.is_nan Ieee.round
+  written =
+      let back = clamp-in (value_or t.feedback plus_zero) tt tt (value-number t.feedback plus_zero (tick-fits t s.linear_time u.number).feedback refl) in
+      (zero-plus (input t) (mul binary64 (delayed t s m) (feedback t)) u.audio (zero-times (delayed t s m) (feedback t) heard (in-finite back)), tt)
+
+lamp-laws : LampLaws delay_line
+lamp-laws =
+    record {
+      fresh-quiet = λ k. refl;
+      retuned-quiet = λ k s. refl;
+      answers = answers;
+      writes = written;
+      next-quiet = λ t s m u. refl;
+    }
+
+pub lamp : Lamp delay_line
+lamp = lamp-rule delay_line laws lamp-laws

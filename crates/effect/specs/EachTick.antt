@@ -1,0 +1,25 @@
+-- What every accepted tick among some calls meets, and what every value that it writes. Definitions only. Assumes nothing.
+use Rattle.std.specs.Prelude.{◌≡◌, List, [], ◌∷◌, Float}
+use Rattle.effect.specs.Effect.{Effect, Write}
+use Rattle.effect.specs.Run.{tick, retune, reset, ask, CallOf, Device, number_at, step}
+
+-- every write has the property P; every value written has it
+abbrev pub EachWrite : (Write → Type 0) → List Write → Type 0
+EachWrite P [] = Unit {0}
+EachWrite P (w ∷ ws) = P w × EachWrite P ws
+
+abbrev pub EachWritten : (Float → Type 0) → List Write → Type 0
+EachWritten P ws = EachWrite (λ w. P w.value) ws
+
+module _ (E : Effect) where
+  -- a tick meets the condition C; of another call nothing is asked
+  abbrev pub Meets : (E.Tick → Type 0) → CallOf E → Type 0
+  Meets C (tick t) = C t
+  Meets C (retune r) = Unit {0}
+  Meets C reset = Unit {0}
+  Meets C ask = Unit {0}
+
+  -- Every accepted tick among the calls, from the unit h on, meets C. Retunes, resets, questions and refused calls may stand anywhere.
+  abbrev pub EachTick : (E.Tick → Type 0) → List (CallOf E) → Device E.State → Type 0
+  EachTick C [] h = Unit {0}
+  EachTick C (c ∷ cs) h = (number_at E c h ≡ 0 → Meets C c) × EachTick C cs (step E c h)

@@ -1,0 +1,43 @@
+-- A silent vibrato stays silent: a read of zeros is a zero, and so is a blend of zeros. Assumes nothing.
+use Rattle.std.proofs.Common.{◌≡◌, true, List, refl, arith}
+use lib.Ieee.{Float, of_int}
+use lib.Ieee as Ieee
+use Rattle.float64.specs.Number.{float_of, half, is_number}
+use Rattle.float64.proofs.Tests.{both-true}
+use Rattle.common.specs.Line.{all_zero}
+use Rattle.common.proofs.Sweep.{control-in}
+use Rattle.common.proofs.Silent.{mix-zero}
+use Rattle.effect.specs.Lamp.{Lamp}
+use Rattle.effect.proofs.Parts.{first-read}
+use Rattle.effect.proofs.LampLaws.{SilentTick, LampLaws}
+use Rattle.effect.proofs.Lamp.{lamp-rule}
+use Rattle.vibrato.specs.declared.Vibrato.{Vibrato}
+use Rattle.vibrato.specs.Vibrato.{Tick, vibrato, line_length, input, depth, distance, delayed, writes, samples}
+use Rattle.vibrato.proofs.Laws.{fits-parts, length-fits, tick-fits, distance-in}
+use Rattle.vibrato.proofs.Demand1.{laws}
+
+answers : (t : Tick) (s : Vibrato) (m : List Float) → SilentTick vibrato t s m → all_zero (samples t s m) ≡ true
+unfolding samples delayed all_zero is_number Ieee.fits Ieee.is_nan of_int Ieee.round
+answers t s m u =
+    let rate = s.sample_rate in
+    let L = line_length rate in
+    let f = fits-parts s u.state_fits in
+    let k = tick-fits t u.number in
+    let long = length-fits rate f.rate in
+    let far = distance-in rate (depth t) t.sine f.rate (control-in t.depth half k.depth refl) k.sine in
+    let read = first-read L 0 L s.write_pos m (distance rate (depth t) t.sine) u.enough u.zeros (omega arith) f.inside (omega (arith, long.1)) far in
+    both-true (mix-zero (input t) (delayed t s m) u.audio read (control-in t.mix (float_of 1) k.mix refl)) refl
+
+lamp-laws : LampLaws vibrato
+unfolding writes
+lamp-laws =
+    record {
+      fresh-quiet = λ k. refl;
+      retuned-quiet = λ k s. refl;
+      answers = answers;
+      writes = λ t s m u. (u.audio, tt);
+      next-quiet = λ t s m u. refl;
+    }
+
+pub lamp : Lamp vibrato
+lamp = lamp-rule vibrato laws lamp-laws
