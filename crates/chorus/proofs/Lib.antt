@@ -2,4 +2,4 @@ pub mod Laws
 pub mod Demand1
 pub mod Demand3
 pub mod Three
-pub mod Lamp
+pub mod StaysSilent

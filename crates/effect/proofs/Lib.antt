@@ -14,5 +14,5 @@ pub mod Past
 pub mod Later
 pub mod Demand3
 pub mod Covers
-pub mod LampLaws
-pub mod Lamp
+pub mod SilentLaws
+pub mod StaysSilent

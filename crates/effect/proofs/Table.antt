@@ -39,6 +39,10 @@ none-1-2 true true e = (refl, refl)
 none-1-2 true false e = absurd (omega arith)
 none-1-2 false coefficient e = absurd (omega arith)
 
+pub none_5 : (applies : Bool) → ◌≡◌ {A = ℕ} (cond applies 5 0) 0 → applies ≡ false
+none_5 true e = absurd (omega arith)
+none_5 false e = refl
+
 pub none-5-6 : (applies passes : Bool) → ◌≡◌ {A = ℕ} (cond applies 5 (cond passes 0 6)) 0 → passes ≡ true
 none-5-6 true passes e = absurd (omega arith)
 none-5-6 false true e = refl

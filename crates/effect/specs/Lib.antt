@@ -11,4 +11,4 @@ pub mod Later
 pub mod Demand3
 pub mod Covers
 pub mod EachTick
-pub mod Lamp
+pub mod StaysSilent

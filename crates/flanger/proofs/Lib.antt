@@ -1,3 +1,3 @@
 pub mod Laws
 pub mod Demand1
-pub mod Lamp
+pub mod StaysSilent

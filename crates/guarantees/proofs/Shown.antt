@@ -1,29 +1,44 @@
 -- The statements of specs/, each by what its effects show. Assumes nothing.
-use Rattle.std.proofs.Common.{ℕ, zero, suc, ◌≤◌, refl, sym}
+use Rattle.std.proofs.Common.{◌≡◌, ◌↔◌, ℕ, zero, suc, ◌≤◌, Bool, true, refl, sym, ◌∙◌}
+use mathlib.Core.Bool.{or-false}
+use lib.Ieee.{nan, inf, fin, eq}
+use Rattle.float64.specs.Number.{plus_zero, is_zero}
 use Rattle.float64.proofs.Ranges.{yes, finite-parts}
 use Rattle.float64.proofs.Fields as fields
+use Rattle.port.specs.declared.Port.{Port}
+use Rattle.port.specs.declared.Port.TheVariants.{Set, Unset}
+use Rattle.port.specs.Port.{value_or}
+use Rattle.common.specs.Signal.{sanitized}
 use Rattle.effect.specs.Run.{tick, Device, if_none, number_at, changed}
 use Rattle.effect.proofs.Covers.{covers}
 use Rattle.delay_line.proofs.Demand1 as delay1
+use Rattle.delay_line.proofs.StaysSilent as delay-silent
 use Rattle.chorus.specs.Chorus.{chorus}
 use Rattle.chorus.proofs.Demand1 as chorus1
+use Rattle.chorus.proofs.StaysSilent as chorus-silent
 use Rattle.chorus.proofs.Demand3 as chorus3
 use Rattle.chorus.proofs.Three as three
 use Rattle.flanger.proofs.Demand1 as flanger1
+use Rattle.flanger.proofs.StaysSilent as flanger-silent
 use Rattle.vibrato.specs.Vibrato.{vibrato}
 use Rattle.vibrato.proofs.Demand1 as vibrato1
+use Rattle.vibrato.proofs.StaysSilent as vibrato-silent
 use Rattle.vibrato.proofs.Demand3 as vibrato3
 use Rattle.tremolo.proofs.Demand1 as tremolo1
+use Rattle.tremolo.proofs.StaysSilent as tremolo-silent
 use Rattle.reverb.proofs.Demand1 as reverb1
+use Rattle.reverb.proofs.StaysSilent as reverb-silent
 use Rattle.phaser.specs.declared.Phaser.{Phaser}
 use Rattle.phaser.specs.Phaser.{phaser, Tick, stages, next, chain_after}
 use Rattle.phaser.proofs.Demand1 as phaser1
+use Rattle.phaser.proofs.StaysSilent as phaser-silent
 use Rattle.phaser.proofs.Idle.{x1-kept, y1-kept}
 use Rattle.guarantees.specs.CleanMemory.{CleanMemory}
 use Rattle.guarantees.specs.RecentPasts.{RecentPasts}
 use Rattle.guarantees.specs.WholePart.{WholePart}
 use Rattle.guarantees.specs.OneLine.{OneLine}
 use Rattle.guarantees.specs.IdleStages.{SameStage, IdleStages}
+use Rattle.guarantees.specs.Lamp.{zero_port, zero_under_rule, Lamp}
 
 pub clean-memory : CleanMemory
 clean-memory =
@@ -79,3 +94,33 @@ stages-kept t u i h (suc k) = record { x1_l = λ none. refl; x1_r = λ none. ref
 
 pub idle_stages : IdleStages
 idle_stages = record { kept = λ t u i h. stages-kept t u i h (number_at phaser (tick t) u) }
+
+-- ---- zero audio, as it is and under the input rule
+
+as-it-is : (p : Port) → is_zero (value_or p plus_zero) ≡ zero_port p
+unfolding eq
+as-it-is Unset = refl
+as-it-is (Set x) = refl
+
+under-rule : (p : Port) → is_zero (sanitized (value_or p plus_zero)) ≡ zero_under_rule p
+unfolding eq
+under-rule Unset = refl
+under-rule (Set nan) = refl
+under-rule (Set (inf s)) = refl
+under-rule (Set (fin s m e)) = sym (or-false (is_zero (fin s m e)))
+
+-- a test that is another's answer passes where the other does
+alike : {a b : Bool} → a ≡ b → (a ≡ true) ↔ (b ≡ true)
+alike e = ((λ p. sym e ∙ p), (λ q. e ∙ q))
+
+pub lamp : Lamp
+lamp =
+    record {
+      delay-lines = record { audio_is = λ t. alike (under-rule t.audio); stays = delay-silent.shown };
+      choruses = record { audio_is = λ t. alike (under-rule t.audio); stays = chorus-silent.shown };
+      flangers = record { audio_is = λ t. alike (under-rule t.audio); stays = flanger-silent.shown };
+      vibratos = record { audio_is = λ t. alike (as-it-is t.audio); stays = vibrato-silent.shown };
+      tremolos = record { audio_is = λ t. alike (as-it-is t.audio); stays = tremolo-silent.shown };
+      reverbs = record { audio_is = λ t. alike (under-rule t.audio); stays = reverb-silent.shown };
+      phasers = record { audio_is = λ t. alike (under-rule t.audio); stays = phaser-silent.shown };
+    }

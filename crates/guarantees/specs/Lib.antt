@@ -5,3 +5,4 @@ pub mod PlacesNeeded
 pub mod WholePart
 pub mod OneLine
 pub mod IdleStages
+pub mod Lamp

@@ -9,6 +9,7 @@ ghost use Rattle.guarantees.specs.Starred.{Starred};
 ghost use Rattle.guarantees.specs.WholePart.{WholePart};
 ghost use Rattle.guarantees.specs.OneLine.{OneLine};
 ghost use Rattle.guarantees.specs.IdleStages.{IdleStages};
+ghost use Rattle.guarantees.specs.Lamp.{Lamp};
 
 // Lent memory holds only what accepted calls put there, over whole runs of each effect.
 pub fn clean_memory()
@@ -43,4 +44,9 @@ pub fn one_line()
 // A phaser's stages that do not run keep what they hold.
 pub fn idle_stages()
     ensures { IdleStages }
+{}
+
+// A silent unit of any effect, given zero audio, answers zeros and stays silent.
+pub fn lamp()
+    ensures { Lamp }
 {}

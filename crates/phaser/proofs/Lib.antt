@@ -1,4 +1,4 @@
 pub mod Laws
 pub mod Idle
 pub mod Demand1
-pub mod Lamp
+pub mod StaysSilent

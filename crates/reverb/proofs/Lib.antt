@@ -6,3 +6,4 @@ pub mod Apart
 pub mod Ticks
 pub mod Used
 pub mod Demand1
+pub mod StaysSilent

@@ -1,4 +1,4 @@
 pub mod Laws
 pub mod Demand1
 pub mod Demand3
-pub mod Lamp
+pub mod StaysSilent

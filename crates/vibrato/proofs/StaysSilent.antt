@@ -7,10 +7,10 @@ use Rattle.float64.proofs.Tests.{both-true}
 use Rattle.common.specs.Line.{all_zero}
 use Rattle.common.proofs.Sweep.{control-in}
 use Rattle.common.proofs.Silent.{mix-zero}
-use Rattle.effect.specs.Lamp.{Lamp}
+use Rattle.effect.specs.StaysSilent.{StaysSilent}
 use Rattle.effect.proofs.Parts.{first-read}
-use Rattle.effect.proofs.LampLaws.{SilentTick, LampLaws}
-use Rattle.effect.proofs.Lamp.{lamp-rule}
+use Rattle.effect.proofs.SilentLaws.{SilentTick, SilentLaws}
+use Rattle.effect.proofs.StaysSilent.{stays-silent}
 use Rattle.vibrato.specs.declared.Vibrato.{Vibrato}
 use Rattle.vibrato.specs.Vibrato.{Tick, vibrato, line_length, input, depth, distance, delayed, writes, samples}
 use Rattle.vibrato.proofs.Laws.{fits-parts, length-fits, tick-fits, distance-in}
@@ -28,9 +28,9 @@ answers t s m u =
     let read = first-read L 0 L s.write_pos m (distance rate (depth t) t.sine) u.enough u.zeros (omega arith) f.inside (omega (arith, long.1)) far in
     both-true (mix-zero (input t) (delayed t s m) u.audio read (control-in t.mix (float_of 1) k.mix refl)) refl
 
-lamp-laws : LampLaws vibrato
+silent-laws : SilentLaws vibrato
 unfolding writes
-lamp-laws =
+silent-laws =
     record {
       fresh-quiet = λ k. refl;
       retuned-quiet = λ k s. refl;
@@ -39,5 +39,5 @@ lamp-laws =
       next-quiet = λ t s m u. refl;
     }
 
-pub lamp : Lamp vibrato
-lamp = lamp-rule vibrato laws lamp-laws
+pub shown : StaysSilent vibrato
+shown = stays-silent vibrato laws silent-laws

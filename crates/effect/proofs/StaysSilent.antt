@@ -9,9 +9,9 @@ use Rattle.effect.specs.Parts.{held_in}
 use Rattle.effect.specs.Effect.{Effect, InUse, laid}
 use Rattle.effect.specs.Run.{tick, retune, reset, ask, CallOf, Device, if_none, number_at, is_silent, changed, says, step, reply, after, replies}
 use Rattle.effect.specs.EachTick.{Meets, EachTick}
-use Rattle.effect.specs.Lamp.{soundless, all_soundless, ZeroAudio, WhenSilent, Lamp}
+use Rattle.effect.specs.StaysSilent.{soundless, all_soundless, ZeroAudio, WhenSilent, StaysSilent}
 use Rattle.effect.proofs.Laws.{Laws}
-use Rattle.effect.proofs.LampLaws.{SilentTick, LampLaws}
+use Rattle.effect.proofs.SilentLaws.{SilentTick, SilentLaws}
 use Rattle.effect.proofs.Parts.{cleared, zero_in, zeros_by, zeros-laid}
 use Rattle.effect.proofs.Table.{accepted, tick-accepted}
 
@@ -27,7 +27,7 @@ module _ (E : Effect) where
       let p = halves h d in
       record { state_fits = a.state_fits; enough = row.enough; number = row.number; audio = z; quiet = p.0; zeros = p.1 }
 
-module _ (E : Effect) (laws : Laws E) (lamp : LampLaws E) where
+module _ (E : Effect) (laws : Laws E) (silent : SilentLaws E) where
   means : (h : Device E.State) → E.places (E.settings h.state) ≤ length h.memory
       → (is_silent E h ≡ true) ↔ ((E.quiet h.state ≡ true) × ((p : ℕ) → InUse E (E.settings h.state) p → is_zero (get_or h.memory p nan) ≡ true))
   means h l =
@@ -42,17 +42,17 @@ module _ (E : Effect) (laws : Laws E) (lamp : LampLaws E) where
       let s = h.state in
       let m = h.memory in
       let u = silent-tick E t h e z d in
-      let zeros = zeros-laid (E.parts (E.settings s)) (E.writes t s m) m (lamp.writes t s m u) u.zeros in
-      both-true (lamp.next-quiet t s m u) (ap (λ (k : E.Settings). all_zero (held_in (E.parts k) (laid (E.writes t s m) m))) (laws.next-settings t s m) ∙ zeros)
+      let zeros = zeros-laid (E.parts (E.settings s)) (E.writes t s m) m (silent.writes t s m u) u.zeros in
+      both-true (silent.next-quiet t s m u) (ap (λ (k : E.Settings). all_zero (held_in (E.parts k) (laid (E.writes t s m) m))) (laws.next-settings t s m) ∙ zeros)
   stays (retune r) h e z d =
       let k = E.retune_settings r (E.settings h.state) in
-      both-true (lamp.retuned-quiet k h.state) (cleared (E.parts (E.settings (E.retuned k h.state))) (length h.memory))
-  stays reset h e z d = let k = E.settings h.state in both-true (lamp.fresh-quiet k) (cleared (E.parts (E.settings (E.fresh k))) (length h.memory))
+      both-true (silent.retuned-quiet k h.state) (cleared (E.parts (E.settings (E.retuned k h.state))) (length h.memory))
+  stays reset h e z d = let k = E.settings h.state in both-true (silent.fresh-quiet k) (cleared (E.parts (E.settings (E.fresh k))) (length h.memory))
   stays ask h e z d = d
 
   -- and nothing sounds in what it answers
   answers : (c : CallOf E) (h : Device E.State) → number_at E c h ≡ 0 → Meets E (ZeroAudio E) c → is_silent E h ≡ true → soundless (says E c h) ≡ true
-  answers (tick t) h e z d = lamp.answers t h.state h.memory (silent-tick E t h e z d)
+  answers (tick t) h e z d = silent.answers t h.state h.memory (silent-tick E t h e z d)
   answers (retune r) h e z d = refl
   answers reset h e z d = refl
   answers ask h e z d = d
@@ -79,11 +79,11 @@ module _ (E : Effect) (laws : Laws E) (lamp : LampLaws E) where
   goes-on (c ∷ cs) h z d =
       let rest = goes-on cs (step E c h) z.1 (step-stays c h z.0 d) in (both-true (reply-soundless c h z.0 d) rest.0, rest.1)
 
-  pub lamp-rule : Lamp E
-  lamp-rule =
+  pub stays-silent : StaysSilent E
+  stays-silent =
       record {
         means = means;
-        answers = λ t h e z d. (rw e, lamp.answers t h.state h.memory (silent-tick E t h e z d));
+        answers = λ t h e z d. (rw e, silent.answers t h.state h.memory (silent-tick E t h e z d));
         stays = λ t h e z d. step-stays (tick t) h (λ f. z) d;
         goes-on = goes-on;
       }

@@ -14,10 +14,10 @@ use Rattle.common.specs.Line.{all_zero}
 use Rattle.common.proofs.Sweep.{control-in, value-number}
 use Rattle.common.proofs.Silent.{mix-zero}
 use Rattle.effect.specs.EachTick.{EachWritten}
-use Rattle.effect.specs.Lamp.{Lamp}
+use Rattle.effect.specs.StaysSilent.{StaysSilent}
 use Rattle.effect.proofs.Parts.{first-read}
-use Rattle.effect.proofs.LampLaws.{SilentTick, LampLaws}
-use Rattle.effect.proofs.Lamp.{lamp-rule}
+use Rattle.effect.proofs.SilentLaws.{SilentTick, SilentLaws}
+use Rattle.effect.proofs.StaysSilent.{stays-silent}
 use Rattle.flanger.specs.declared.Flanger.{Flanger}
 use Rattle.flanger.specs.Flanger.{Tick, flanger, line_length, places, input, depth, feedback, mix, distance, tap, fed, writes, samples}
 use Rattle.flanger.proofs.Laws.{fits-parts, length-fits, tick-fits, distance-in}
@@ -59,8 +59,8 @@ module _ (t : Tick) (s : Flanger) (m : List Float) (u : SilentTick flanger t s m
   unfolding writes
   written = (stores _ left, (stores _ right, tt))
 
-lamp-laws : LampLaws flanger
-lamp-laws =
+silent-laws : SilentLaws flanger
+silent-laws =
     record {
       fresh-quiet = λ k. refl;
       retuned-quiet = λ k s. refl;
@@ -69,5 +69,5 @@ lamp-laws =
       next-quiet = λ t s m u. refl;
     }
 
-pub lamp : Lamp flanger
-lamp = lamp-rule flanger laws lamp-laws
+pub shown : StaysSilent flanger
+shown = stays-silent flanger laws silent-laws

@@ -12,10 +12,10 @@ use Rattle.common.specs.Line.{all_zero}
 use Rattle.common.proofs.Sweep.{control-in, value-number}
 use Rattle.common.proofs.Silent.{mix-zero}
 use Rattle.effect.specs.EachTick.{EachWritten}
-use Rattle.effect.specs.Lamp.{Lamp}
+use Rattle.effect.specs.StaysSilent.{StaysSilent}
 use Rattle.effect.proofs.Parts.{first-read}
-use Rattle.effect.proofs.LampLaws.{SilentTick, LampLaws}
-use Rattle.effect.proofs.Lamp.{lamp-rule}
+use Rattle.effect.proofs.SilentLaws.{SilentTick, SilentLaws}
+use Rattle.effect.proofs.StaysSilent.{stays-silent}
 use Rattle.delay_line.specs.declared.DelayLine.{DelayLine}
 use Rattle.delay_line.specs.DelayLine.{Tick, delay_line, line_length, input, feedback, distance, delayed_by, delayed, writes, samples}
 use Rattle.delay_line.proofs.Laws.{fits-parts, length-fits, tick-fits, distance-in}
@@ -41,8 +41,8 @@ module _ (t : Tick) (s : DelayLine) (m : List Float) (u : SilentTick delay_line 
       let back = clamp-in (value_or t.feedback plus_zero) tt tt (value-number t.feedback plus_zero (tick-fits t s.linear_time u.number).feedback refl) in
       (zero-plus (input t) (mul binary64 (delayed t s m) (feedback t)) u.audio (zero-times (delayed t s m) (feedback t) heard (in-finite back)), tt)
 
-lamp-laws : LampLaws delay_line
-lamp-laws =
+silent-laws : SilentLaws delay_line
+silent-laws =
     record {
       fresh-quiet = λ k. refl;
       retuned-quiet = λ k s. refl;
@@ -51,5 +51,5 @@ lamp-laws =
       next-quiet = λ t s m u. refl;
     }
 
-pub lamp : Lamp delay_line
-lamp = lamp-rule delay_line laws lamp-laws
+pub shown : StaysSilent delay_line
+shown = stays-silent delay_line laws silent-laws

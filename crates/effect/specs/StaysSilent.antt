@@ -28,7 +28,7 @@ ZeroAudio E t = is_zero (E.input t) ≡ true
 abbrev pub WhenSilent : (E : Effect) → (E.Tick → Device E.State → Type 0) → Type 0
 WhenSilent E P = (t : E.Tick) (h : Device E.State) → number_at E (tick t) h ≡ 0 → ZeroAudio E t → is_silent E h ≡ true → P t h
 
-pub record Lamp (E : Effect) : Type 0 where
+pub record StaysSilent (E : Effect) : Type 0 where
   -- where the memory has the places, silent says: what the state keeps of the sound is quiet, and every place in use is +0 or −0
   pub means : (h : Device E.State) → E.places (E.settings h.state) ≤ length h.memory
       → (is_silent E h ≡ true)

@@ -12,9 +12,9 @@ use Rattle.float64.proofs.Zeros.{zero-times}
 use Rattle.port.specs.Port.{is_nan_set}
 use Rattle.common.specs.Line.{all_zero}
 use Rattle.common.proofs.Sweep.{no-cause, neither, control-in}
-use Rattle.effect.specs.Lamp.{Lamp}
-use Rattle.effect.proofs.LampLaws.{SilentTick, LampLaws}
-use Rattle.effect.proofs.Lamp.{lamp-rule}
+use Rattle.effect.specs.StaysSilent.{StaysSilent}
+use Rattle.effect.proofs.SilentLaws.{SilentTick, SilentLaws}
+use Rattle.effect.proofs.StaysSilent.{stays-silent}
 use Rattle.tremolo.specs.declared.Tremolo.{Tremolo}
 use Rattle.tremolo.specs.Tremolo.{Tick, tremolo, state_fits, tick_number, input, depth, shape, triangle, lfo, modulated, samples}
 use Rattle.tremolo.proofs.Demand1.{laws}
@@ -73,8 +73,8 @@ module _ (t : Tick) (s : Tremolo) (m : List Float) (u : SilentTick tremolo t s m
       let factor = sub_in (neg (float_of 1)) (float_of 2) tt (point (float_of 1) tt) (subst (λ (y : Float). In binary64 (neg (float_of 1)) (float_of 2) y) (mul-turned binary64 (sub binary64 (float_of 1) l) (mul binary64 (depth t) half)) swing) in
       both-true (zero-times (input t) _ u.audio (in-finite factor)) refl
 
-lamp-laws : LampLaws tremolo
-lamp-laws =
+silent-laws : SilentLaws tremolo
+silent-laws =
     record {
       fresh-quiet = λ k. refl;
       retuned-quiet = λ k s. refl;
@@ -83,5 +83,5 @@ lamp-laws =
       next-quiet = λ t s m u. refl;
     }
 
-pub lamp : Lamp tremolo
-lamp = lamp-rule tremolo laws lamp-laws
+pub shown : StaysSilent tremolo
+shown = stays-silent tremolo laws silent-laws

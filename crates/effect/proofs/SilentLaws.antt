@@ -16,7 +16,7 @@ pub record SilentTick (E : Effect) (t : E.Tick) (s : E.State) (m : List Float) :
   pub quiet : E.quiet s ≡ true
   pub zeros : all_zero (held_in (E.parts (E.settings s)) m) ≡ true
 
-pub record LampLaws (E : Effect) : Type 0 where
+pub record SilentLaws (E : Effect) : Type 0 where
   -- a clearing leaves a quiet state
   pub fresh-quiet : (k : E.Settings) → E.quiet (E.fresh k) ≡ true
   pub retuned-quiet : (k : E.Settings) (s : E.State) → E.quiet (E.retuned k s) ≡ true

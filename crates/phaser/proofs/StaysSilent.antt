@@ -14,9 +14,9 @@ use Rattle.common.specs.Line.{all_zero, are_zeros}
 use Rattle.common.proofs.Zeros.{zero-at, zero-put}
 use Rattle.common.proofs.Sweep.{no-cause, neither, control-in, value-number}
 use Rattle.common.proofs.Silent.{mix-zero}
-use Rattle.effect.specs.Lamp.{Lamp}
-use Rattle.effect.proofs.LampLaws.{SilentTick, LampLaws}
-use Rattle.effect.proofs.Lamp.{lamp-rule}
+use Rattle.effect.specs.StaysSilent.{StaysSilent}
+use Rattle.effect.proofs.SilentLaws.{SilentTick, SilentLaws}
+use Rattle.effect.proofs.StaysSilent.{stays-silent}
 use Rattle.phaser.specs.declared.Phaser.{Phaser}
 use Rattle.phaser.specs.Allpass.{Chain, chain_of, allpassed, stage, passed}
 use Rattle.phaser.specs.Phaser.{Tick, phaser, max_stages, fresh, quiet, tick_number, input, feedback, mix, stages, stages_at, fed, chain_after, left, right, next, samples}
@@ -142,8 +142,8 @@ fresh-quiet : (rate : Float) → quiet (fresh rate) ≡ true
 unfolding quiet all_zero eq
 fresh-quiet rate = refl
 
-lamp-laws : LampLaws phaser
-lamp-laws =
+silent-laws : SilentLaws phaser
+silent-laws =
     record {
       fresh-quiet = fresh-quiet;
       retuned-quiet = λ rate s. fresh-quiet rate;
@@ -152,5 +152,5 @@ lamp-laws =
       next-quiet = next-quiet;
     }
 
-pub lamp : Lamp phaser
-lamp = lamp-rule phaser laws lamp-laws
+pub shown : StaysSilent phaser
+shown = stays-silent phaser laws silent-laws
