@@ -12,6 +12,12 @@
 /* A test, passed where it is good. */
 void check(int good, const char *what, unsigned number);
 
+/* What the tests from here on are of: a failure says it. */
+void now_testing(const char *name);
+
+/* The last line, `N passed, M failed`, and the exit status. */
+int say_counts(void);
+
 uint64_t bits(double x);
 double of_bits(uint64_t u);
 
