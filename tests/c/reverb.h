@@ -1,38 +1,12 @@
-/* What the tests of the reverb share: its tank, its states and its ticks. */
+/* What the tests of the reverb share: its memory, its states and its ticks. */
 #ifndef REVERB_H
 #define REVERB_H
 
-#include "calls.h"
+#include "tank.h"
 
-/* Document 01's tank, and spare places behind it. */
-#define TANK 87136u
+/* The memory: the tank, and spare places behind it. */
 #define TANK_ROOM 87200u
 extern double tank[TANK_ROOM];
-
-/* Its lines: combs left and right, all-passes left and right, predelay. */
-#define LINES 25u
-#define RIGHT_COMB 8u
-#define LEFT_ALLPASS 16u
-#define RIGHT_ALLPASS 20u
-#define PREDELAY 24u
-
-/* Where a line starts, and how many places lie there for it. */
-unsigned line_start(unsigned line);
-unsigned line_extent(unsigned line);
-
-/* Rates, and how long document 01 has the left lines and the spread at that rate. */
-struct tuning {
-    double rate;
-    unsigned comb[8], allpass[4], spread;
-};
-#define TUNINGS 8u
-extern const struct tuning tunings[TUNINGS];
-
-/* How long a line is there. */
-unsigned line_length(const struct tuning *at, unsigned line);
-
-/* A line's position in a state. */
-uint64_t *line_pos(room_reverb *state, unsigned line);
 
 /* Puts odd numbers, NaNs and -0 among them, into every place. */
 void fill_tank(void);

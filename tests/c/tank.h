@@ -1,0 +1,33 @@
+/* The reverb's tank by document 01: its lines, how long they are, and where a state has their positions. */
+#ifndef TANK_H
+#define TANK_H
+
+#include "calls.h"
+
+/* Document 01's tank and its lines: combs left and right, all-passes left and right, predelay. */
+#define TANK 87136u
+#define LINES 25u
+#define RIGHT_COMB 8u
+#define LEFT_ALLPASS 16u
+#define RIGHT_ALLPASS 20u
+#define PREDELAY 24u
+
+/* Where a line starts, and how many places lie there for it. */
+unsigned line_start(unsigned line);
+unsigned line_extent(unsigned line);
+
+/* Rates, and how long document 01 has the left lines and the spread at that rate. */
+struct tuning {
+    double rate;
+    unsigned comb[8], allpass[4], spread;
+};
+#define TUNINGS 8u
+extern const struct tuning tunings[TUNINGS];
+
+/* How long a line is there. */
+unsigned line_length(const struct tuning *at, unsigned line);
+
+/* A line's position in a state. */
+uint64_t *line_pos(room_reverb *state, unsigned line);
+
+#endif
