@@ -1,4 +1,4 @@
-/* The reverb: its clearings, its refusals and their order, its question. reverb_ticks.c has the accepted ticks. */
+/* The reverb: its clearings, its refusals and their order. reverb_silent.c has the question, reverb_ticks.c the ticks. */
 #include "reverb.h"
 
 #include <string.h>
@@ -144,15 +144,6 @@ static void reset_refused(room_reverb before, uint64_t places, uint32_t number, 
     check(reverb_is(&state, &before) && tank_kept(), what, i);
 }
 
-static void silent_refused(room_reverb before, uint64_t places, uint32_t number, const char *what, unsigned i)
-{
-    room_reverb state = before;
-    int silent = 7;
-    fill_tank();
-    check(room_reverb_silent(&state, tank, places, &silent) == number && silent == 0, what, i);
-    check(reverb_is(&state, &before) && tank_kept(), what, i);
-}
-
 static void tick_refused(room_reverb before, uint64_t places, struct tick_of_reverb t, uint32_t number, const char *what,
                          unsigned i)
 {
@@ -252,55 +243,6 @@ static void clearings(void)
     }
 }
 
-/* Silent */
-
-static void silent_is(const struct tuning *at, int yes, const char *what, unsigned i)
-{
-    const room_reverb state = varied_reverb(at);
-    room_reverb given = state;
-    int silent = 7;
-    check(room_reverb_silent(&given, tank, TANK + 1u, &silent) == 0 && silent == yes, what, i);
-    check(reverb_is(&given, &state), "silent changes no field", i);
-}
-
-/* One place holds this sound: +0 and -0 lie in all others in use, junk in the rest. */
-static void sounds_at(const struct tuning *at, unsigned place, double sound, int yes, const char *what, unsigned i)
-{
-    const double held = tank[place];
-    tank[place] = sound;
-    silent_is(at, yes, what, i);
-    tank[place] = held;
-}
-
-static void questions_at(const struct tuning *at, unsigned which)
-{
-    const double sounds[] = {SMALLEST, -SMALLEST, 1.0, (double)INFINITY, (double)NAN, ODD_NAN};
-    unsigned line, k;
-    fill_tank();
-    for (line = 0; line < LINES; line++) {
-        const unsigned start = line_start(line);
-        for (k = 0; k < line_length(at, line); k++) {
-            tank[start + k] = (start + k) % 3u == 0u ? -0.0 : 0.0;
-        }
-    }
-    silent_is(at, 1, "+0 and -0 in every place in use is silent, whatever stores and spare places hold", which);
-    for (line = 0; line < LINES; line++) {
-        const unsigned start = line_start(line);
-        const unsigned length = line_length(at, line);
-        const unsigned i = 1000u * which + 10u * line;
-        for (k = 0; k < COUNT(sounds); k++) {
-            sounds_at(at, start + length - 1u, sounds[k], 0, "the last place in use of a line sounds", i + k);
-        }
-        sounds_at(at, start, ODD_NAN, 0, "the first place of a line sounds", i);
-        sounds_at(at, start + length / 2u, -1.0, 0, "a place of a line sounds", i);
-        sounds_at(at, start + length, 1.0, 1, "the place behind those in use doesn't, of the predelay a spare one", i);
-        sounds_at(at, start + line_extent(line) - 1u, 1.0, length < line_extent(line),
-                  "the last place that lies there for a line sounds only where it is in use", i);
-    }
-    silent_refused(cleared_reverb(at->rate), TANK - 1u, 3, "silent wants its places", which);
-    silent_refused(varied_reverb(at), 0, 3, "silent wants places", which);
-}
-
 /* The state test */
 
 /* All calls but start refuse this state with 4, whatever else there is to refuse. */
@@ -308,8 +250,8 @@ static void state_refused(room_reverb state, unsigned i)
 {
     reset_refused(state, TANK_ROOM, 4, "reset is refused with 4", i);
     reset_refused(state, TANK - 1u, 4, "reset: 4 before 3", i);
-    silent_refused(state, TANK_ROOM, 4, "silent is refused with 4", i);
-    silent_refused(state, TANK - 1u, 4, "silent: 4 before 3", i);
+    reverb_silent_refused(state, TANK_ROOM, 4, "silent is refused with 4", i);
+    reverb_silent_refused(state, TANK - 1u, 4, "silent: 4 before 3", i);
     retune_refused(state, TANK_ROOM, 44100.0, 4, "retune is refused with 4", i);
     retune_refused(state, TANK_ROOM, 0.0, 4, "retune: 4 before 1", i);
     retune_refused(state, TANK - 1u, 44100.0, 4, "retune: 4 before 3", i);
@@ -365,7 +307,6 @@ static void states(void)
     unsigned i;
     for (i = 0; i < TUNINGS; i++) {
         states_at(&tunings[i], i);
-        questions_at(&tunings[i], i);
     }
     state_refused(cleared_reverb(0.0), 0);
     for (i = 0; i < wrong.count; i++) {
@@ -414,5 +355,6 @@ void reverb(void)
     clearings();
     states();
     ticks_refused();
+    reverb_questions();
     reverb_ticks();
 }

@@ -37,4 +37,8 @@ uint32_t reverb_ticked(room_reverb *state, uint64_t places, const struct tick_of
 /* The accepted ticks: what they read, play, store and leave. */
 void reverb_ticks(void);
 
+/* The question, and one that is refused with this number and leaves everything as it was. */
+void reverb_questions(void);
+void reverb_silent_refused(room_reverb before, uint64_t places, uint32_t number, const char *what, unsigned i);
+
 #endif

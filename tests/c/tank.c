@@ -52,3 +52,8 @@ uint64_t *line_pos(room_reverb *state, unsigned line)
            : line < PREDELAY      ? &state->allpass_pos_r[line - RIGHT_ALLPASS]
                                   : &state->predelay_pos;
 }
+
+double *comb_store(room_reverb *state, unsigned comb)
+{
+    return comb < RIGHT_COMB ? &state->comb_filter_state_l[comb] : &state->comb_filter_state_r[comb - RIGHT_COMB];
+}

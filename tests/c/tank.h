@@ -7,6 +7,7 @@
 /* Document 01's tank and its lines: combs left and right, all-passes left and right, predelay. */
 #define TANK 87136u
 #define LINES 25u
+#define STORES 16u
 #define RIGHT_COMB 8u
 #define LEFT_ALLPASS 16u
 #define RIGHT_ALLPASS 20u
@@ -27,7 +28,8 @@ extern const struct tuning tunings[TUNINGS];
 /* How long a line is there. */
 unsigned line_length(const struct tuning *at, unsigned line);
 
-/* A line's position in a state. */
+/* A line's position in a state, and a comb's damping store. */
 uint64_t *line_pos(room_reverb *state, unsigned line);
+double *comb_store(room_reverb *state, unsigned comb);
 
 #endif
