@@ -1,4 +1,4 @@
-/* Document 01, of the phaser document 02: what an accepted start, retune or reset leaves, and the question. */
+/* Document 01, of phaser and stores document 02: what an accepted start, retune or reset leaves, and the question. */
 #include "hostile.h"
 
 /* "Start phases: chorus 0, 0.33, 0.67; others 0. Reset restores them. Retune keeps the phases of chorus and flanger and zeroes
@@ -48,12 +48,13 @@ static int all_zero(const double *from, uint64_t count)
     return 1;
 }
 
-/* The phaser: "silent exactly when all 24 stored numbers of its chains .. are +0 or -0". */
-static int chains_zero(const struct call *c)
+/* Document 02, of the phaser: "silent exactly when all 24 stored numbers of its chains .. are +0 or -0", and of the reverb:
+   "silent only if its sixteen damping stores are also +0 or -0". */
+static int stores_zero(const struct call *c)
 {
     unsigned i;
-    for (i = 0; i < 24u; i++) {
-        if (of_bits(c->state.word[i]) != 0.0) {
+    for (i = 0; i < words_of(c->effect); i++) {
+        if (state_words[c->effect][i] == 's' && of_bits(c->state.word[i]) != 0.0) {
             return 0;
         }
     }
@@ -61,13 +62,10 @@ static int chains_zero(const struct call *c)
 }
 
 /* "yes when every place in use of the unit's lines is +0 or -0. The tremolo has no line and is always silent." */
-int silent_by_the_paper(const struct call *c)
+int lines_zero_by_the_paper(const struct call *c)
 {
     const double rate = of_bits(c->state.word[word_of(c->effect, 'r')]);
     unsigned line;
-    if (c->effect == PHASER) {
-        return chains_zero(c);
-    }
     if (c->effect != REVERB) {
         return all_zero(c->memory, needed(c->effect, rate, c->effect == DELAY ? of_bits(c->state.word[5]) : 0.0));
     }
@@ -77,4 +75,9 @@ int silent_by_the_paper(const struct call *c)
         }
     }
     return 1;
+}
+
+int silent_by_the_paper(const struct call *c)
+{
+    return lines_zero_by_the_paper(c) && stores_zero(c);
 }

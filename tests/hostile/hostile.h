@@ -115,8 +115,10 @@ double blended(double audio, double wet, double mix);
 struct ticked tick_by_the_paper(const struct call *c); /* ticks.c */
 struct ticked reverb_tick_by_the_paper(const struct call *c); /* tank.c */
 
-/* clearings.c: the state that an accepted start, retune or reset leaves, and whether a unit is silent. */
+/* clearings.c: the state that an accepted start, retune or reset leaves, whether the places in use are zeros, and whether the
+   unit is silent. */
 struct state cleared_by_the_paper(const struct call *c);
+int lines_zero_by_the_paper(const struct call *c);
 int silent_by_the_paper(const struct call *c);
 
 /* lent.c: memory between guard pages, and beside it a copy of what it must hold. */

@@ -22,6 +22,7 @@ static struct {
     uint64_t wrong[NUMBERS];
     uint64_t silent;
 } tally[EFFECTS][CALLS];
+static uint64_t by_stores; /* questions of a reverb whose tank is zero and whose stores are not */
 static uint64_t made, places_made, places_wrong;
 
 /* How many places calls were lent, beside what they need where nothing else is wrong. */
@@ -83,15 +84,17 @@ static uint64_t at_an_end(const struct unit *unit)
     return start + (one_in(3) ? 0u : length - below(2));
 }
 
-/* The host's own hand: a place of the memory, or a number of the phaser's chains, holds something else from now on. */
+/* The host's own hand: a place of the memory, a number of the phaser's chains or a damping store holds something else from now
+   on. */
 static void disturb(struct unit *unit)
 {
     const uint64_t offset = (uint64_t)(unit->memory - unit->arena->first);
     const int has_lines = lines_of(unit->effect) > 0u && state_passes(unit->effect, &unit->state);
     uint64_t place = below(unit->arena->places);
     const double x = one_in(2) ? of_bits(any_bits() & UINT64_C(0x8000000000000001)) : any_float();
-    if (unit->effect == PHASER) {
-        unit->state.word[below(24)] = bits(x);
+    if (unit->effect == PHASER || (unit->effect == REVERB && one_in(2))) {
+        unit->state.word[word_of(unit->effect, 's') + below(unit->effect == PHASER ? 24u : 16u)] = bits(x);
+        return;
     }
     if (has_lines && !one_in(4)) {
         place = (offset + at_an_end(unit)) % unit->arena->places;
@@ -132,6 +135,7 @@ static void one_call(struct unit *unit)
     }
     tally[c.effect][c.kind].made[a.number]++;
     tally[c.effect][c.kind].silent += c.kind == SILENT && a.silent != 0u;
+    by_stores += c.effect == REVERB && c.kind == SILENT && a.number == 0u && a.silent == 0u && lines_zero_by_the_paper(&c);
     if (a.number == 0u || (c.kind == START && one_in(4))) {
         unit->state = a.state;
     }
@@ -199,6 +203,11 @@ static void print_row(int effect, int kind)
     }
     if (kind == SILENT) {
         printf("   %llu yes", (unsigned long long)tally[effect][kind].silent);
+    }
+    if (kind == SILENT && effect == REVERB) {
+        printf(", %llu no of a zero tank%s", (unsigned long long)by_stores, by_stores == 0u ? ": FAILED, never asked" : "");
+        passed += by_stores > 0u;
+        failed += by_stores == 0u;
     }
     puts("");
     for (number = 0; number < NUMBERS; number++) {
