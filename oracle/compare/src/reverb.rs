@@ -268,14 +268,20 @@ fn state_untouched(should: &State, is: &State) -> Result<(), String> {
     untouched("rate after a refusal", should.sample_rate, is.sample_rate)
 }
 
-/// Document 01: in use are each line's first `length` places and the whole predelay.
-fn silent_ours(state: &State, memory: &[f64], number: u32) -> Result<(), String> {
-    let mut silent = JUNK as u32;
-    number_agrees(ours::silent(state, memory, &mut silent), number)?;
+/// The stores are +0 or −0, and so are, of every line, the first `length` places and, of the predelay, all.
+fn is_silent(state: &State, memory: &[f64]) -> bool {
     let lengths = table::tank_lengths(state.sample_rate);
     let mut lines = TANK.into_iter().zip(lengths);
     let quiet = |((start, _), length): ((usize, usize), u64)| {
         memory::silent(&memory[start..start + length as usize])
     };
-    silent_agrees(silent, number == 0 && lines.all(quiet))
+    memory::silent(&state.stores()) && lines.all(quiet)
+}
+
+/// Document 01: "yes when every place in use of the unit's lines is +0 or −0", and document 02: "only if its sixteen damping
+/// stores are also +0 or −0".
+fn silent_ours(state: &State, memory: &[f64], number: u32) -> Result<(), String> {
+    let mut silent = JUNK as u32;
+    number_agrees(ours::silent(state, memory, &mut silent), number)?;
+    silent_agrees(silent, number == 0 && is_silent(state, memory))
 }

@@ -1,7 +1,8 @@
 //! Cases that random ticks hardly meet.
 
 use super::call::{Call, What};
-use super::{lengths_agree, Reverb};
+use super::{is_silent, lengths_agree, Reverb};
+use crate::memory::Quiet;
 use crate::random::Random;
 use crate::run::{number_agrees, Pair as _};
 use crate::table::{self, TANK, TANK_PLACES};
@@ -15,7 +16,8 @@ pub fn run(seed: u64) -> Result<(), String> {
     ends_of_the_lines(&mut random)?;
     predelays(&mut random)?;
     zeros()?;
-    not_finite(&mut random)
+    not_finite(&mut random)?;
+    stores_that_sound(&mut random)
 }
 
 fn made(unit: &mut Reverb, call: &Call) -> Result<(), String> {
@@ -217,6 +219,50 @@ fn not_finite(random: &mut Random) -> Result<(), String> {
             }
             let [size, damping, mix] = [(); 3].map(|()| random.of(&[0.0, 0.5, 1.0]));
             tick(&mut unit, state, [random.audio(), size, damping, mix, 0.0])?;
+        }
+    }
+    Ok(())
+}
+
+/// "Silent" of a tank of zeros and stores of zeros, of either sign, and of the same with any other number in each of the stores
+/// by turns.
+fn stores_that_sound(random: &mut Random) -> Result<(), String> {
+    let mut unit = Reverb::started(8_000.0, 3)?;
+    let sounds = [
+        0.0,
+        -0.0,
+        1.0,
+        -1.0,
+        f64::from_bits(1),
+        -f64::from_bits(1),
+        f64::MIN_POSITIVE,
+        f64::INFINITY,
+        f64::NEG_INFINITY,
+        f64::NAN,
+    ];
+    for comb in 0..STORES {
+        for sound in sounds {
+            let mut state = unit.state;
+            for other in 0..STORES {
+                *state.store_mut(other) = random.of(&[0.0, -0.0]);
+            }
+            *state.store_mut(comb) = sound;
+            let quiet = Quiet {
+                seed: random.bits(),
+                place: 0,
+                sound: 0.0,
+            };
+            let lent = unit.memory.count();
+            if is_silent(&state, &quiet.memory(lent)) != (sound == 0.0) {
+                return Err(format!("directed: a store of {sound:e} tells nothing"));
+            }
+            let call = Call {
+                state,
+                planted: Vec::new(),
+                lent,
+                what: What::Silent(Some(quiet)),
+            };
+            made(&mut unit, &call)?;
         }
     }
     Ok(())

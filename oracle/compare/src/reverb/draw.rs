@@ -182,7 +182,8 @@ impl Reverb {
         state
     }
 
-    /// Whether a memory is silent that holds zeros but for one place: in use, behind those in use, or any.
+    /// Whether a unit is silent whose memory holds zeros but for one place: in use, behind those in use, or any. Now and then
+    /// that is a zero too, so that it is for the stores to say.
     fn question_of_quiet(&self, random: &mut Random) -> Call {
         let lent = self.memory.count();
         let line = random.below(LINES as u64) as usize;
@@ -190,17 +191,33 @@ impl Reverb {
         let length = self.lengths()[line] as usize;
         let any = random.below(lent as u64) as usize;
         let place = random.of(&[0, length - 1, length, count - 1].map(|at| start + at));
+        let sound = random.audio();
         let quiet = Quiet {
             seed: random.bits(),
             place: random.of(&[place, place, any]),
-            sound: random.audio(),
+            sound: random.of(&[sound, sound, -0.0]),
         };
         Call {
-            state: self.state,
+            state: self.at_quiet_stores(random),
             planted: Vec::new(),
             lent,
             what: What::Silent(Some(quiet)),
         }
+    }
+
+    /// The unit's state with stores of +0 and −0, mostly all of them, else but for one; now and then with its own.
+    fn at_quiet_stores(&self, random: &mut Random) -> State {
+        let mut state = self.state;
+        if random.one_in(8) {
+            return state;
+        }
+        for comb in 0..STORES {
+            *state.store_mut(comb) = random.of(&[0.0, -0.0]);
+        }
+        if random.one_in(3) {
+            *state.store_mut(random.below(STORES as u64) as usize) = random.audio();
+        }
+        state
     }
 }
 
