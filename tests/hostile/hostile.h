@@ -7,6 +7,7 @@
 #ifndef HOSTILE_H
 #define HOSTILE_H
 
+#include "random.h"
 #include "room_effects.h"
 
 #define COUNT(list) (sizeof(list) / sizeof((list)[0]))
@@ -68,19 +69,6 @@ int same(double a, double b);  /* to the bit */
 int plays(double a, double b); /* to the bit, or both NaN: document 01's equality */
 int is_nan(double x);
 int is_finite(double x);
-
-/* random.c: one stream of numbers from one seed. */
-void seed_random(uint64_t seed);
-uint64_t any_bits(void);
-uint64_t below(uint64_t n);
-int one_in(uint64_t n);
-double from_to(double low, double high);
-double any_float(void); /* any float, those at some limit among them more often */
-double any_nan(void);
-double near(double x); /* it or a float up to two steps beside it */
-double good_rate(void);
-double good_maximum(void);
-double good_coefficient(void);
 
 /* table.c: lengths, state test and table of refusals. */
 int rate_holds(double rate);
