@@ -31,6 +31,12 @@ int effect_has(int effect, int call)
     return effect_lined(effect) || call != RETUNE;
 }
 
+int effect_can_refuse(int effect, unsigned number)
+{
+    return !((number == 2u && effect != ROOM_DELAY) || (number == 3u && !effect_lined(effect)) ||
+             (number == 6u && effect == ROOM_REVERB));
+}
+
 struct effect_call effect_good(int effect, int call, double *lent, uint64_t places, double rate, double maximum)
 {
     struct effect_call c;
@@ -55,7 +61,7 @@ static uint32_t made_delay(room_delay *s, const struct effect_call *c, double *o
     const room_port *p = c->ports;
     switch (c->call) {
     case START:
-        return room_delay_start(s, c->lent, c->places, c->rate, c->maximum, c->coefficient, 0u);
+        return room_delay_start(s, c->lent, c->places, c->rate, c->maximum, c->coefficient, c->linear);
     case RETUNE:
         return room_delay_retune(s, c->lent, c->places, c->rate, c->coefficient);
     case RESET:

@@ -26,6 +26,7 @@ struct effect_call {
     double *lent;
     uint64_t places;
     double rate, maximum, coefficient; /* of a start or a retune */
+    uint32_t linear;                   /* of a start */
     room_port ports[5];                /* in the tick's order, the audio first */
     double curves[4];                  /* frequency and sines or coefficients, or milliseconds */
 };
@@ -43,6 +44,10 @@ int effect_lined(int effect);
 
 /* Whether the effect has the call: one without lines has no retune. */
 int effect_has(int effect, int call);
+
+/* Whether a cause of refusal, by its number, can apply to the effect: 2 is the delay's alone, tremolo and phaser are lent no
+   memory, and the reverb has no curve number. */
+int effect_can_refuse(int effect, unsigned number);
 
 /* Makes the call. A tick's samples go into `out`; a question's answer goes into out[0], as 1 or 0. */
 uint32_t effect_make(struct effect_state *state, const struct effect_call *c, double out[3]);

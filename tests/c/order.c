@@ -17,13 +17,6 @@ static const uint64_t places_at_8000[EFFECTS_END] = {0, 501, 266, 180, 170, 0, 8
 /* "start 1, 2, 3; retune 4, 1, 2, 3; reset and silent 4, 3; tick 4, 3, 5, 6" */
 static const char *const orders[CALLS] = {"123", "4123", "43", "4356", "43"};
 
-/* 2 is the delay's alone, tremolo and phaser are lent no memory, and the reverb has no curve number. */
-static int can_apply(int effect, char cause)
-{
-    return !((cause == '2' && effect != ROOM_DELAY) || (cause == '3' && !effect_lined(effect)) ||
-             (cause == '6' && effect == ROOM_REVERB));
-}
-
 static void set_wrong_reverb(room_reverb *state, unsigned way)
 {
     uint64_t *const positions[] = {state->comb_pos_l,    state->comb_pos_r,    state->allpass_pos_l,
@@ -126,7 +119,7 @@ static uint32_t bring_about(struct effect_call *c, struct effect_state *state, u
         if ((set >> i & 1u) == 0u) {
             continue;
         }
-        if (!can_apply(c->effect, causes[i])) {
+        if (!effect_can_refuse(c->effect, (unsigned)(causes[i] - '0'))) {
             return NONE;
         }
         number = number == 0u ? (uint32_t)(causes[i] - '0') : number;

@@ -1,0 +1,185 @@
+/*
+ * Broken calls, so that the driver is seen to notice them: linked with --wrap, each stands before the library's own and breaks
+ * it in one way, where LAMP_BROKEN in the environment is the number of that way; else it hands on.
+ */
+#include "room_effects.h"
+
+#include <math.h>
+#include <stdlib.h>
+
+#define REAL(call) extern __typeof__(room_raw_##call) __real_room_raw_##call, __wrap_room_raw_##call
+REAL(delay_tick);
+REAL(delay_silent);
+REAL(chorus_tick);
+REAL(chorus_retune);
+REAL(chorus_silent);
+REAL(flanger_tick);
+REAL(flanger_reset);
+REAL(vibrato_tick);
+REAL(vibrato_silent);
+REAL(tremolo_tick);
+REAL(reverb_tick);
+REAL(reverb_silent);
+REAL(phaser_silent);
+
+static int broken(int way)
+{
+    static int is = -1;
+    if (is < 0) {
+        const char *said = getenv("LAMP_BROKEN");
+        is = said == NULL ? 0 : atoi(said);
+    }
+    return is == way;
+}
+
+static const double zeros[8];
+
+/* 1: the question reads the tank alone. 2: of the stores it reads the left ones alone. */
+uint32_t __wrap_room_raw_reverb_silent(const uint64_t *comb_l, const uint64_t *comb_r, const double *store_l,
+                                       const double *store_r, const uint64_t *pass_l, const uint64_t *pass_r,
+                                       uint64_t predelay_pos, double rate, const double *memory, uint64_t places, uint32_t *out)
+{
+    return __real_room_raw_reverb_silent(comb_l, comb_r, broken(1) ? zeros : store_l, broken(1) || broken(2) ? zeros : store_r,
+                                         pass_l, pass_r, predelay_pos, rate, memory, places, out);
+}
+
+/* 3: the question reads the last outputs alone. */
+uint32_t __wrap_room_raw_phaser_silent(const double *x1_l, const double *x1_r, const double *y1_l, const double *y1_r,
+                                       double phase, double rate, uint32_t *out)
+{
+    return __real_room_raw_phaser_silent(broken(3) ? zeros : x1_l, broken(3) ? zeros : x1_r, y1_l, y1_r, phase, rate, out);
+}
+
+/* 4: the first spare place counts. */
+uint32_t __wrap_room_raw_vibrato_silent(uint64_t pos, double phase, double rate, const double *memory, uint64_t places,
+                                        uint32_t *out)
+{
+    const uint32_t number = __real_room_raw_vibrato_silent(pos, phase, rate, memory, places, out);
+    const uint64_t in_use = room_places_needed(ROOM_VIBRATO, rate, 0.0);
+    if (broken(4) && number == 0u && places > in_use && !(memory[in_use] == 0.0)) {
+        *out = 0;
+    }
+    return number;
+}
+
+/* 5: -0 counts as a sound. */
+uint32_t __wrap_room_raw_chorus_silent(uint64_t pos, const double *phases, double rate, const double *memory, uint64_t places,
+                                       uint32_t *out)
+{
+    const uint32_t number = __real_room_raw_chorus_silent(pos, phases, rate, memory, places, out);
+    if (broken(5) && number == 0u && signbit(memory[0])) {
+        *out = 0;
+    }
+    return number;
+}
+
+/* 6: the question is always answered with yes. */
+uint32_t __wrap_room_raw_delay_silent(uint64_t pos, double distance, uint32_t primed, double rate, double coefficient,
+                                      double maximum, uint32_t linear, const double *memory, uint64_t places, uint32_t *out)
+{
+    const uint32_t number =
+        __real_room_raw_delay_silent(pos, distance, primed, rate, coefficient, maximum, linear, memory, places, out);
+    *out = broken(6) && number == 0u ? 1u : *out;
+    return number;
+}
+
+/* 7: an audio of -0 is stored as the smallest sound. 8: infinite milliseconds come out as no number. */
+uint32_t __wrap_room_raw_delay_tick(uint64_t *pos, double *distance, uint32_t *primed, double rate, double coefficient,
+                                    double maximum, uint32_t linear, double *memory, uint64_t places, uint32_t set,
+                                    double audio, double time, double feedback, double mix, double milliseconds, double *out)
+{
+    const uint64_t at = *pos;
+    const uint32_t number = __real_room_raw_delay_tick(pos, distance, primed, rate, coefficient, maximum, linear, memory,
+                                                       places, set, audio, time, feedback, mix, milliseconds, out);
+    if (broken(7) && number == 0u && (set & 1u) != 0u && audio == 0.0 && signbit(audio)) {
+        memory[at] = 0x1p-1074;
+    }
+    if (broken(8) && number == 0u && linear == 0u && isinf(milliseconds)) {
+        out[0] = (double)NAN;
+    }
+    return number;
+}
+
+/* 9: samples of -0 come out as +0. */
+uint32_t __wrap_room_raw_chorus_tick(uint64_t *pos, double *phases, double rate, double *memory, uint64_t places, uint32_t set,
+                                     double audio, double depth, double mix, double frequency, double sine0, double sine1,
+                                     double sine2, double *out)
+{
+    const uint32_t number = __real_room_raw_chorus_tick(pos, phases, rate, memory, places, set, audio, depth, mix, frequency,
+                                                        sine0, sine1, sine2, out);
+    int i;
+    for (i = 0; broken(9) && i < 3; i++) {
+        out[i] = out[i] + 0.0;
+    }
+    return number;
+}
+
+/* 10: a retune leaves a sound in the first place. */
+uint32_t __wrap_room_raw_chorus_retune(double new_rate, double *memory, uint64_t places, uint64_t *pos, double *phases,
+                                       double *rate)
+{
+    const uint32_t number = __real_room_raw_chorus_retune(new_rate, memory, places, pos, phases, rate);
+    if (broken(10) && number == 0u) {
+        memory[0] = 1.0;
+    }
+    return number;
+}
+
+/* 11: no input rule. */
+uint32_t __wrap_room_raw_flanger_tick(uint64_t *pos, double *phase, double rate, double *memory, uint64_t places, uint32_t set,
+                                      double audio, double depth, double feedback, double mix, double frequency, double sine0,
+                                      double sine1, double *out)
+{
+    const uint32_t number = __real_room_raw_flanger_tick(pos, phase, rate, memory, places, set, audio, depth, feedback, mix,
+                                                         frequency, sine0, sine1, out);
+    if (broken(11) && number == 0u && (set & 1u) != 0u && !isfinite(audio)) {
+        out[2] = audio;
+    }
+    return number;
+}
+
+/* 12: a reset leaves a sound in the last place in use. */
+uint32_t __wrap_room_raw_flanger_reset(double *memory, uint64_t places, uint64_t *pos, double *phase, double rate)
+{
+    const uint32_t number = __real_room_raw_flanger_reset(memory, places, pos, phase, rate);
+    if (broken(12) && number == 0u) {
+        memory[room_places_needed(ROOM_FLANGER, rate, 0.0) - 1u] = 1.0;
+    }
+    return number;
+}
+
+/* 13: the input rule where there is none. */
+uint32_t __wrap_room_raw_vibrato_tick(uint64_t *pos, double *phase, double rate, double *memory, uint64_t places, uint32_t set,
+                                      double audio, double depth, double mix, double frequency, double sine, double *out)
+{
+    return __real_room_raw_vibrato_tick(pos, phase, rate, memory, places, set, broken(13) && !isfinite(audio) ? 0.0 : audio,
+                                        depth, mix, frequency, sine, out);
+}
+
+/* 14: a depth that is not clamped: zero times infinity. */
+uint32_t __wrap_room_raw_tremolo_tick(double *phase, double rate, uint32_t set, double audio, double depth, double shape,
+                                      double frequency, double sine, double *out)
+{
+    const uint32_t number = __real_room_raw_tremolo_tick(phase, rate, set, audio, depth, shape, frequency, sine, out);
+    if (broken(14) && number == 0u && (set & 2u) != 0u && isinf(depth)) {
+        out[0] = out[0] * depth;
+    }
+    return number;
+}
+
+/* 15: a tick that is refused for its controls moves a position. 16: a tick leaves a sound in a store. */
+uint32_t __wrap_room_raw_reverb_tick(uint64_t *comb_l, uint64_t *comb_r, double *store_l, double *store_r, uint64_t *pass_l,
+                                     uint64_t *pass_r, uint64_t *predelay_pos, double rate, double *memory, uint64_t places,
+                                     uint32_t set, double audio, double size, double damping, double mix, double predelay,
+                                     double *out)
+{
+    const uint32_t number = __real_room_raw_reverb_tick(comb_l, comb_r, store_l, store_r, pass_l, pass_r, predelay_pos, rate,
+                                                        memory, places, set, audio, size, damping, mix, predelay, out);
+    if (broken(15) && number == 5u) {
+        *predelay_pos = (*predelay_pos + 1u) % 9600u;
+    }
+    if (broken(16) && number == 0u) {
+        store_r[7] = 0x1p-1074;
+    }
+    return number;
+}

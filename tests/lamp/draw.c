@@ -1,0 +1,196 @@
+/* Draws ticks with zero audio, ticks that sound, and calls that must be refused. */
+#include "lamp.h"
+
+#include <string.h>
+
+/* Document 01: "Delay, chorus, flanger and reverb apply it; vibrato and tremolo do not." The phaser does. */
+unsigned zero_audios(int effect)
+{
+    return effect == ROOM_VIBRATO || effect == ROOM_TREMOLO ? NO_NUMBER : AUDIOS;
+}
+
+/* An unset port's number is not read. */
+static room_port unset(void)
+{
+    room_port port = room_unset();
+    port.value = any_float();
+    return port;
+}
+
+static room_port zero_audio(enum audio audio)
+{
+    const double numbers[AUDIOS] = {0.0, 0.0, -0.0, any_nan(), (double)INFINITY, -(double)INFINITY};
+    return audio == UNSET ? unset() : room_set(numbers[audio]);
+}
+
+/* Any number but NaN: the ends of what a tick clamps to, numbers far beyond and around them. */
+static double control(void)
+{
+    static const double ends[] = {0.0,  -0.0, 1.0,  -1.0, DBL_MAX,   -DBL_MAX,   (double)INFINITY, -(double)INFINITY,
+                                  0.5,  0.33, 0.66, 0.99, 0x1p-1074, -0x1p-1074, DBL_MIN,          -DBL_MIN,
+                                  0.95, 2.0,  -0.5, 60.0};
+    return one_in(2) ? from_to(-1.2, 1.2) : ends[below(COUNT(ends))];
+}
+
+static double milliseconds(const struct unit *u)
+{
+    const double any = any_float();
+    if (one_in(3)) {
+        return one_in(2) ? (double)INFINITY : -(double)INFINITY;
+    }
+    return one_in(2) && !isnan(any) ? any : from_to(-1.0, 1100.0) * u->maximum;
+}
+
+/* A curve number that the tick accepts: a frequency, or a sine or coefficient; the delay's milliseconds. */
+static double curve(const struct unit *u, unsigned which)
+{
+    static const double frequencies[] = {0.0, -0.0, 32.0, 0x1p-1074};
+    static const double sines[] = {0.0, -0.0, 1.0, -1.0, 0x1p-1074, -0x1p-1074};
+    if (u->effect == ROOM_DELAY) {
+        return milliseconds(u);
+    }
+    if (which == 0u) {
+        return one_in(2) ? frequencies[below(COUNT(frequencies))] : from_to(0.0, 32.0);
+    }
+    return one_in(2) ? sines[below(COUNT(sines))] : from_to(-1.0, 1.0);
+}
+
+/* Whether a tick reads the port, and the curve number: the delay's time is one of them, by its mode. */
+
+static int reads_port(const struct unit *u, unsigned port)
+{
+    return port < effect_ports(u->effect) && !(u->effect == ROOM_DELAY && port == 1u && u->linear == 0u);
+}
+
+static int reads_curve(const struct unit *u, unsigned which)
+{
+    return which < effect_curves(u->effect) && !(u->effect == ROOM_DELAY && u->linear != 0u);
+}
+
+/* What the tick does not read may be anything. */
+static struct effect_call with_controls(const struct unit *u)
+{
+    struct effect_call c = call_of(u, TICK);
+    unsigned i;
+    for (i = 1; i < COUNT(c.ports); i++) {
+        c.ports[i] = one_in(5) ? unset() : room_set(reads_port(u, i) ? control() : any_float());
+    }
+    for (i = 0; i < COUNT(c.curves); i++) {
+        c.curves[i] = reads_curve(u, i) ? curve(u, i) : any_float();
+    }
+    return c;
+}
+
+struct effect_call draw_tick(const struct unit *u, enum audio audio)
+{
+    struct effect_call c = with_controls(u);
+    c.ports[0] = zero_audio(audio);
+    return c;
+}
+
+struct effect_call draw_sounding_tick(const struct unit *u)
+{
+    struct effect_call c = with_controls(u);
+    const double sound = from_to(0.1, 1.0);
+    c.ports[0] = room_set(one_in(2) ? sound : -sound);
+    return c;
+}
+
+/* Refused calls, by their number */
+
+/* The call's own rate is refused, which a retune alone has here. */
+static void refuse_rate(struct effect_call *c)
+{
+    const struct numbers rates = rates_refused();
+    c->call = RETUNE;
+    c->rate = rates.list[below(rates.count)];
+}
+
+static void refuse_coefficient(struct effect_call *c)
+{
+    static const double wrong[] = {1.0, 2.0, -0x1p-1074, (double)INFINITY, (double)NAN};
+    c->call = RETUNE;
+    c->coefficient = wrong[below(COUNT(wrong))];
+}
+
+/* A place short of what it needs, or no places. */
+static void refuse_memory(const struct unit *u, struct effect_call *c)
+{
+    c->call = (int)(RETUNE + below(CALLS - RETUNE));
+    c->places = one_in(8) ? 0u : needed(u, c->rate) - 1u;
+}
+
+/* The copy's rate, position or phase is one that no start leads to. */
+static void refuse_state(const struct unit *u, struct effect_call *c, struct effect_state *s)
+{
+    const struct numbers rates = rates_refused();
+    const struct numbers phases = phases_refused();
+    const double phase = phases.list[below(phases.count)];
+    double *const sample_rates[EFFECTS_END] = {
+        0,          &s->delay.sample_rate, &s->chorus.sample_rate, &s->flanger.sample_rate, &s->vibrato.sample_rate,
+        &s->tremolo.sample_rate, &s->reverb.sample_rate, &s->phaser.sample_rate};
+    uint64_t *const positions[EFFECTS_END] = {0, &s->delay.write_pos,   &s->chorus.write_pos, &s->flanger.write_pos,
+                                              &s->vibrato.write_pos, 0, line_pos(&s->reverb, (unsigned)below(LINES)), 0};
+    double *const turns[EFFECTS_END] = {0, 0, &s->chorus.lfo_phases[below(3)], &s->flanger.lfo_phase, &s->vibrato.lfo_phase,
+                                        &s->tremolo.lfo_phase, 0, &s->phaser.lfo_phase};
+    c->call = (int)(RETUNE + below(CALLS - RETUNE));
+    c->call = effect_has(u->effect, c->call) ? c->call : TICK;
+    if (positions[u->effect] != 0 && one_in(2)) {
+        *positions[u->effect] = needed(u, u->rate);
+    } else if (turns[u->effect] != 0 && one_in(2)) {
+        *turns[u->effect] = phase;
+    } else {
+        *sample_rates[u->effect] = rates.list[below(rates.count)];
+    }
+}
+
+/* One of the controls that the tick reads. */
+static void refuse_control(const struct unit *u, struct effect_call *c)
+{
+    unsigned port;
+    do {
+        port = 1u + (unsigned)below(effect_ports(u->effect) - 1u);
+    } while (!reads_port(u, port));
+    c->ports[port] = room_set(any_nan());
+}
+
+static void refuse_curve(const struct unit *u, struct effect_call *c)
+{
+    const struct numbers frequencies = frequencies_refused();
+    const struct numbers sines = sines_refused();
+    const unsigned which = (unsigned)below(effect_curves(u->effect));
+    c->curves[which] = u->effect == ROOM_DELAY ? any_nan()
+                       : which == 0u           ? frequencies.list[below(frequencies.count)]
+                                               : sines.list[below(sines.count)];
+}
+
+/* A retune is the one call here that is refused by 1 and 2, and a delay reads a curve number in one mode alone. */
+static int can_refuse(const struct unit *u, uint32_t number)
+{
+    return effect_can_refuse(u->effect, number) && (number != 1u || effect_has(u->effect, RETUNE)) &&
+           (number != 6u || reads_curve(u, 0));
+}
+
+uint32_t draw_refused(const struct unit *u, struct effect_call *c, struct effect_state *state)
+{
+    uint32_t number;
+    do {
+        number = 1u + (uint32_t)below(6);
+    } while (!can_refuse(u, number));
+    *c = draw_tick(u, (enum audio)below(zero_audios(u->effect)));
+    memcpy(state, &u->state, sizeof *state);
+    if (number == 1u) {
+        refuse_rate(c);
+    } else if (number == 2u) {
+        refuse_coefficient(c);
+    } else if (number == 3u) {
+        refuse_memory(u, c);
+    } else if (number == 4u) {
+        refuse_state(u, c, state);
+    } else if (number == 5u) {
+        refuse_control(u, c);
+    } else {
+        refuse_curve(u, c);
+    }
+    return number;
+}

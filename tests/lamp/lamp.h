@@ -1,0 +1,61 @@
+/*
+ * The lamp: a silent unit of any effect, given zero audio and accepted controls, answers only zeros, of either sign, and is
+ * silent after the tick. What the files of this driver share.
+ *
+ * Calls are made in the form of tests/c/effects.h, numbers drawn from the stream of tests/hostile/random.h.
+ */
+#ifndef LAMP_H
+#define LAMP_H
+
+#include "effects.h"
+#include "random.h"
+#include "tank.h"
+
+/* A unit, the memory that it is lent, and what its start was handed. */
+struct unit {
+    int effect;
+    struct effect_state state;
+    double *lent;
+    uint64_t places;
+    double rate, maximum, coefficient;
+    uint32_t linear;
+};
+
+/* No unit is lent more: the longest line that is drawn is a delay's of 2 s at 192,000, 384,001 places. */
+#define LENT 384200u
+
+/* How a unit was made silent. */
+enum way { STARTED, WAS_RESET, WAS_RETUNED, HANDED_IN, WAYS };
+
+/* units.c: silent units, and what is asked of a unit. */
+struct unit unit_at(int effect, double rate, double maximum); /* just started, lent just what it needs */
+int make_silent(struct unit *u, int effect, enum way way);    /* 0 where a call on the way went wrong */
+void lay_zeros(struct unit *u);         /* zeros of either sign in all places in use, sounds in the others */
+int holds_zeros(const struct unit *u);  /* places in use and stores, read with no call */
+double *any_number(struct unit *u);     /* one of those; NULL of a tremolo, which has none */
+double any_sound(void);                 /* no zero */
+double any_rate(int effect);
+uint64_t needed(const struct unit *u, double rate);
+struct effect_call call_of(const struct unit *u, int call); /* of all that it is lent */
+int silent(const struct unit *u); /* 1 or 0; -1 where the question is refused or leaves another state */
+int is_zero(double x);
+
+/* draw.c: ticks, and calls that are refused. */
+enum audio { UNSET, PLUS_ZERO, MINUS_ZERO, NO_NUMBER, INFINITE, MINUS_INFINITE, AUDIOS };
+unsigned zero_audios(int effect); /* how many of these are zero audio: all under the input rule, else three */
+struct effect_call draw_tick(const struct unit *u, enum audio audio);
+struct effect_call draw_sounding_tick(const struct unit *u);
+uint32_t draw_refused(const struct unit *u, struct effect_call *c, struct effect_state *state); /* the number */
+
+/* tally.c: the facts, how often each was seen of each effect, and what was reached. */
+enum fact { MADE_SILENT, ACCEPTED, ANSWERS_ZEROS, STAYS_SILENT, CLEARS, REFUSED, HOLDS_ZEROS, SOUNDS, FACTS };
+int fact(const struct unit *u, enum fact which, int holds, const struct effect_call *c); /* whether it holds */
+unsigned facts_broken(void);
+void count_tick(const struct unit *u, enum way way, enum audio audio, const double *out);
+void count_refusal(int effect, uint32_t number);
+void check_tally(void); /* prints the table and makes a test of each of its cells */
+
+/* unlit.c: units that are not silent, and audio that is no zero. */
+void unlit(void);
+
+#endif

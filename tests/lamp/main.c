@@ -1,0 +1,132 @@
+/*
+ * lamp TICKS SEED: so many ticks with zero audio, of units of every effect that were made silent, and the cases in which a unit
+ * is not silent.
+ *
+ * Units come one after another, each with a list of calls: ticks, and between them calls that are refused, resets and retunes.
+ * After each the unit is asked whether it is silent. The last line is `N passed, M failed`, counted in facts of each effect, in
+ * what each effect must have come to, and in the cases of unlit.c.
+ */
+#include "lamp.h"
+
+#include <stdio.h>
+#include <stdlib.h>
+#include <string.h>
+
+/* After so many broken facts it ends: where no unit is silent there would be no ticks to count. */
+#define ENOUGH 1000u
+
+static double kept[LENT];
+static uint64_t ticks_made;
+
+/* One tick with zero audio. */
+static int tick(struct unit *u, enum way way)
+{
+    const enum audio audio = (enum audio)below(zero_audios(u->effect));
+    const struct effect_call c = draw_tick(u, audio);
+    double out[3] = {JUNK, JUNK, JUNK};
+    const uint32_t number = effect_make(&u->state, &c, out);
+    unsigned i;
+    int zeros = 1;
+    ticks_made++;
+    for (i = 0; i < effect_samples(u->effect); i++) {
+        zeros = zeros && is_zero(out[i]);
+    }
+    count_tick(u, way, audio, out);
+    return fact(u, ACCEPTED, number == ROOM_ACCEPTED, &c) && fact(u, ANSWERS_ZEROS, zeros, &c) &&
+           fact(u, STAYS_SILENT, silent(u) == 1, &c);
+}
+
+/* A reset or a retune in between. The host may then lay other zeros into the places in use, and sounds into spare ones. */
+static int clear(struct unit *u)
+{
+    const int call = one_in(2) && effect_has(u->effect, RETUNE) ? RETUNE : RESET;
+    const double rate = any_rate(u->effect);
+    struct effect_call c;
+    double out[3];
+    if (call == RETUNE && needed(u, rate) <= u->places) {
+        u->rate = rate;
+    }
+    c = call_of(u, call);
+    if (!fact(u, CLEARS, effect_make(&u->state, &c, out) == ROOM_ACCEPTED && silent(u) == 1, &c)) {
+        return 0;
+    }
+    if (one_in(2)) {
+        lay_zeros(u);
+    }
+    return 1;
+}
+
+/* A call that is refused, of a copy of the state where that is the cause. */
+static int refused(const struct unit *u)
+{
+    struct effect_state state, before;
+    struct effect_call c;
+    double out[3] = {JUNK, JUNK, JUNK};
+    const uint32_t number = draw_refused(u, &c, &state);
+    const unsigned answers = c.call == TICK ? effect_samples(u->effect) : c.call == SILENT ? 1u : 0u;
+    const double none[3] = {0.0, 0.0, 0.0};
+    int good;
+    memcpy(&before, &state, sizeof before);
+    memcpy(kept, u->lent, u->places * sizeof *kept);
+    good = effect_make(&state, &c, out) == number && all_same(out, none, answers) &&
+           memcmp(&state, &before, sizeof state) == 0 && memcmp(kept, u->lent, u->places * sizeof *kept) == 0;
+    count_refusal(u->effect, number);
+    return fact(u, REFUSED, good && silent(u) == 1, &c);
+}
+
+/* The other side, at the end of a list: one place in use or store that is no zero, and the unit is not silent. */
+static void sound(struct unit *u)
+{
+    double *number = any_number(u);
+    if (number != NULL) {
+        *number = any_sound();
+        fact(u, SOUNDS, silent(u) == 0, NULL);
+    }
+}
+
+/* One unit's list. It ends early where a fact is broken: the unit may sound from then on. Long lists, in which a line is gone
+   round more than once, are rarer for the reverb, whose question takes longest. */
+static void list(int effect, enum way way)
+{
+    uint64_t ticks = one_in(effect == ROOM_REVERB ? 12 : 4) ? below(1500) : below(150);
+    struct unit u;
+    int good = fact(&u, MADE_SILENT, make_silent(&u, effect, way) && silent(&u) == 1, NULL);
+    for (; good && ticks > 0u; ticks--) {
+        good = tick(&u, way);
+        if (good && one_in(12)) {
+            good = refused(&u);
+        }
+        if (good && one_in(100)) {
+            good = clear(&u);
+        }
+    }
+    if (good) {
+        fact(&u, HOLDS_ZEROS, holds_zeros(&u), NULL);
+        sound(&u);
+    }
+}
+
+int main(int argc, char **argv)
+{
+    const uint64_t ticks = argc == 3 ? strtoull(argv[1], NULL, 10) : 0u;
+    const uint64_t seed = argc == 3 ? strtoull(argv[2], NULL, 10) : 0u;
+    uint64_t i;
+    if (ticks == 0u) {
+        puts("lamp TICKS SEED");
+        return 2;
+    }
+    seed_random(seed);
+    now_testing("not silent");
+    unlit();
+    now_testing("silent");
+    for (i = 0; ticks_made < ticks && facts_broken() < ENOUGH; i++) {
+        const int effect = (int)(i % (EFFECTS_END - 1u)) + 1;
+        const enum way way = (enum way)(i / (EFFECTS_END - 1u) % WAYS);
+        if (way != WAS_RETUNED || effect_has(effect, RETUNE)) {
+            list(effect, way);
+        }
+    }
+    check_tally();
+    printf("%llu ticks, seed %llu\n", (unsigned long long)ticks_made, (unsigned long long)seed);
+    return say_counts();
+}
