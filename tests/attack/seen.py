@@ -481,16 +481,22 @@ fn reverb_starts(lent: &mut [f64]) -> u64 {
     h
 }
 
-// one place that sounds, all over the tank, and a question
-fn reverb_questions(h: u64, s: Reverb, mem: &mut [f64]) -> u64 {
+// one place that sounds, all over the tank, and a question; then one store that sounds, over a tank of zeros
+fn reverb_questions(h: u64, mem: &mut [f64]) -> u64 {
+    let c = Reverb::new(44100.0, mem);
+    let s = c.state;
     let mut sum = h;
     let mut i: usize = 0;
-    common::clear(mem);
     while i < mem.len() {
         mem[i] = 1.0;
         sum = asked(sum, s.silent(mem));
         mem[i] = -0.0;
         i += 101;
+    }
+    let mut k: u64 = 0;
+    while k < 16 {
+        sum = asked(sum, reverb_with(s, 16 + k, 0, 1.0).silent(mem));
+        k += 1;
     }
     sum
 }
@@ -522,7 +528,7 @@ fn reverb_calls() -> u64 {
     }
     let r = s.set_sample_rate(44100.0, mem);
     h = tank(reverb_left(h, r.state), mem);
-    h = reverb_questions(h, s, mem);
+    h = reverb_questions(h, mem);
     // a state that passes, in memory that is one place short
     reverb_each(h, s, &mut lent[..87135], 27)
 }

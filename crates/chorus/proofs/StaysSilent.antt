@@ -8,10 +8,10 @@ use Rattle.float64.proofs.Interval.{In}
 use Rattle.float64.proofs.Zeros.{Zero, zero-times, zero-over, zero-plus}
 use Rattle.common.specs.Line.{all_zero}
 use Rattle.common.proofs.Sweep.{control-in}
-use Rattle.common.proofs.Silent.{mix-zero}
+use Rattle.common.proofs.ZeroBlends.{mix-zero}
 use Rattle.effect.specs.StaysSilent.{StaysSilent}
 use Rattle.effect.proofs.Parts.{first-read}
-use Rattle.effect.proofs.SilentLaws.{SilentTick, SilentLaws}
+use Rattle.effect.proofs.SilentLaws.{SilentTick, keeps-nothing}
 use Rattle.effect.proofs.StaysSilent.{stays-silent}
 use Rattle.chorus.specs.declared.Chorus.{Chorus}
 use Rattle.chorus.specs.Chorus.{Tick, chorus, line_length, input, depth, distance, voice, mixed, samples_from, samples, writes}
@@ -59,16 +59,6 @@ module _ (t : Tick) (s : Chorus) (m : List Float) (u : SilentTick chorus t s m) 
       let k = tick-fits t u.number in
       mixed-zero (input t) _ _ _ u.audio (control-in t.mix half k.mix refl) (heard t.sine0 k.sine0) (heard t.sine1 k.sine1) (heard t.sine2 k.sine2)
 
-silent-laws : SilentLaws chorus
-unfolding writes
-silent-laws =
-    record {
-      fresh-quiet = λ k. refl;
-      retuned-quiet = λ k s. refl;
-      answers = answers;
-      writes = λ t s m u. (u.audio, tt);
-      next-quiet = λ t s m u. refl;
-    }
-
 pub shown : StaysSilent chorus
-shown = stays-silent chorus laws silent-laws
+unfolding writes
+shown = stays-silent chorus laws (keeps-nothing chorus (λ s. refl) answers (λ t s m u. (u.audio, tt)))

@@ -1,7 +1,7 @@
 pub mod Finite
 pub mod Fill
 pub mod Zeros
-pub mod Silent
+pub mod ZeroBlends
 pub mod Tables
 pub mod Slices
 pub mod Ring

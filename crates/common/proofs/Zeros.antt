@@ -7,10 +7,12 @@ use mathlib.Core.Bool.{Bool, true, false, ◌&&◌, and_assoc}
 use mathlib.Core.List.{List, [], ◌∷◌, ◌++◌}
 use lib.ListN.{length, get_or, set, take, drop, take-append-drop}
 use lib.Seq.{take-add}
+use lib.Dec.{eqb}
+use borrow.Author.Tests.{eqb-true}
 use lib.Ieee.{Float, eq}
 use Rattle.float64.specs.Number.{is_zero}
 use Rattle.float64.proofs.Tests.{both, both-true}
-use Rattle.common.specs.Line.{zeros, all_zero}
+use Rattle.common.specs.Line.{zeros, all_zero, are_zeros}
 
 -- b of the places before x, and then x
 pub one_more : (b : Bool) (x : Float) (l : List Float) → (b && is_zero x) && all_zero l ≡ b && all_zero (x ∷ l)
@@ -57,10 +59,14 @@ zero-at [] p z h l = absurd (not-suc-le-zero l)
 zero-at (x ∷ m) zero z h l = (both (is_zero x) (all_zero m) h).0
 zero-at (x ∷ m) (suc p) z h l = zero-at m p z (both (is_zero x) (all_zero m) h).1 (le_of_suc-le-suc l)
 
-pub zeros-by : (l : List Float) (z : Float) → ((p : ℕ) → p < length l → is_zero (get_or l p z) ≡ true) → all_zero l ≡ true
+-- an entry of n zeros
+pub entry-zero : (n : ℕ) (l : List Float) (i : ℕ) (z : Float) → are_zeros n l ≡ true → i < n → is_zero (get_or l i z) ≡ true
+entry-zero n l i z e h = let b = both (eqb (length l) n) (all_zero l) e in zero-at l i z b.1 (omega (arith, eqb-true (length l) n b.0))
+
+pub all-zero-by : (l : List Float) (z : Float) → ((p : ℕ) → p < length l → is_zero (get_or l p z) ≡ true) → all_zero l ≡ true
 unfolding all_zero
-zeros-by [] z h = refl
-zeros-by (x ∷ l) z h = both-true (h zero (omega arith)) (zeros-by l z (λ p k. h (suc p) (omega arith)))
+all-zero-by [] z h = refl
+all-zero-by (x ∷ l) z h = both-true (h zero (omega arith)) (all-zero-by l z (λ p k. h (suc p) (omega arith)))
 
 take-zeros : (k : ℕ) (l : List Float) → all_zero l ≡ true → all_zero (take k l) ≡ true
 unfolding all_zero
@@ -74,14 +80,14 @@ drop-zeros zero l h = h
 drop-zeros (suc k) [] h = refl
 drop-zeros (suc k) (x ∷ l) h = drop-zeros k l (both (is_zero x) (all_zero l) h).1
 
-cleared : (n : ℕ) → all_zero (zeros n) ≡ true
+zeros-zero : (n : ℕ) → all_zero (zeros n) ≡ true
 unfolding all_zero eq
-cleared zero = refl
-cleared (suc n) = cleared n
+zeros-zero zero = refl
+zeros-zero (suc n) = zeros-zero n
 
 -- so is each part of a cleared memory
 pub cleared-part : (o k n : ℕ) → all_zero (take k (drop o (zeros n))) ≡ true
-cleared-part o k n = take-zeros k (drop o (zeros n)) (drop-zeros o (zeros n) (cleared n))
+cleared-part o k n = take-zeros k (drop o (zeros n)) (drop-zeros o (zeros n) (zeros-zero n))
 
 -- ---- a zero that is put anywhere leaves zeros
 

@@ -2,22 +2,19 @@
 use Rattle.std.proofs.Common.{◌≡◌, true, List, refl, arith}
 use lib.Ieee.{Float, binary64, mul, le}
 use lib.Ieee as Ieee
-use Rattle.float64.specs.Number.{plus_zero, half, is_number, is_zero}
+use Rattle.float64.specs.Number.{half, is_number}
 use Rattle.float64.proofs.Tests.{both-true}
-use Rattle.float64.proofs.Interval.{in-finite}
-use Rattle.float64.proofs.Clamped.{clamp-in}
-use Rattle.float64.proofs.Zeros.{Zero, zero-times, zero-plus}
-use Rattle.port.specs.Port.{value_or}
+use Rattle.float64.proofs.Zeros.{Zero}
 use Rattle.common.specs.Line.{all_zero}
-use Rattle.common.proofs.Sweep.{control-in, value-number}
-use Rattle.common.proofs.Silent.{mix-zero}
-use Rattle.effect.specs.EachTick.{EachWritten}
+use Rattle.common.proofs.Sweep.{control-in}
+use Rattle.common.proofs.ZeroBlends.{mix-zero, fed-zero}
 use Rattle.effect.specs.StaysSilent.{StaysSilent}
+use Rattle.effect.proofs.Laws.{EachWritten}
 use Rattle.effect.proofs.Parts.{first-read}
-use Rattle.effect.proofs.SilentLaws.{SilentTick, SilentLaws}
+use Rattle.effect.proofs.SilentLaws.{SilentTick, keeps-nothing}
 use Rattle.effect.proofs.StaysSilent.{stays-silent}
 use Rattle.delay_line.specs.declared.DelayLine.{DelayLine}
-use Rattle.delay_line.specs.DelayLine.{Tick, delay_line, line_length, input, feedback, distance, delayed_by, delayed, writes, samples}
+use Rattle.delay_line.specs.DelayLine.{Tick, delay_line, line_length, input, distance, delayed_by, delayed, writes, samples}
 use Rattle.delay_line.proofs.Laws.{fits-parts, length-fits, tick-fits, distance-in}
 use Rattle.delay_line.proofs.Demand1.{laws}
 
@@ -35,21 +32,9 @@ module _ (t : Tick) (s : DelayLine) (m : List Float) (u : SilentTick delay_line 
   answers =
       both-true (mix-zero (input t) (delayed t s m) u.audio heard (control-in t.mix half (tick-fits t s.linear_time u.number).mix refl)) refl
 
-  written : EachWritten (λ x. is_zero x ≡ true) (writes t s m)
-  unfolding writes is_number le Ieee.fits Ieee.is_nan Ieee.round
-  written =
-      let back = clamp-in (value_or t.feedback plus_zero) tt tt (value-number t.feedback plus_zero (tick-fits t s.linear_time u.number).feedback refl) in
-      (zero-plus (input t) (mul binary64 (delayed t s m) (feedback t)) u.audio (zero-times (delayed t s m) (feedback t) heard (in-finite back)), tt)
-
-silent-laws : SilentLaws delay_line
-silent-laws =
-    record {
-      fresh-quiet = λ k. refl;
-      retuned-quiet = λ k s. refl;
-      answers = answers;
-      writes = written;
-      next-quiet = λ t s m u. refl;
-    }
+  written : EachWritten Zero (writes t s m)
+  unfolding writes le Ieee.fits Ieee.round
+  written = (fed-zero (input t) (delayed t s m) t.feedback _ _ u.audio heard (tick-fits t s.linear_time u.number).feedback tt tt, tt)
 
 pub shown : StaysSilent delay_line
-shown = stays-silent delay_line laws silent-laws
+shown = stays-silent delay_line laws (keeps-nothing delay_line (λ s. refl) answers written)

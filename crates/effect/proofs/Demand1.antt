@@ -101,6 +101,7 @@ module _ (E : Effect) (laws : Laws E) where
         passes = λ x. (run_in E laws x).state_fits;
         numbers = λ x c. number_is E c (run_in E laws x) refl;
         enough = λ x. (run_in E laws x).enough;
+        in_order = laws.in_order;
         in_use = λ k p. below 0 (E.places k) (E.parts k) (laws.in_order k);
         spare = spare;
         leaves = leaves E;

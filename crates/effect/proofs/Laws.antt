@@ -2,12 +2,20 @@
 use Prim.Native.Nat.{ℕ, ◌≤◌, ◌<◌}
 use mathlib.Core.Path.{◌≡◌}
 use mathlib.Core.Bool.{true, false}
-use mathlib.Core.List.{List}
+use mathlib.Core.List.{List, [], ◌∷◌}
 use lib.ListN.{length}
 use lib.Ieee.{Float}
 use Rattle.effect.specs.Parts.{InOrder}
 use Rattle.effect.specs.Effect.{Effect, Write, InUse}
-use Rattle.effect.specs.EachTick.{EachWrite}
+
+-- every write has the property P
+abbrev pub EachWrite : (Write → Type 0) → List Write → Type 0
+EachWrite P [] = Unit {0}
+EachWrite P (w ∷ ws) = P w × EachWrite P ws
+
+-- every value that is written
+abbrev pub EachWritten : (Float → Type 0) → List Write → Type 0
+EachWritten P ws = EachWrite (λ w. P w.value) ws
 
 -- all the places that are written are in P
 abbrev pub Within : (ℕ → Type 0) → List Write → Type 0

@@ -5,15 +5,15 @@ use lib.Seq.{get_or-take, get_or-drop, length-take-le}
 use lib.Ieee.{Float, nan, binary64}
 use Rattle.float64.specs.Number.{float_of, is_zero}
 use Rattle.float64.proofs.Interval.{In}
+use Rattle.float64.proofs.Zeros.{Zero}
 use Rattle.float64.proofs.Tests.{both, both-true}
 use Rattle.common.specs.Line.{zeros, place, line_at, read_at, all_zero}
-use Rattle.common.proofs.Zeros.{zeros-append, zero-at, zeros-by, cleared-part, zero-put-part}
+use Rattle.common.proofs.Zeros.{zeros-append, zero-at, all-zero-by, cleared-part, zero-put-part}
 use Rattle.common.proofs.Ring.{place-lt}
-use Rattle.common.proofs.Silent.{read-zero}
+use Rattle.common.proofs.ZeroBlends.{read-zero}
 use Rattle.effect.specs.Effect.{Write, laid}
-use Rattle.effect.specs.EachTick.{EachWritten}
 use Rattle.effect.specs.Parts.{Part, part, first_places, held_in, InPart, here, further, InOrder}
-use Rattle.effect.proofs.Laws.{Within, Below}
+use Rattle.effect.proofs.Laws.{EachWritten, Within, Below}
 
 -- ---- which places
 
@@ -70,12 +70,12 @@ one_part q m = ap all_zero (append-nil (take q.size (drop q.start m)))
 pub first-zeros : (n : ℕ) (m : List Float) → all_zero (held_in (first_places n) m) ≡ all_zero (take n m)
 first-zeros n m = one_part (part 0 n) m
 
-pub cleared : (qs : List Part) (n : ℕ) → all_zero (held_in qs (zeros n)) ≡ true
+pub cleared-parts : (qs : List Part) (n : ℕ) → all_zero (held_in qs (zeros n)) ≡ true
 unfolding held_in all_zero
-cleared [] n = refl
-cleared (q ∷ qs) n =
+cleared-parts [] n = refl
+cleared-parts (q ∷ qs) n =
     let part = take q.size (drop q.start (zeros n)) in
-    zeros-append part (held_in qs (zeros n)) ∙ both-true (cleared-part q.start q.size n) (cleared qs n)
+    zeros-append part (held_in qs (zeros n)) ∙ both-true (cleared-part q.start q.size n) (cleared-parts qs n)
 
 -- each of their places is one
 pub zero_in : (o n : ℕ) (qs : List Part) (m : List Float) {p : ℕ} → InOrder o n qs → n ≤ length m → all_zero (held_in qs m) ≡ true → InPart p qs
@@ -96,17 +96,17 @@ zero_in o n (q ∷ qs) m h l z (further u) =
     zero_in (q.start + q.size) n qs m h.1 l (both (all_zero part) (all_zero (held_in qs m)) (sym (zeros-append part (held_in qs m)) ∙ z)).1 u
 
 -- and where each is, they are zeros
-pub zeros_by : (qs : List Part) (m : List Float) → ((p : ℕ) → InPart p qs → is_zero (get_or m p nan) ≡ true) → all_zero (held_in qs m) ≡ true
+pub parts-zero-by : (qs : List Part) (m : List Float) → ((p : ℕ) → InPart p qs → is_zero (get_or m p nan) ≡ true) → all_zero (held_in qs m) ≡ true
 unfolding held_in all_zero
-zeros_by [] m h = refl
-zeros_by (q ∷ qs) m h =
+parts-zero-by [] m h = refl
+parts-zero-by (q ∷ qs) m h =
     let part = take q.size (drop q.start m) in
     zeros-append part (held_in qs m)
     ∙ both-true
-    (zeros-by part nan (λ p k.
+    (all-zero-by part nan (λ p k.
     let i : p < q.size = omega (arith, length-take q.size (drop q.start m)) in
     ap is_zero (get_or-take q.size (drop q.start m) p nan i ∙ get_or-drop q.start m p nan) ∙ h (q.start + p) (here (omega arith) (omega arith))))
-    (zeros_by qs m (λ p u. h p (further u)))
+    (parts-zero-by qs m (λ p u. h p (further u)))
 
 -- ---- a zero that is put anywhere leaves zeros
 
@@ -118,7 +118,7 @@ put (q ∷ qs) m p x z h =
     zeros-append (take q.size (drop q.start (set m p x))) (held_in qs (set m p x))
     ∙ both-true (zero-put-part q.start q.size m p x z b.0) (put qs m p x z b.1)
 
-pub zeros-laid : (qs : List Part) (ws : List Write) (m : List Float) → EachWritten (λ x. is_zero x ≡ true) ws → all_zero (held_in qs m) ≡ true
+pub zeros-laid : (qs : List Part) (ws : List Write) (m : List Float) → EachWritten Zero ws → all_zero (held_in qs m) ≡ true
     → all_zero (held_in qs (laid ws m)) ≡ true
 zeros-laid qs [] m z h = h
 zeros-laid qs (w ∷ ws) m z h = zeros-laid qs ws (set m w.place w.value) z.1 (put qs m w.place w.value z.0 h)

@@ -4,7 +4,7 @@ use lib.Ieee.{nan}
 use Rattle.float64.specs.Number.{is_zero}
 use Rattle.float64.proofs.Tests.{both, both-true}
 use Rattle.port.specs.Answer.{refused}
-use Rattle.common.specs.Line.{all_zero}
+use Rattle.common.specs.Line.{zeros, all_zero}
 use Rattle.effect.specs.Parts.{held_in}
 use Rattle.effect.specs.Effect.{Effect, InUse, laid}
 use Rattle.effect.specs.Run.{tick, retune, reset, ask, CallOf, Device, if_none, number_at, is_silent, changed, says, step, reply, after, replies}
@@ -12,7 +12,7 @@ use Rattle.effect.specs.EachTick.{Meets, EachTick}
 use Rattle.effect.specs.StaysSilent.{soundless, all_soundless, ZeroAudio, WhenSilent, StaysSilent}
 use Rattle.effect.proofs.Laws.{Laws}
 use Rattle.effect.proofs.SilentLaws.{SilentTick, SilentLaws}
-use Rattle.effect.proofs.Parts.{cleared, zero_in, zeros_by, zeros-laid}
+use Rattle.effect.proofs.Parts.{cleared-parts, zero_in, parts-zero-by, zeros-laid}
 use Rattle.effect.proofs.Table.{accepted, tick-accepted}
 
 module _ (E : Effect) where
@@ -33,8 +33,15 @@ module _ (E : Effect) (laws : Laws E) (silent : SilentLaws E) where
   means h l =
       let k = E.settings h.state in (
         (λ d. let b = halves E h d in (b.0, λ p u. zero_in 0 (E.places k) (E.parts k) h.memory (laws.in_order k) l b.1 u)),
-        (λ b. both-true b.0 (zeros_by (E.parts k) h.memory b.1)),
+        (λ b. both-true b.0 (parts-zero-by (E.parts k) h.memory b.1)),
       )
+
+  -- a clearing leaves any unit silent
+  cleared_silent : (k : E.Settings) (n : ℕ) → is_silent E (record { state = E.fresh k; memory = zeros n }) ≡ true
+  cleared_silent k n = both-true (silent.fresh-quiet k) (cleared-parts (E.parts (E.settings (E.fresh k))) n)
+
+  retuned_silent : (k : E.Settings) (s : E.State) (n : ℕ) → is_silent E (record { state = E.retuned k s; memory = zeros n }) ≡ true
+  retuned_silent k s n = both-true (silent.retuned-quiet k s) (cleared-parts (E.parts (E.settings (E.retuned k s))) n)
 
   -- an accepted call leaves a silent unit silent
   stays : (c : CallOf E) (h : Device E.State) → number_at E c h ≡ 0 → Meets E (ZeroAudio E) c → is_silent E h ≡ true → is_silent E (changed E c h) ≡ true
@@ -44,10 +51,8 @@ module _ (E : Effect) (laws : Laws E) (silent : SilentLaws E) where
       let u = silent-tick E t h e z d in
       let zeros = zeros-laid (E.parts (E.settings s)) (E.writes t s m) m (silent.writes t s m u) u.zeros in
       both-true (silent.next-quiet t s m u) (ap (λ (k : E.Settings). all_zero (held_in (E.parts k) (laid (E.writes t s m) m))) (laws.next-settings t s m) ∙ zeros)
-  stays (retune r) h e z d =
-      let k = E.retune_settings r (E.settings h.state) in
-      both-true (silent.retuned-quiet k h.state) (cleared (E.parts (E.settings (E.retuned k h.state))) (length h.memory))
-  stays reset h e z d = let k = E.settings h.state in both-true (silent.fresh-quiet k) (cleared (E.parts (E.settings (E.fresh k))) (length h.memory))
+  stays (retune r) h e z d = retuned_silent (E.retune_settings r (E.settings h.state)) h.state (length h.memory)
+  stays reset h e z d = cleared_silent (E.settings h.state) (length h.memory)
   stays ask h e z d = d
 
   -- and nothing sounds in what it answers
@@ -83,6 +88,9 @@ module _ (E : Effect) (laws : Laws E) (silent : SilentLaws E) where
   stays-silent =
       record {
         means = means;
+        starts = λ x m e. rw e (cleared_silent (E.start_settings x) (length m));
+        resets = λ h e. rw e (cleared_silent (E.settings h.state) (length h.memory));
+        retunes = λ r h e. rw e (retuned_silent (E.retune_settings r (E.settings h.state)) h.state (length h.memory));
         answers = λ t h e z d. (rw e, silent.answers t h.state h.memory (silent-tick E t h e z d));
         stays = λ t h e z d. step-stays (tick t) h (λ f. z) d;
         goes-on = goes-on;

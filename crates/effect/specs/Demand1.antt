@@ -3,6 +3,7 @@
 use Rattle.std.specs.Prelude.{ℕ, ◌≤◌, ◌<◌, ◌≡◌, ◌≢◌, true, false, List, [], ◌∷◌, ◌++◌, length, get_or, Float}
 use Rattle.float64.specs.Number.{plus_zero}
 use Rattle.common.specs.Line.{zeros}
+use Rattle.effect.specs.Parts.{InOrder}
 use Rattle.effect.specs.Effect.{Effect, InUse, Unnamed}
 use Rattle.effect.specs.Run.{tick, retune, reset, ask, CallOf, Device, number_for, number_at, start_number, start, step, after, replies, Run, final}
 use Rattle.effect.specs.Trace.{traced, laid_out}
@@ -41,8 +42,9 @@ pub record Demand1 (E : Effect) : Type 0 where
   -- every state of a run passes the state test, so cause 4 never applies
   pub passes : (x : Run E) → E.state_fits (final E x).state ≡ true
   pub numbers : (x : Run E) (c : CallOf E) → number_at E c (final E x) ≡ number_for E c (length x.memory) (E.settings (final E x).state)
-  -- the places needed are there, those in use are among them, and all others are +0
+  -- the places needed are there; those in use follow each other among them, none twice; and all others are +0
   pub enough : (x : Run E) → E.places (E.settings (final E x).state) ≤ length x.memory
+  pub in_order : (k : E.Settings) → InOrder 0 (E.places k) (E.parts k)
   pub in_use : (k : E.Settings) (p : ℕ) → InUse E k p → p < E.places k
   pub spare : (x : Run E) (p : ℕ) → ¬ InUse E (E.settings (final E x).state) p → get_or (final E x).memory p plus_zero ≡ plus_zero
   -- ---- what one call leaves, in a run or not

@@ -1,15 +1,7 @@
--- What every accepted tick among some calls meets, and what every value that it writes. Definitions only. Assumes nothing.
-use Rattle.std.specs.Prelude.{◌≡◌, List, [], ◌∷◌, Float}
-use Rattle.effect.specs.Effect.{Effect, Write}
+-- What every accepted tick among some calls meets. Definitions only. Assumes nothing.
+use Rattle.std.specs.Prelude.{◌≡◌, List, [], ◌∷◌}
+use Rattle.effect.specs.Effect.{Effect}
 use Rattle.effect.specs.Run.{tick, retune, reset, ask, CallOf, Device, number_at, step}
-
--- every write has the property P; every value written has it
-abbrev pub EachWrite : (Write → Type 0) → List Write → Type 0
-EachWrite P [] = Unit {0}
-EachWrite P (w ∷ ws) = P w × EachWrite P ws
-
-abbrev pub EachWritten : (Float → Type 0) → List Write → Type 0
-EachWritten P ws = EachWrite (λ w. P w.value) ws
 
 module _ (E : Effect) where
   -- a tick meets the condition C; of another call nothing is asked

@@ -1,12 +1,12 @@
 -- What a lamp that shows "silent" is for: a silent unit that is given zero audio answers only zeros and stays silent. For every unit, in a run or handed in.
 -- Definitions only. Assumes nothing.
-use Rattle.std.specs.Prelude.{ℕ, ◌≡◌, ◌≤◌, ◌↔◌, Bool, true, ◌&&◌, List, [], ◌∷◌, length, get_or}
+use Rattle.std.specs.Prelude.{ℕ, ◌≡◌, ◌≤◌, ◌↔◌, Bool, true, ◌&&◌, List, [], ◌∷◌, length, get_or, Float}
 use Rattle.std.specs.Float.{nan}
 use Rattle.float64.specs.Number.{is_zero}
 use Rattle.port.specs.Answer.{Reply, played, done, silent, refused}
 use Rattle.common.specs.Line.{all_zero}
 use Rattle.effect.specs.Effect.{Effect, InUse}
-use Rattle.effect.specs.Run.{tick, CallOf, Device, number_at, is_silent, step, reply, after, replies}
+use Rattle.effect.specs.Run.{tick, retune, reset, CallOf, Device, start_number, number_at, is_silent, start, step, reply, after, replies}
 use Rattle.effect.specs.EachTick.{EachTick}
 
 -- nothing sounds in the reply: its samples are +0 or −0, and if it answers the question, it says silent
@@ -33,7 +33,11 @@ pub record StaysSilent (E : Effect) : Type 0 where
   pub means : (h : Device E.State) → E.places (E.settings h.state) ≤ length h.memory
       → (is_silent E h ≡ true)
       ↔ ((E.quiet h.state ≡ true) × ((p : ℕ) → InUse E (E.settings h.state) p → is_zero (get_or h.memory p nan) ≡ true))
-  -- such a tick answers only zeros of either sign
+  -- a unit is silent after every clearing, whatever it was before
+  pub starts : (x : E.Start) (m : List Float) → start_number E x (length m) ≡ 0 → is_silent E (start E x m) ≡ true
+  pub resets : (h : Device E.State) → number_at E reset h ≡ 0 → is_silent E (step E reset h) ≡ true
+  pub retunes : (r : E.Retune) (h : Device E.State) → number_at E (retune r) h ≡ 0 → is_silent E (step E (retune r) h) ≡ true
+  -- a silent unit's accepted tick with zero audio answers only zeros of either sign
   pub answers : WhenSilent E (λ t h. (reply E (tick t) h ≡ played (E.samples t h.state h.memory)) × (all_zero (E.samples t h.state h.memory) ≡ true))
   -- and leaves the unit silent
   pub stays : WhenSilent E (λ t h. is_silent E (step E (tick t) h) ≡ true)

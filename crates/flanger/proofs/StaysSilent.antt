@@ -2,24 +2,21 @@
 use Rattle.std.proofs.Common.{◌≡◌, ℕ, ◌+◌, ◌*◌, ◌≤◌, true, List, refl, arith}
 use lib.Ieee.{Float, binary64, mul, neg, le}
 use lib.Ieee as Ieee
-use Rattle.float64.specs.Number.{plus_zero, half, is_number, is_zero, sine_fits}
+use Rattle.float64.specs.Number.{half, is_number, sine_fits}
 use Rattle.float64.proofs.Tests.{both-true}
-use Rattle.float64.proofs.Interval.{in-finite}
 use Rattle.float64.proofs.Ranges.{in-range}
-use Rattle.float64.proofs.Clamped.{clamp-in}
-use Rattle.float64.proofs.Zeros.{Zero, zero-times, zero-plus}
-use Rattle.port.specs.Port.{value_or}
+use Rattle.float64.proofs.Zeros.{Zero}
 use Rattle.common.specs.Signal.{blended}
 use Rattle.common.specs.Line.{all_zero}
-use Rattle.common.proofs.Sweep.{control-in, value-number}
-use Rattle.common.proofs.Silent.{mix-zero}
-use Rattle.effect.specs.EachTick.{EachWritten}
+use Rattle.common.proofs.Sweep.{control-in}
+use Rattle.common.proofs.ZeroBlends.{mix-zero, fed-zero}
 use Rattle.effect.specs.StaysSilent.{StaysSilent}
+use Rattle.effect.proofs.Laws.{EachWritten}
 use Rattle.effect.proofs.Parts.{first-read}
-use Rattle.effect.proofs.SilentLaws.{SilentTick, SilentLaws}
+use Rattle.effect.proofs.SilentLaws.{SilentTick, keeps-nothing}
 use Rattle.effect.proofs.StaysSilent.{stays-silent}
 use Rattle.flanger.specs.declared.Flanger.{Flanger}
-use Rattle.flanger.specs.Flanger.{Tick, flanger, line_length, places, input, depth, feedback, mix, distance, tap, fed, writes, samples}
+use Rattle.flanger.specs.Flanger.{Tick, flanger, line_length, places, input, depth, mix, distance, tap, fed, writes, samples}
 use Rattle.flanger.proofs.Laws.{fits-parts, length-fits, tick-fits, distance-in}
 use Rattle.flanger.proofs.Demand1.{laws}
 
@@ -42,10 +39,8 @@ module _ (t : Tick) (s : Flanger) (m : List Float) (u : SilentTick flanger t s m
 
   -- what a line that reads a zero is fed, and what its side plays
   stores : (y : Float) → Zero y → Zero (fed t y)
-  unfolding fed is_number le neg Ieee.fits Ieee.is_nan Ieee.round
-  stores y z =
-      let back = clamp-in (value_or t.feedback plus_zero) tt tt (value-number t.feedback plus_zero (tick-fits t u.number).feedback refl) in
-      zero-plus (input t) (mul binary64 y (feedback t)) u.audio (zero-times y (feedback t) z (in-finite back))
+  unfolding fed le neg Ieee.fits Ieee.round
+  stores y z = fed-zero (input t) y t.feedback _ _ u.audio z (tick-fits t u.number).feedback tt tt
 
   plays : (y : Float) → Zero y → Zero (blended (input t) y (mix t))
   unfolding is_number Ieee.fits Ieee.is_nan Ieee.round
@@ -55,19 +50,9 @@ module _ (t : Tick) (s : Flanger) (m : List Float) (u : SilentTick flanger t s m
   unfolding samples all_zero
   answers = both-true (plays _ left) (both-true (plays _ left) (both-true (plays _ right) refl))
 
-  written : EachWritten (λ x. is_zero x ≡ true) (writes t s m)
+  written : EachWritten Zero (writes t s m)
   unfolding writes
   written = (stores _ left, (stores _ right, tt))
 
-silent-laws : SilentLaws flanger
-silent-laws =
-    record {
-      fresh-quiet = λ k. refl;
-      retuned-quiet = λ k s. refl;
-      answers = answers;
-      writes = written;
-      next-quiet = λ t s m u. refl;
-    }
-
 pub shown : StaysSilent flanger
-shown = stays-silent flanger laws silent-laws
+shown = stays-silent flanger laws (keeps-nothing flanger (λ s. refl) answers written)

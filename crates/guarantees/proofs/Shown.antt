@@ -38,7 +38,7 @@ use Rattle.guarantees.specs.RecentPasts.{RecentPasts}
 use Rattle.guarantees.specs.WholePart.{WholePart}
 use Rattle.guarantees.specs.OneLine.{OneLine}
 use Rattle.guarantees.specs.IdleStages.{SameStage, IdleStages}
-use Rattle.guarantees.specs.Lamp.{zero_port, zero_under_rule, Lamp}
+use Rattle.guarantees.specs.Lamp.{as_it_is, under_rule, zero_as_it_is, zero_under_rule, Lamp}
 
 pub clean-memory : CleanMemory
 clean-memory =
@@ -97,30 +97,28 @@ idle_stages = record { kept = λ t u i h. stages-kept t u i h (number_at phaser 
 
 -- ---- zero audio, as it is and under the input rule
 
-as-it-is : (p : Port) → is_zero (value_or p plus_zero) ≡ zero_port p
+as_it_is_zero : (p : Port) → is_zero (as_it_is p) ≡ zero_as_it_is p
 unfolding eq
-as-it-is Unset = refl
-as-it-is (Set x) = refl
+as_it_is_zero Unset = refl
+as_it_is_zero (Set x) = refl
 
-under-rule : (p : Port) → is_zero (sanitized (value_or p plus_zero)) ≡ zero_under_rule p
+under_rule_zero : (p : Port) → is_zero (under_rule p) ≡ zero_under_rule p
 unfolding eq
-under-rule Unset = refl
-under-rule (Set nan) = refl
-under-rule (Set (inf s)) = refl
-under-rule (Set (fin s m e)) = sym (or-false (is_zero (fin s m e)))
-
--- a test that is another's answer passes where the other does
-alike : {a b : Bool} → a ≡ b → (a ≡ true) ↔ (b ≡ true)
-alike e = ((λ p. sym e ∙ p), (λ q. e ∙ q))
+under_rule_zero Unset = refl
+under_rule_zero (Set nan) = refl
+under_rule_zero (Set (inf s)) = refl
+under_rule_zero (Set (fin s m e)) = sym (or-false (is_zero (fin s m e)))
 
 pub lamp : Lamp
 lamp =
     record {
-      delay-lines = record { audio_is = λ t. alike (under-rule t.audio); stays = delay-silent.shown };
-      choruses = record { audio_is = λ t. alike (under-rule t.audio); stays = chorus-silent.shown };
-      flangers = record { audio_is = λ t. alike (under-rule t.audio); stays = flanger-silent.shown };
-      vibratos = record { audio_is = λ t. alike (as-it-is t.audio); stays = vibrato-silent.shown };
-      tremolos = record { audio_is = λ t. alike (as-it-is t.audio); stays = tremolo-silent.shown };
-      reverbs = record { audio_is = λ t. alike (under-rule t.audio); stays = reverb-silent.shown };
-      phasers = record { audio_is = λ t. alike (under-rule t.audio); stays = phaser-silent.shown };
+      delay-lines = record { input_is = λ t. refl; stays = delay-silent.shown };
+      choruses = record { input_is = λ t. refl; stays = chorus-silent.shown };
+      flangers = record { input_is = λ t. refl; stays = flanger-silent.shown };
+      vibratos = record { input_is = λ t. refl; stays = vibrato-silent.shown };
+      tremolos = record { input_is = λ t. refl; stays = tremolo-silent.shown };
+      reverbs = record { input_is = λ t. refl; stays = reverb-silent.shown };
+      phasers = record { input_is = λ t. refl; stays = phaser-silent.shown };
+      as_it_is_zero = as_it_is_zero;
+      under_rule_zero = under_rule_zero;
     }

@@ -3,13 +3,15 @@ use Rattle.std.proofs.Common.{◌≡◌, ◌≢◌, ℕ, Bool, true, false, ◌&
 use lib.Ieee.{Float, nan, binary64, div, le, lt, of_int, round, neg, is_nan}
 use lib.Ieee as Ieee
 use Rattle.float64.specs.Number.{plus_zero, float_of, fraction, half, is_number, frequency_fits, allpass_fits, clamp_of}
+use Rattle.float64.proofs.Tests.{both}
 use Rattle.float64.proofs.Ranges.{is-true}
 use Rattle.float64.proofs.Order.{lt→le, le→not-lt, le-transitive, lt-le-lt}
 use Rattle.port.specs.declared.Port.TheVariants.{Set}
-use Rattle.port.specs.Port.{value_or}
+use Rattle.port.specs.Port.{value_or, is_nan_set}
 use Rattle.port.specs.Answer.{Reply, played}
 use Rattle.port.proofs.Laws.{nan_is}
 use Rattle.common.specs.Signal.{blended, advanced, cause_number}
+use Rattle.common.proofs.Sweep.{no-cause, neither}
 use Rattle.effect.specs.Run.{tick, reset, number_in}
 use Rattle.effect.specs.Contract.{Does}
 use Rattle.effect.proofs.Contract.{accepts}
@@ -82,6 +84,26 @@ module _ (x : Float) (h : T (Ieee.fits binary64 x)) where
       go true b i j = at-0 ∙ i tt
       go false true i j = at-1 ∙ j tt
       go false false i j = refl
+
+-- ---- causes 5 and 6
+
+pub record TickFits (t : Tick) : Type 0 where
+  pub feedback : is_nan_set t.feedback ≡ false
+  pub mix : is_nan_set t.mix ≡ false
+  pub frequency : frequency_fits t.frequency ≡ true
+  pub coef_l : allpass_fits t.coef_l ≡ true
+  pub coef_r : allpass_fits t.coef_r ≡ true
+
+pub tick-fits : (t : Tick) → tick_number t ≡ 0 → TickFits t
+unfolding tick_number
+tick-fits t e =
+    let coefs = allpass_fits t.coef_l && allpass_fits t.coef_r in
+    let others = is_nan_set t.mix || is_nan_set t.stages in
+    let v = no-cause (is_nan_set t.feedback || others) (frequency_fits t.frequency && coefs) e in
+    let a = neither (is_nan_set t.feedback) others v.0 in
+    let b = both (frequency_fits t.frequency) coefs v.1 in
+    let c = both (allpass_fits t.coef_l) (allpass_fits t.coef_r) b.1 in
+    record { feedback = a.0; mix = (neither (is_nan_set t.mix) (is_nan_set t.stages) a.1).0; frequency = b.0; coef_l = c.0; coef_r = c.1 }
 
 -- ---- an accepted tick from its steps
 

@@ -1,25 +1,25 @@
 -- A silent phaser stays silent: a stage that holds zeros puts out a zero for a zero, and holds zeros again. Assumes nothing.
-use Rattle.std.proofs.Common.{◌≡◌, ℕ, zero, suc, ◌-◌, ◌≤◌, ◌<◌, Bool, true, false, cond, ◌&&◌, ◌||◌, eqb, List, length, get_or, set, refl, ap, ◌∙◌, arith, length-set, eqb-true}
+use Rattle.std.proofs.Common.{◌≡◌, ℕ, zero, suc, ◌-◌, ◌≤◌, ◌<◌, Bool, true, false, cond, ◌&&◌, eqb, List, length, get_or, set, refl, ap, ◌∙◌, arith, length-set}
 use lib.Ieee.{Float, nan, binary64, add, mul, eq, lt, le, neg, of_int, round}
 use lib.Ieee as Ieee
-use Rattle.float64.specs.Number.{plus_zero, float_of, fraction, half, is_number, allpass_fits, frequency_fits, clamp_of}
+use Rattle.float64.specs.Number.{plus_zero, float_of, fraction, half, is_number, allpass_fits, clamp_of}
 use Rattle.float64.proofs.Tests.{both, both-true}
 use Rattle.float64.proofs.Interval.{in-finite}
 use Rattle.float64.proofs.Ranges.{sine-in}
-use Rattle.float64.proofs.Clamped.{clamp-in}
-use Rattle.float64.proofs.Zeros.{Zero, zero-times, times-zero, zero-plus, zero-minus}
-use Rattle.port.specs.Port.{value_or, is_nan_set}
+use Rattle.float64.proofs.Zeros.{Zero, times-zero, zero-plus, zero-minus}
+use Rattle.port.specs.Port.{value_or}
 use Rattle.common.specs.Signal.{blended}
 use Rattle.common.specs.Line.{all_zero, are_zeros}
-use Rattle.common.proofs.Zeros.{zero-at, zero-put}
-use Rattle.common.proofs.Sweep.{no-cause, neither, control-in, value-number}
-use Rattle.common.proofs.Silent.{mix-zero}
+use Rattle.common.proofs.Zeros.{entry-zero, zero-put}
+use Rattle.common.proofs.Sweep.{control-in}
+use Rattle.common.proofs.ZeroBlends.{mix-zero, fed-zero}
 use Rattle.effect.specs.StaysSilent.{StaysSilent}
 use Rattle.effect.proofs.SilentLaws.{SilentTick, SilentLaws}
 use Rattle.effect.proofs.StaysSilent.{stays-silent}
 use Rattle.phaser.specs.declared.Phaser.{Phaser}
 use Rattle.phaser.specs.Allpass.{Chain, chain_of, allpassed, stage, passed}
-use Rattle.phaser.specs.Phaser.{Tick, phaser, max_stages, fresh, quiet, tick_number, input, feedback, mix, stages, stages_at, fed, chain_after, left, right, next, samples}
+use Rattle.phaser.specs.Phaser.{Tick, phaser, max_stages, fresh, quiet, input, feedback, mix, stages, stages_at, fed, chain_after, left, right, next, samples}
+use Rattle.phaser.proofs.Laws.{TickFits, tick-fits}
 use Rattle.phaser.proofs.Demand1.{laws}
 
 -- ---- a list of six zeros
@@ -27,11 +27,7 @@ use Rattle.phaser.proofs.Demand1.{laws}
 abbrev Zeros : List Float → Type 0
 Zeros l = are_zeros max_stages l ≡ true
 
--- its entry i
-entry : (l : List Float) (i : ℕ) → Zeros l → i < max_stages → Zero (get_or l i nan)
-entry l i z h = let b = both (eqb (length l) max_stages) (all_zero l) z in zero-at l i nan b.1 (omega (arith, eqb-true (length l) max_stages b.0))
-
--- with a zero in place of that
+-- with a zero put into it
 put : (l : List Float) (i : ℕ) (x : Float) → Zeros l → Zero x → Zeros (set l i x)
 put l i x z h =
     let b = both (eqb (length l) max_stages) (all_zero l) z in
@@ -52,8 +48,8 @@ module _ (coef : Float) (fits : allpass_fits coef ≡ true) where
       let x = get_or c.x1 i nan in
       let y = get_or c.y1 i nan in
       let output = zero-minus (add binary64 (mul binary64 coef c.signal) x) (mul binary64 coef y)
-      (zero-plus (mul binary64 coef c.signal) x (times-zero coef c.signal f s.signal) (entry c.x1 i s.x1 h))
-      (times-zero coef y f (entry c.y1 i s.y1 h)) in
+      (zero-plus (mul binary64 coef c.signal) x (times-zero coef c.signal f s.signal) (entry-zero max_stages c.x1 i nan s.x1 h))
+      (times-zero coef y f (entry-zero max_stages c.y1 i nan s.y1 h)) in
       record { x1 = put c.x1 i c.signal s.x1 s.signal; y1 = put c.y1 i _ s.y1 output; signal = output }
 
   passed-still : (n : ℕ) (c : Chain) → n ≤ max_stages → Still c → Still (passed coef n c)
@@ -73,23 +69,10 @@ running c = go (lt c (fraction 33 100)) (lt c (fraction 66 100))
     go false false = (omega arith, omega arith)
 
 module _ (t : Tick) (s : Phaser) (m : List Float) (u : SilentTick phaser t s m) where
-  -- its causes, and its 24 numbers
-  record TickFits : Type 0 where
-    feedback : is_nan_set t.feedback ≡ false
-    mix : is_nan_set t.mix ≡ false
-    coef_l : allpass_fits t.coef_l ≡ true
-    coef_r : allpass_fits t.coef_r ≡ true
+  k : TickFits t
+  k = tick-fits t u.number
 
-  tick-fits : TickFits
-  unfolding tick_number
-  tick-fits =
-      let coefs = allpass_fits t.coef_l && allpass_fits t.coef_r in
-      let others = is_nan_set t.mix || is_nan_set t.stages in
-      let v = no-cause (is_nan_set t.feedback || others) (frequency_fits t.frequency && coefs) u.number in
-      let a = neither (is_nan_set t.feedback) others v.0 in
-      let b = both (allpass_fits t.coef_l) (allpass_fits t.coef_r) (both (frequency_fits t.frequency) coefs v.1).1 in
-      record { feedback = a.0; mix = (neither (is_nan_set t.mix) (is_nan_set t.stages) a.1).0; coef_l = b.0; coef_r = b.1 }
-
+  -- its 24 numbers
   record Quiet : Type 0 where
     x1_l : Zeros s.allpass_x1_l
     x1_r : Zeros s.allpass_x1_r
@@ -108,23 +91,22 @@ module _ (t : Tick) (s : Phaser) (m : List Float) (u : SilentTick phaser t s m) 
 
   -- a side's chain after the tick
   side : (coef : Float) (x1 y1 : List Float) → allpass_fits coef ≡ true → Zeros x1 → Zeros y1 → Still (chain_after t coef x1 y1)
-  unfolding chain_after fed is_number le neg Ieee.fits Ieee.is_nan round
+  unfolding chain_after fed le neg Ieee.fits round
   side coef x1 y1 h zx zy =
       let n = running (clamp_of (value_or t.stages (float_of 1)) plus_zero (float_of 1)) in
-      let back = clamp-in (value_or t.feedback plus_zero) tt tt (value-number t.feedback plus_zero tick-fits.feedback refl) in
       let last = get_or y1 (stages t - 1) nan in
-      let enters = zero-plus (input t) (mul binary64 last (feedback t)) u.audio (zero-times last (feedback t) (entry y1 (stages t - 1) zy (omega arith)) (in-finite back)) in
+      let enters = fed-zero (input t) last t.feedback _ _ u.audio (entry-zero max_stages y1 (stages t - 1) nan zy (omega arith)) k.feedback tt tt in
       passed-still coef h (stages t) (chain_of x1 y1 (fed (input t) (feedback t) (stages t) y1)) n.1 (record { x1 = zx; y1 = zy; signal = enters })
 
   left-still : Still (left t s)
-  left-still = let q = quiet-parts in side t.coef_l s.allpass_x1_l s.allpass_y1_l tick-fits.coef_l q.x1_l q.y1_l
+  left-still = let q = quiet-parts in side t.coef_l s.allpass_x1_l s.allpass_y1_l k.coef_l q.x1_l q.y1_l
 
   right-still : Still (right t s)
-  right-still = let q = quiet-parts in side t.coef_r s.allpass_x1_r s.allpass_y1_r tick-fits.coef_r q.x1_r q.y1_r
+  right-still = let q = quiet-parts in side t.coef_r s.allpass_x1_r s.allpass_y1_r k.coef_r q.x1_r q.y1_r
 
   plays : (c : Chain) → Still c → Zero (blended (input t) c.signal (mix t))
   unfolding is_number Ieee.fits Ieee.is_nan round
-  plays c z = mix-zero (input t) c.signal u.audio z.signal (control-in t.mix half tick-fits.mix refl)
+  plays c z = mix-zero (input t) c.signal u.audio z.signal (control-in t.mix half k.mix refl)
 
   answers : all_zero (samples t s) ≡ true
   unfolding samples all_zero

@@ -5,10 +5,9 @@ use lib.Ieee as Ieee
 use Rattle.float64.specs.Number.{rate_fits, in_range}
 use Rattle.common.proofs.Ring.{next-lt}
 use Rattle.effect.specs.Effect.{Write, InUse}
-use Rattle.effect.specs.EachTick.{EachWrite}
 use Rattle.effect.specs.Demand1.{Demand1}
 use Rattle.effect.proofs.Table.{none_1}
-use Rattle.effect.proofs.Laws.{Laws, Within}
+use Rattle.effect.proofs.Laws.{EachWrite, Laws, Within}
 use Rattle.effect.proofs.Memory.{each-append}
 use Rattle.effect.proofs.Demand1.{demand-1}
 use Rattle.reverb.specs.declared.tick.Controls.{Controls}

@@ -1,12 +1,15 @@
--- The reverb's state test by its parts. Assumes nothing.
-use Rattle.std.proofs.Common.{◌≡◌, ◌<◌, Bool, true, false, cond, ◌&&◌, ltb, length, replicate, refl, ap, ltb-true, lt-ltb}
+-- The reverb's state test by its parts, and the table's row of a tick. Assumes nothing.
+use Rattle.std.proofs.Common.{◌≡◌, ◌<◌, Bool, true, false, cond, ◌&&◌, ◌||◌, ltb, length, replicate, refl, ap, ltb-true, lt-ltb}
 use Rattle.float64.specs.Number.{rate_fits}
 use Rattle.float64.proofs.Tests.{both}
+use Rattle.port.specs.Port.{is_nan_set}
+use Rattle.common.proofs.Sweep.{neither}
+use Rattle.effect.proofs.Table.{none_5}
 use Rattle.reverb.specs.declared.tunings.Lengths.{Lengths}
 use Rattle.reverb.specs.declared.Reverb.{Reverb}
 use Rattle.reverb.specs.Tunings.{Side, left, right, comb_most, allpass_most, predelay_size, lengths_at, no_lengths, lengths_for}
 use Rattle.reverb.specs.Tank.{SidedLines, all_below, positions_fit, InLines}
-use Rattle.reverb.specs.Reverb.{combs, allpasses, state_fits}
+use Rattle.reverb.specs.Reverb.{Tick, combs, allpasses, state_fits, tick_number}
 use mathlib.Core.Bool.{and-false}
 use Rattle.reverb.proofs.Lists.{below-zero}
 use Rattle.reverb.proofs.Scaling.{roomy}
@@ -85,3 +88,19 @@ module _ (s : Reverb) where
       go : (b : Bool) → n ≡ cond b (lengths_at s.sample_rate) no_lengths → parts n ≡ b && inside
       go true e = ap parts e
       go false e = rw (e, below-zero s.comb_pos_l (replicate 7 0)) (and-false (ltb s.predelay_pos predelay_size))
+
+-- ---- cause 5
+
+pub record TickFits (t : Tick) : Type 0 where
+  pub size : is_nan_set t.size ≡ false
+  pub damping : is_nan_set t.damping ≡ false
+  pub mix : is_nan_set t.mix ≡ false
+
+pub tick-fits : (t : Tick) → tick_number t ≡ 0 → TickFits t
+unfolding tick_number
+tick-fits t e =
+    let last = is_nan_set t.mix || is_nan_set t.predelay in
+    let others = is_nan_set t.damping || last in
+    let a = neither (is_nan_set t.size) others (none_5 (is_nan_set t.size || others) e) in
+    let b = neither (is_nan_set t.damping) last a.1 in
+    record { size = a.0; damping = b.0; mix = (neither (is_nan_set t.mix) (is_nan_set t.predelay) b.1).0 }

@@ -1,21 +1,20 @@
 -- A silent reverb stays silent: its lines and stores hold zeros, so that combs, sums, all-passes and blends give zeros. Assumes nothing.
-use Rattle.std.proofs.Common.{◌≡◌, ℕ, zero, suc, ◌<◌, Bool, true, false, ◌||◌, ◌==◌, cond, eqb, List, length, get_or, refl, ap, ◌∙◌, arith, eqb-true, eq-eqb}
+use Rattle.std.proofs.Common.{◌≡◌, ℕ, zero, suc, ◌<◌, Bool, true, false, ◌==◌, cond, List, length, get_or, refl, ap, ◌∙◌, arith, eq-eqb}
 use lib.Ieee.{Float, nan, binary64, add, mul, neg, le, of_int, round, eq}
 use lib.Ieee as Ieee
 use Rattle.float64.specs.Number.{plus_zero, float_of, fraction, half, is_zero, is_number}
 use Rattle.float64.proofs.Tests.{both, both-true}
 use Rattle.float64.proofs.Interval.{In, point, add-in, mul_in, in-finite}
 use Rattle.float64.proofs.Zeros.{Zero, zero-times, zero-plus, zero-neg}
-use Rattle.port.specs.Port.{is_nan_set}
 use Rattle.common.specs.Signal.{blended}
 use Rattle.common.specs.Line.{line_at, table, all_zero, are_zeros}
 use Rattle.common.proofs.Tables.{length-table, get_or-table}
-use Rattle.common.proofs.Zeros.{zero-at, zeros-by}
-use Rattle.common.proofs.Sweep.{neither, control-in}
-use Rattle.common.proofs.Silent.{mix-zero}
-use Rattle.effect.specs.EachTick.{EachWritten}
+use Rattle.common.proofs.Zeros.{entry-zero, all-zero-by}
+use Rattle.common.proofs.Sweep.{control-in}
+use Rattle.common.proofs.ZeroBlends.{mix-zero}
+use Rattle.effect.specs.Effect.{InUse}
 use Rattle.effect.specs.StaysSilent.{StaysSilent}
-use Rattle.effect.proofs.Table.{none_5}
+use Rattle.effect.proofs.Laws.{EachWritten}
 use Rattle.effect.proofs.Memory.{each-append}
 use Rattle.effect.proofs.Parts.{zero_in, line-zero}
 use Rattle.effect.proofs.SilentLaws.{SilentTick, SilentLaws}
@@ -24,9 +23,9 @@ use Rattle.reverb.specs.declared.tick.Controls.{Controls}
 use Rattle.reverb.specs.declared.Reverb.{Reverb}
 use Rattle.reverb.specs.Tunings.{Side, left, right, predelay_size, lengths_at}
 use Rattle.reverb.specs.Freeverb.{comb_store, comb_fed, pass_output, pass_fed}
-use Rattle.reverb.specs.Tank.{comb_start, allpass_start, predelay_start, tank_size, place_of, held, combs_held, sum_of, comb_stored, comb_write, allpasses_held, passed_on, allpass_write, delayed, parts}
-use Rattle.reverb.specs.Reverb.{Tick, reverb, combs, stores, allpasses, fresh, quiet, tick_number, controls_of, input, feedback, damping, mix, delay_by, predelayed, summed, wet, comb_writes, allpass_writes, writes, next, samples}
-use Rattle.reverb.proofs.Laws.{Fits, fits-parts}
+use Rattle.reverb.specs.Tank.{SidedLines, comb_start, allpass_start, predelay_start, tank_size, place_of, held, combs_held, sum_of, comb_stored, comb_write, allpasses_held, passed_on, allpass_write, delayed, parts}
+use Rattle.reverb.specs.Reverb.{Tick, reverb, combs, stores, allpasses, fresh, quiet, controls_of, input, feedback, damping, mix, delay_by, predelayed, summed, wet, comb_writes, allpass_writes, writes, next, samples}
+use Rattle.reverb.proofs.Laws.{Fits, fits-parts, TickFits, tick-fits}
 use Rattle.reverb.proofs.Used.{in_order, predelay-used}
 use Rattle.reverb.proofs.Demand1.{laws, each-side, comb_in, pass_in}
 
@@ -34,28 +33,10 @@ use Rattle.reverb.proofs.Demand1.{laws, each-side, comb_in, pass_in}
 table-zeros : (f : ℕ → Float) (n : ℕ) → ((i : ℕ) → i < n → Zero (f i)) → are_zeros n (table f n) ≡ true
 table-zeros f n h =
     both-true (eq-eqb (length (table f n)) n (length-table f n))
-    (zeros-by (table f n) nan (λ i l.
+    (all-zero-by (table f n) nan (λ i l.
     let k : i < n = omega (arith, length-table f n) in ap is_zero (get_or-table f n i nan k) ∙ h i k))
 
--- an entry of a list of eight zeros
-entry : (l : List Float) (i : ℕ) → are_zeros 8 l ≡ true → i < 8 → Zero (get_or l i nan)
-entry l i e h = let b = both (eqb (length l) 8) (all_zero l) e in zero-at l i nan b.1 (omega (arith, eqb-true (length l) 8 b.0))
-
 -- ---- an accepted tick's controls
-
-record TickFits (t : Tick) : Type 0 where
-  size : is_nan_set t.size ≡ false
-  damping : is_nan_set t.damping ≡ false
-  mix : is_nan_set t.mix ≡ false
-
-tick-fits : (t : Tick) → tick_number t ≡ 0 → TickFits t
-unfolding tick_number
-tick-fits t e =
-    let last = is_nan_set t.mix || is_nan_set t.predelay in
-    let others = is_nan_set t.damping || last in
-    let a = neither (is_nan_set t.size) others (none_5 (is_nan_set t.size || others) e) in
-    let b = neither (is_nan_set t.damping) last a.1 in
-    record { size = a.0; damping = b.0; mix = (neither (is_nan_set t.mix) (is_nan_set t.predelay) b.1).0 }
 
 module _ (t : Tick) (n : TickFits t) where
   -- 0.28 + size × 0.7
@@ -99,23 +80,25 @@ module _ (t : Tick) (s : Reverb) (m : List Float) (u : SilentTick reverb t s m) 
   n : TickFits t
   n = tick-fits t u.number
 
-  -- what the places of combs and all-passes hold, and the stores
-  comb-zero : (side : Side) (i : ℕ) → i < 8 → Zero (get_or (combs_held (combs s) m side) i nan)
+  -- what the places of lines hold that are in use
+  held-zero : (start : Side → ℕ → ℕ) (k : ℕ) (l : SidedLines) → ((i : ℕ) → i < k → (side : Side) → InUse reverb s.sample_rate (place_of start l side i))
+      → (side : Side) (i : ℕ) → i < k → Zero (get_or (held start k l m side) i nan)
   unfolding held
-  comb-zero side i h =
-      ap is_zero (get_or-table (λ k. get_or m (place_of comb_start (combs s) side k) nan) 8 i nan h)
-      ∙ zero_in 0 tank_size (parts (lengths_at s.sample_rate)) m (in_order s.sample_rate) u.enough u.zeros (comb_in s f i h side)
+  held-zero start k l used side i h =
+      ap is_zero (get_or-table (λ j. get_or m (place_of start l side j) nan) k i nan h)
+      ∙ zero_in 0 tank_size (parts (lengths_at s.sample_rate)) m (in_order s.sample_rate) u.enough u.zeros (used i h side)
+
+  comb-zero : (side : Side) (i : ℕ) → i < 8 → Zero (get_or (combs_held (combs s) m side) i nan)
+  comb-zero = held-zero comb_start 8 (combs s) (comb_in s f)
 
   pass-zero : (side : Side) (i : ℕ) → i < 4 → Zero (get_or (allpasses_held (allpasses s) m side) i nan)
-  unfolding held
-  pass-zero side i h =
-      ap is_zero (get_or-table (λ k. get_or m (place_of allpass_start (allpasses s) side k) nan) 4 i nan h)
-      ∙ zero_in 0 tank_size (parts (lengths_at s.sample_rate)) m (in_order s.sample_rate) u.enough u.zeros (pass_in s f i h side)
+  pass-zero = held-zero allpass_start 4 (allpasses s) (pass_in s f)
 
+  -- the stores
   store-zero : (side : Side) (i : ℕ) → i < 8 → Zero (get_or (stores s side) i nan)
   unfolding quiet
-  store-zero left i h = entry s.comb_filter_state_l i (both (are_zeros 8 s.comb_filter_state_l) (are_zeros 8 s.comb_filter_state_r) u.quiet).0 h
-  store-zero right i h = entry s.comb_filter_state_r i (both (are_zeros 8 s.comb_filter_state_l) (are_zeros 8 s.comb_filter_state_r) u.quiet).1 h
+  store-zero left i h = entry-zero 8 s.comb_filter_state_l i nan (both (are_zeros 8 s.comb_filter_state_l) (are_zeros 8 s.comb_filter_state_r) u.quiet).0 h
+  store-zero right i h = entry-zero 8 s.comb_filter_state_r i nan (both (are_zeros 8 s.comb_filter_state_l) (are_zeros 8 s.comb_filter_state_r) u.quiet).1 h
 
   predelay-zero : Zero (predelayed c s m)
   unfolding delayed
@@ -137,10 +120,10 @@ module _ (t : Tick) (s : Reverb) (m : List Float) (u : SilentTick reverb t s m) 
   unfolding comb_stored comb_store blended
   stored-zero side i h = mix-zero (get_or (combs_held (combs s) m side) i nan) (get_or (stores s side) i nan) (comb-zero side i h) (store-zero side i h) (damping-in t n)
 
-  comb-writes : EachWritten (λ x. is_zero x ≡ true) (comb_writes c s m)
+  comb-writes : EachWritten Zero (comb_writes c s m)
   unfolding comb_write comb_fed
   comb-writes =
-      each-side (λ w. is_zero w.value ≡ true) (comb_write (predelayed c s m) (damping c) (feedback c) (combs s) (stores s) (combs_held (combs s) m)) 8
+      each-side (λ w. Zero w.value) (comb_write (predelayed c s m) (damping c) (feedback c) (combs s) (stores s) (combs_held (combs s) m)) 8
       (λ i h side.
       let store = comb_stored (damping c) (stores s) (combs_held (combs s) m) side i in
       zero-plus (predelayed c s m) (mul binary64 store (feedback c)) predelay-zero (zero-times store (feedback c) (stored-zero side i h) (in-finite (feedback-in t n))))
@@ -150,18 +133,18 @@ module _ (t : Tick) (s : Reverb) (m : List Float) (u : SilentTick reverb t s m) 
   unfolding summed round
   summed-zero side = zero-times (sum_of (combs_held (combs s) m side) 8) (fraction 1 8) (sum-zero (combs_held (combs s) m side) 8 (comb-zero side)) tt
 
-  allpass-writes : EachWritten (λ x. is_zero x ≡ true) (allpass_writes s m)
+  allpass-writes : EachWritten Zero (allpass_writes s m)
   unfolding allpass_write pass_fed round
   allpass-writes =
-      each-side (λ w. is_zero w.value ≡ true) (allpass_write (summed s m) (allpasses s) (allpasses_held (allpasses s) m)) 4
+      each-side (λ w. Zero w.value) (allpass_write (summed s m) (allpasses s) (allpasses_held (allpasses s) m)) 4
       (λ i h side.
       let held = allpasses_held (allpasses s) m side in
       let into = passed-zero (summed s m side) held i (summed-zero side) (λ k l. pass-zero side k (omega arith)) in
       zero-plus (passed_on (summed s m side) held i) (mul binary64 (get_or held i nan) half) into (zero-times (get_or held i nan) half (pass-zero side i h) tt))
 
-  written : EachWritten (λ x. is_zero x ≡ true) (writes c s m)
+  written : EachWritten Zero (writes c s m)
   unfolding writes
-  written = (u.audio, each-append (λ w. is_zero w.value ≡ true) (comb_writes c s m) (allpass_writes s m) comb-writes allpass-writes)
+  written = (u.audio, each-append (λ w. Zero w.value) (comb_writes c s m) (allpass_writes s m) comb-writes allpass-writes)
 
   -- what a side plays
   plays : (side : Side) → Zero (blended (input c) (wet s m side) (mix c))

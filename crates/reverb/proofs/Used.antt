@@ -1,9 +1,9 @@
 -- The reverb's places in use: they follow each other in the tank, and each line's places are among them. Assumes nothing.
 use Rattle.std.proofs.Common.{◌≡◌, ℕ, zero, suc, ◌+◌, ◌*◌, ◌≤◌, ◌<◌, Bool, ◌&&◌, List, [], ◌∷◌, ◌++◌, length, get_or, take, drop, sym, ap, ◌∙◌, subst, arith, suc-mul, le_of_suc-le-suc, not-suc-le-zero}
+use mathlib.Core.Bool.{and_assoc}
 use lib.Ieee.{Float}
 use Rattle.common.specs.Line.{all_zero}
 use Rattle.effect.specs.Parts.{Part, part, held_in, InPart, here, further, InOrder}
-use mathlib.Core.Bool.{and_assoc}
 use Rattle.effect.proofs.Parts.{earlier, order-append, in_left, in_right, one_part, held-append}
 use Rattle.reverb.specs.declared.tunings.Lengths.{Lengths}
 use Rattle.reverb.specs.Tunings.{Side, left, right, comb_size, comb_most, allpass_size, allpass_most, predelay_size, comb_tunings, allpass_tunings, comb_lengths, allpass_lengths, lengths_at, sided}

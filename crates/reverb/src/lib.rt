@@ -206,9 +206,7 @@ impl Reverb {
     fn quiet(self) -> bool
         ensures { result ≡ quiet self }
     {
-        let left = self.comb_filter_state_l;
-        let right = self.comb_filter_state_r;
-        common::all_zero(&left) & common::all_zero(&right)
+        common::all_zero(&self.comb_filter_state_l) & common::all_zero(&self.comb_filter_state_r)
     }
 
     // Silent? Whether every damping store and every place in use is +0 or -0: a store alone would bring the sound back.

@@ -1,25 +1,21 @@
 -- Demand 1 (docs/DEMANDS.md) for the tremolo, by the laws of its parts. Assumes nothing.
 use native.Mathlib.Nat.{le_refl}
 use mathlib.Core.Path.{◌≡◌, refl}
-use mathlib.Core.Bool.{true, false, ◌&&◌}
+use mathlib.Core.Bool.{false}
 use lib.Ieee.{le, of_int}
 use lib.Ieee as Ieee
-use Rattle.float64.specs.Number.{rate_fits, frequency_fits, sine_fits, in_range}
+use Rattle.float64.specs.Number.{rate_fits, in_range}
 use Rattle.common.proofs.Phases.{fresh-fits, reset-fits, next_fits}
-use Rattle.float64.proofs.Tests.{both}
-use Rattle.effect.proofs.Table.{none_1, none-5-6}
+use Rattle.effect.proofs.Table.{none_1}
 use Rattle.effect.proofs.Laws.{Laws}
 use Rattle.effect.specs.Demand1.{Demand1}
 use Rattle.effect.proofs.Demand1.{demand-1}
-use Rattle.tremolo.specs.Tremolo.{Tick, tremolo, state_fits, blank, tick_number, next}
+use Rattle.tremolo.specs.Tremolo.{tremolo, state_fits, blank, next}
+use Rattle.tremolo.proofs.Laws.{tick-fits}
 
 blank-refused : state_fits blank ≡ false
 unfolding state_fits in_range le of_int Ieee.fits
 blank-refused = refl
-
-frequency-in : (t : Tick) → tick_number t ≡ 0 → frequency_fits t.frequency ≡ true
-unfolding tick_number
-frequency-in t n = let fits = frequency_fits t.frequency in (both fits (sine_fits t.sine) (none-5-6 _ (fits && sine_fits t.sine) n)).0
 
 pub laws : Laws tremolo
 unfolding state_fits next
@@ -32,7 +28,7 @@ laws =
       start_fits = λ k e. fresh-fits k (none_1 (rate_fits k) e);
       reset-fits = λ s e. reset-fits s.sample_rate s.lfo_phase e;
       retuned-fits = λ r s e f. absurd r;
-      next_fits = λ t s m e r n. next_fits s.sample_rate s.lfo_phase t.frequency e (frequency-in t n);
+      next_fits = λ t s m e r n. next_fits s.sample_rate s.lfo_phase t.frequency e (tick-fits t n).frequency;
       in_order = λ k. le_refl 0;
       inside = λ t s m e. tt;
     }

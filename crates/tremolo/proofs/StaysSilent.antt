@@ -1,22 +1,22 @@
 -- A tremolo answers zeros for zeros: what it multiplies its audio with is finite. Assumes nothing.
-use Rattle.std.proofs.Common.{◌≡◌, true, ◌&&◌, ◌||◌, List, refl, subst}
+use Rattle.std.proofs.Common.{◌≡◌, true, List, refl, subst}
 use lib.Ieee.{Float, binary64, add, sub, mul, le, lt, neg, of_int, round}
 use lib.Ieee as Ieee
-use Rattle.float64.specs.Number.{plus_zero, float_of, half, is_number, phase_fits, rate_fits, frequency_fits, sine_fits}
+use Rattle.float64.specs.Number.{plus_zero, float_of, half, is_number, phase_fits, rate_fits}
 use Rattle.float64.proofs.Tests.{both, both-true}
 use Rattle.float64.proofs.Interval.{In, point, sub_in, add-in, mul_in, scale_in, in-finite}
 use Rattle.float64.proofs.Ranges.{unit-in, sine-in}
 use Rattle.float64.proofs.Absolute.{absolute-in}
 use Rattle.float64.proofs.Same.{mul-turned}
 use Rattle.float64.proofs.Zeros.{zero-times}
-use Rattle.port.specs.Port.{is_nan_set}
 use Rattle.common.specs.Line.{all_zero}
-use Rattle.common.proofs.Sweep.{no-cause, neither, control-in}
+use Rattle.common.proofs.Sweep.{control-in}
 use Rattle.effect.specs.StaysSilent.{StaysSilent}
-use Rattle.effect.proofs.SilentLaws.{SilentTick, SilentLaws}
+use Rattle.effect.proofs.SilentLaws.{SilentTick, keeps-nothing}
 use Rattle.effect.proofs.StaysSilent.{stays-silent}
 use Rattle.tremolo.specs.declared.Tremolo.{Tremolo}
-use Rattle.tremolo.specs.Tremolo.{Tick, tremolo, state_fits, tick_number, input, depth, shape, triangle, lfo, modulated, samples}
+use Rattle.tremolo.specs.Tremolo.{Tick, tremolo, state_fits, input, depth, shape, triangle, lfo, modulated, samples}
+use Rattle.tremolo.proofs.Laws.{TickFits, tick-fits}
 use Rattle.tremolo.proofs.Demand1.{laws}
 
 -- from −1 to 1
@@ -28,23 +28,16 @@ module _ (t : Tick) (s : Tremolo) (m : List Float) (u : SilentTick tremolo t s m
   unfolding state_fits
   phase-in = unit-in (both (rate_fits s.sample_rate) (phase_fits s.lfo_phase) u.state_fits).1
 
+  k : TickFits t
+  k = tick-fits t u.number
+
   depth-in : In binary64 plus_zero (float_of 1) (depth t)
-  unfolding tick_number is_number Ieee.fits Ieee.is_nan round
-  depth-in =
-      let v = no-cause (is_nan_set t.depth || is_nan_set t.shape) (frequency_fits t.frequency && sine_fits t.sine) u.number in
-      control-in t.depth half (neither (is_nan_set t.depth) (is_nan_set t.shape) v.0).0 refl
+  unfolding is_number Ieee.fits Ieee.is_nan round
+  depth-in = control-in t.depth half k.depth refl
 
   shape-in : In binary64 plus_zero (float_of 1) (shape t)
-  unfolding tick_number is_number Ieee.fits Ieee.is_nan
-  shape-in =
-      let v = no-cause (is_nan_set t.depth || is_nan_set t.shape) (frequency_fits t.frequency && sine_fits t.sine) u.number in
-      control-in t.shape plus_zero (neither (is_nan_set t.depth) (is_nan_set t.shape) v.0).1 refl
-
-  sine-signed : Signed t.sine
-  unfolding tick_number
-  sine-signed =
-      let v = no-cause (is_nan_set t.depth || is_nan_set t.shape) (frequency_fits t.frequency && sine_fits t.sine) u.number in
-      sine-in (both (frequency_fits t.frequency) (sine_fits t.sine) v.1).1
+  unfolding is_number Ieee.fits Ieee.is_nan
+  shape-in = control-in t.shape plus_zero k.shape refl
 
   -- 1 less four times what lies from 0 to 0.5
   triangle-in : Signed (triangle s.lfo_phase)
@@ -59,7 +52,7 @@ module _ (t : Tick) (s : Tremolo) (m : List Float) (u : SilentTick tremolo t s m
   unfolding lfo Ieee.fits le add sub mul neg of_int
   lfo-in =
       let rest = sub_in plus_zero (float_of 1) tt (point (float_of 1) tt) shape-in in
-      let a = scale_in (neg (float_of 1)) (float_of 1) tt tt tt sine-signed rest in
+      let a = scale_in (neg (float_of 1)) (float_of 1) tt tt tt (sine-in k.sine) rest in
       let b = scale_in (neg (float_of 1)) (float_of 1) tt tt tt triangle-in shape-in in
       add-in (neg (float_of 2)) (float_of 2) tt a b
 
@@ -70,18 +63,9 @@ module _ (t : Tick) (s : Tremolo) (m : List Float) (u : SilentTick tremolo t s m
       let share = mul_in plus_zero half tt tt tt depth-in (point half tt) in
       let turned = sub_in (neg (float_of 1)) (float_of 3) tt (point (float_of 1) tt) lfo-in in
       let swing = scale_in (neg (float_of 1)) (float_of 2) tt tt tt turned share in
-      let factor = sub_in (neg (float_of 1)) (float_of 2) tt (point (float_of 1) tt) (subst (λ (y : Float). In binary64 (neg (float_of 1)) (float_of 2) y) (mul-turned binary64 (sub binary64 (float_of 1) l) (mul binary64 (depth t) half)) swing) in
+      let same = mul-turned binary64 (sub binary64 (float_of 1) l) (mul binary64 (depth t) half) in
+      let factor = sub_in (neg (float_of 1)) (float_of 2) tt (point (float_of 1) tt) (subst (λ (y : Float). In binary64 (neg (float_of 1)) (float_of 2) y) same swing) in
       both-true (zero-times (input t) _ u.audio (in-finite factor)) refl
 
-silent-laws : SilentLaws tremolo
-silent-laws =
-    record {
-      fresh-quiet = λ k. refl;
-      retuned-quiet = λ k s. refl;
-      answers = answers;
-      writes = λ t s m u. tt;
-      next-quiet = λ t s m u. refl;
-    }
-
 pub shown : StaysSilent tremolo
-shown = stays-silent tremolo laws silent-laws
+shown = stays-silent tremolo laws (keeps-nothing tremolo (λ s. refl) answers (λ t s m u. tt))

@@ -6,10 +6,10 @@ use Rattle.float64.specs.Number.{float_of, half, is_number}
 use Rattle.float64.proofs.Tests.{both-true}
 use Rattle.common.specs.Line.{all_zero}
 use Rattle.common.proofs.Sweep.{control-in}
-use Rattle.common.proofs.Silent.{mix-zero}
+use Rattle.common.proofs.ZeroBlends.{mix-zero}
 use Rattle.effect.specs.StaysSilent.{StaysSilent}
 use Rattle.effect.proofs.Parts.{first-read}
-use Rattle.effect.proofs.SilentLaws.{SilentTick, SilentLaws}
+use Rattle.effect.proofs.SilentLaws.{SilentTick, keeps-nothing}
 use Rattle.effect.proofs.StaysSilent.{stays-silent}
 use Rattle.vibrato.specs.declared.Vibrato.{Vibrato}
 use Rattle.vibrato.specs.Vibrato.{Tick, vibrato, line_length, input, depth, distance, delayed, writes, samples}
@@ -28,16 +28,6 @@ answers t s m u =
     let read = first-read L 0 L s.write_pos m (distance rate (depth t) t.sine) u.enough u.zeros (omega arith) f.inside (omega (arith, long.1)) far in
     both-true (mix-zero (input t) (delayed t s m) u.audio read (control-in t.mix (float_of 1) k.mix refl)) refl
 
-silent-laws : SilentLaws vibrato
-unfolding writes
-silent-laws =
-    record {
-      fresh-quiet = λ k. refl;
-      retuned-quiet = λ k s. refl;
-      answers = answers;
-      writes = λ t s m u. (u.audio, tt);
-      next-quiet = λ t s m u. refl;
-    }
-
 pub shown : StaysSilent vibrato
-shown = stays-silent vibrato laws silent-laws
+unfolding writes
+shown = stays-silent vibrato laws (keeps-nothing vibrato (λ s. refl) answers (λ t s m u. (u.audio, tt)))
