@@ -93,16 +93,16 @@ static void stores_at(const struct tuning *at, unsigned which)
 /* A unit that is silent, and one that is but for a store: the refusals are those of any other. */
 static void refusals_at(const struct tuning *at, unsigned which)
 {
-    unsigned comb;
-    for (comb = 0; comb <= STORES; comb++) {
-        const unsigned i = 100u * which + comb;
+    unsigned line;
+    for (line = 0; line < LINES; line++) {
+        const unsigned i = 100u * which + line;
         room_reverb state = quiet_reverb(at);
         int silent = 7;
-        if (comb < STORES) {
-            *comb_store(&state, comb) = 1.0;
+        if (line < STORES) {
+            *comb_store(&state, line) = 1.0;
         }
         check(room_reverb_silent(&state, tank, TANK - 1u, &silent) == 3 && silent == 0, "one place short, in silence", i);
-        *line_pos(&state, comb) = line_length(at, comb);
+        *line_pos(&state, line) = line_length(at, line);
         check(room_reverb_silent(&state, tank, TANK, &silent) == 4 && silent == 0, "a position too far, in silence", i);
         check(room_reverb_silent(&state, tank, 0, &silent) == 4 && silent == 0, "4 before 3, in silence", i);
     }

@@ -55,7 +55,7 @@ void count_tick(const struct unit *u, enum way way, enum audio audio, const doub
 void count_refusal(int effect, uint32_t number);
 void check_tally(void); /* prints the table and makes a test of each of its cells */
 
-/* unlit.c: units that are not silent, and audio that is no zero. */
-void unlit(void);
+/* not_silent.c: units that are not silent, and audio that is no zero. */
+void not_silent(void);
 
 #endif

@@ -4,7 +4,7 @@
  *
  * Units come one after another, each with a list of calls: ticks, and between them calls that are refused, resets and retunes.
  * After each the unit is asked whether it is silent. The last line is `N passed, M failed`, counted in facts of each effect, in
- * what each effect must have come to, and in the cases of unlit.c.
+ * what each effect must have come to, and in the cases of not_silent.c.
  */
 #include "lamp.h"
 
@@ -117,7 +117,7 @@ int main(int argc, char **argv)
     }
     seed_random(seed);
     now_testing("not silent");
-    unlit();
+    not_silent();
     now_testing("silent");
     for (i = 0; ticks_made < ticks && facts_broken() < ENOUGH; i++) {
         const int effect = (int)(i % (EFFECTS_END - 1u)) + 1;
