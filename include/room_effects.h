@@ -62,6 +62,11 @@
  *
  * Silence
  *
+ * "Silent?" is answered yes where every place in use is +0 or -0, and with them what the state itself keeps of the sound: the
+ * reverb's damping stores, the phaser's 24 numbers. A silent unit whose audio is 0 (unset, +0 or -0; in delay, chorus, flanger,
+ * reverb and phaser also NaN or infinite) and whose controls are accepted puts out only +0 and -0, and is silent after the
+ * tick: it stays so until other audio comes. So a lamp that shows the answer may be trusted.
+ *
  * A unit that feeds back may never fall silent by itself, however long its audio is 0: delay and flanger with a feedback above
  * 0.5 (of the flanger also below -0.5), the reverb from a size of about 0.315 on, so at its default of 0.5 too. What goes round
  * becomes subnormal, and there every product is rounded to a multiple of 2^-1074: 1 x 2^-1074 x 0.6 is nearer to 1 x 2^-1074
@@ -95,9 +100,9 @@
  * synchronisation. No call waits, allocates or calls the system. One that is cut off before it returns may have written part
  * of its state and places; its unit is then started anew.
  *
- * By the frames of the compiled functions a call takes at most 376 bytes of stack (a reverb's; those of the other effects at
- * most 96), and beside that what memset takes, the one function that the archive needs from elsewhere. Where memset is bound
- * at its first call, that takes some 3 KB more, once.
+ * By the frames of the compiled functions a call takes at most 616 bytes of stack (a reverb's question; its other calls take at
+ * most 376, and those of the other effects 96), and beside that what memset takes, the one function that the archive needs
+ * from elsewhere. Where memset is bound at its first call, that takes some 3 KB more, once.
  *
  * What calls cost
  *
@@ -134,13 +139,13 @@
 #include <xmmintrin.h>
 
 /*
- * The version of this interface: MAJOR moves where a struct or a call is changed or goes, so that a host has to be looked over;
- * MINOR where an effect or a call is added; PATCH where neither is. The archive does not tell its version: a controller is
- * built with the header and the archive of one version.
+ * The version of this interface: MAJOR moves where a struct or a call's form is changed or goes, so that a host has to be
+ * looked over; MINOR where an effect or a call is added; PATCH where neither is, as where a call answers otherwise in some
+ * case. The archive does not tell its version: a controller is built with the header and the archive of one version.
  */
 #define ROOM_EFFECTS_VERSION_MAJOR 1
 #define ROOM_EFFECTS_VERSION_MINOR 1
-#define ROOM_EFFECTS_VERSION_PATCH 0
+#define ROOM_EFFECTS_VERSION_PATCH 1
 
 /* The effects by their numbers, for room_places_needed. */
 enum room_effect {
@@ -670,8 +675,8 @@ static inline uint32_t room_reverb_tick(room_reverb *state, double *memory, uint
 }
 
 /*
- * Whether the unit is silent: every place in use is +0 or -0. The damping stores are no places. On a refusal *silent is 0.
- * Refusals: 4, 3.
+ * Whether the unit is silent: every place in use and each of the sixteen damping stores is +0 or -0. On a refusal *silent is
+ * 0. Refusals: 4, 3.
  */
 static inline uint32_t room_reverb_silent(const room_reverb *state, const double *memory, uint64_t places, int *silent)
 {
