@@ -181,8 +181,10 @@ fn common_calls() -> u64 {
             let r = effect::check_rate(i, j as usize);
             let s = effect::check_state(i % 2 == 0, r);
             h = mix(mix(h, r.number() as u64), s.number() as u64);
-            h = float(mix(h, common::line_length(x, (j * 3) as u32)), common::held_to_line(x, j as u32));
-            h = mix(h, common::line_length(8000.0 + x, (j * 3 + 1) as u32));
+            h = float(mix(h, common::line_length(x, special(j))), common::held_to_line(x, j as u32));
+            h = mix(h, common::line_length(8000.0 + x, fraction(j) * 120.0));
+            h = mix(h, common::line_length_whole(x, (j * 3) as u32));
+            h = mix(h, common::line_length_whole(8000.0 + x, (j * 3 + 1) as u32));
             j += 1;
         }
         i += 1;

@@ -28,7 +28,7 @@ tick_of audio depth mix frequency sine0 sine1 sine2 =
 
 -- L: the whole part of rate × 32 / 1000, plus 10; 32 is 25 (MAX_MOD_DELAY_MS) and 7 (BASE_DELAY_MS)
 unfoldable pub line_length : Float → ℕ
-line_length rate = swept_length 32 rate
+line_length rate = swept_length (float_of 32) rate
 
 -- ---- the phases of the three voices
 

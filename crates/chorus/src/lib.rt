@@ -52,7 +52,7 @@ impl Chorus {
     fn line_length(rate: f64) -> u64
         ensures { result ≡ cond (rate_fits rate) (line_length rate) 0 }
     {
-        common::line_length(rate, Chorus::MOD_MS + Chorus::BASE_MS)
+        common::line_length_whole(rate, Chorus::MOD_MS + Chorus::BASE_MS)
     }
 
     // The places that a start needs at the rate; 2^64 - 1 for a rate that is refused.

@@ -3,25 +3,26 @@
 use Prim.Native.Nat.{ℕ, ◌+◌, ◌*◌, ◌^◌, ◌≤◌, ◌<◌, zero-le}
 use native.Mathlib.Nat.{mul-zero}
 use native.Mathlib.Omega.{arith}
+use Rattle.std.proofs.Common.{lit<}
 use mathlib.Core.Path.{◌≡◌, refl, ap, ◌∙◌}
 use mathlib.Core.Logic.{◌≢◌}
 use mathlib.Core.Bool.{Bool, true, false, ◌&&◌, ◌||◌, cond}
 use mathlib.Core.List.{List}
-use lib.Dec.{ltb}
+use lib.Dec.{ltb, leb}
 use lib.ListN.{length, take, drop}
 use lib.Ieee.{Float, binary64, fits, is_nan, mul, div, le, lt, of_int}
 use borrow.Author.Tests.{not-false, le-ltb}
 use Rattle.float64.specs.Number.{plus_zero, float_of, is_number, rate_fits, clamp_of, at_least, at_most}
 use Rattle.float64.proofs.Order.{le-transitive, le→not-lt}
 use Rattle.float64.proofs.Interval.{In, hi-fits, point, mul_in, div-in}
-use Rattle.float64.proofs.Ranges.{rate-in}
+use Rattle.float64.proofs.Ranges.{rate-in, range-in}
 use Rattle.float64.proofs.Clamped.{clamp-in, clamp-halves}
-use Rattle.float64.proofs.Parts.{clamp-whole-in, whole-between}
+use Rattle.float64.proofs.Parts.{clamp-whole-in, range-whole}
 use Rattle.port.specs.declared.Port.{Port}
 use Rattle.port.specs.declared.Port.TheVariants.{Set, Unset}
 use Rattle.port.specs.Port.{value_or, is_nan_set}
 use Rattle.common.specs.Signal.{cause_number}
-use Rattle.common.specs.Line.{line_at, read_at}
+use Rattle.common.specs.Line.{sweep_fits, line_at, read_at}
 use Rattle.common.proofs.Slices.{part_length}
 use Rattle.common.proofs.Ring.{part-line}
 
@@ -58,13 +59,14 @@ size-times k true L e = ap (λ (x : ℕ). k * x) e
 size-times k false L e = rw e (mul-zero k)
 
 -- rate × milliseconds / 1000
-pub swept-in : (rate : Float) (milliseconds : ℕ) → rate_fits rate ≡ true → 1 ≤ milliseconds → milliseconds ≤ 100
-    → In binary64 (float_of 8) (float_of 19200) (div binary64 (mul binary64 rate (float_of milliseconds)) (float_of 1000))
+pub swept-in : (rate milliseconds : Float) → rate_fits rate ≡ true → sweep_fits milliseconds ≡ true
+    → In binary64 (float_of 8) (float_of 19200) (div binary64 (mul binary64 rate milliseconds) (float_of 1000))
 unfolding fits le lt mul div of_int
-swept-in rate milliseconds h k l =
-    div-in (float_of 8) (float_of 19200) tt tt tt
-    (mul_in (float_of 8000) (float_of 19200000) tt tt tt (rate-in h) (whole-between 1 milliseconds 100 k l (omega arith)))
-    (point (float_of 1000) tt)
+swept-in rate milliseconds h k = div-in (float_of 8) (float_of 19200) tt tt tt (mul_in (float_of 8000) (float_of 19200000) tt tt tt (rate-in h) (range-in tt k)) (point (float_of 1000) tt)
+
+-- of whole milliseconds the test of their number is that of the float
+pub sweep-whole : (n : ℕ) → n < 2 ^ 32 → sweep_fits (float_of n) ≡ leb 1 n && leb n 100
+sweep-whole n h = range-whole 1 n 100 (lit< tt) (omega (arith, h)) (lit< tt)
 
 -- ---- distances
 

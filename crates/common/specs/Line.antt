@@ -1,17 +1,17 @@
 -- A line of L places in lent memory, from place o on, with its write position w: where its samples lie, how it is read, and what a clearing leaves.
 -- Definitions only. Assumes nothing.
-use Rattle.std.specs.Prelude.{ℕ, zero, suc, ◌+◌, ◌-◌, ◌%◌, Bool, true, ◌&&◌, List, [], ◌∷◌, length, get_or, replicate, nat_le, ◌==◌, Float}
+use Rattle.std.specs.Prelude.{ℕ, zero, suc, ◌+◌, ◌-◌, ◌%◌, Bool, true, ◌&&◌, List, [], ◌∷◌, length, get_or, replicate, ◌==◌, Float}
 use Rattle.std.specs.Float.{nan, binary64}
 use Rattle.std.specs.Float.Ieee.{mul, div}
-use Rattle.float64.specs.Number.{plus_zero, float_of, is_zero, whole_part, fraction_part}
+use Rattle.float64.specs.Number.{plus_zero, float_of, is_zero, whole_part, fraction_part, in_range}
 use Rattle.common.specs.Signal.{blended}
 
 -- L of a swept line: the whole part of rate × milliseconds / 1000, plus 10. No effect's milliseconds lie outside 1 to 100
-abbrev pub swept_length : ℕ → Float → ℕ
-swept_length milliseconds rate = whole_part (div binary64 (mul binary64 rate (float_of milliseconds)) (float_of 1000)) + 10
+abbrev pub swept_length : Float → Float → ℕ
+swept_length milliseconds rate = whole_part (div binary64 (mul binary64 rate milliseconds) (float_of 1000)) + 10
 
-abbrev pub sweep_fits : ℕ → Bool
-sweep_fits milliseconds = nat_le 1 milliseconds && nat_le milliseconds 100
+abbrev pub sweep_fits : Float → Bool
+sweep_fits milliseconds = in_range milliseconds (float_of 1) (float_of 100)
 
 -- n places of +0
 abbrev pub zeros : ℕ → List Float

@@ -44,15 +44,33 @@ pub fn tick_causes(control_nan: bool, curves_fit: bool) -> Outcome
     Outcome::Accepted
 }
 
-// The places of a swept line. A refused rate gives 0, so that no position fits. The milliseconds are a constant of the effect's, and whole: their test is
-// gone in the compiled code, where a test of a float would stay.
-pub fn line_length(rate: f64, milliseconds: u32) -> u64
+// The places of a swept line whose rate and milliseconds are in range.
+fn swept_length(rate: f64, milliseconds: f64) -> u64
+    requires rate_in_range { rate_fits rate ≡ true }
+    requires milliseconds_in_range { sweep_fits milliseconds ≡ true }
+    ensures { result ≡ swept_length milliseconds rate }
+{
+    float64::whole_part_small(rate * milliseconds / 1000.0) + 10
+}
+
+// The places of a swept line. A refused rate gives 0, so that no position fits.
+pub fn line_length(rate: f64, milliseconds: f64) -> u64
     ensures { result ≡ cond (rate_fits rate && sweep_fits milliseconds) (swept_length milliseconds rate) 0 }
+{
+    if !(float64::rate_fits(rate) & float64::in_range(milliseconds, 1.0, 100.0)) {
+        return 0;
+    }
+    swept_length(rate, milliseconds)
+}
+
+// The same for whole milliseconds. They are a constant of an effect's, and the test of a constant is gone in the compiled code, where that of a float would stay.
+pub fn line_length_whole(rate: f64, milliseconds: u32) -> u64
+    ensures { result ≡ cond (rate_fits rate && sweep_fits (float_of milliseconds)) (swept_length (float_of milliseconds) rate) 0 }
 {
     if !(float64::rate_fits(rate) & ((1 <= milliseconds) & (milliseconds <= 100))) {
         return 0;
     }
-    float64::whole_part_small(rate * float64::from_u32(milliseconds) / 1000.0) + 10
+    swept_length(rate, float64::from_u32(milliseconds))
 }
 
 // A distance held to a line: at least 1, and at most the last place.

@@ -27,7 +27,7 @@ tick_of audio depth feedback mix frequency sine0 sine1 =
 
 -- L: the whole part of rate × 10 / 1000, plus 10
 unfoldable pub line_length : Float → ℕ
-line_length rate = swept_length 10 rate
+line_length rate = swept_length (float_of 10) rate
 
 -- two lines follow each other from place 0
 abbrev pub places : Float → ℕ

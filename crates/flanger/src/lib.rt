@@ -47,7 +47,7 @@ impl Flanger {
     fn line_length(rate: f64) -> u64
         ensures { result ≡ cond (rate_fits rate) (line_length rate) 0 }
     {
-        common::line_length(rate, Flanger::LINE_MS)
+        common::line_length_whole(rate, Flanger::LINE_MS)
     }
 
     // The places that a start needs at the rate; 2^64 - 1 for a rate that is refused.

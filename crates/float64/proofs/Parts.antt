@@ -1,14 +1,17 @@
 -- The whole part of a value x from 1 to a whole number M of at most 2 ^ 24: 1 ≤ whole part ≤ M, and x is below 2 ^ 52. And what is clamped to 1 .. M lies
 -- there; whole numbers keep their order. Assumes nothing.
-use Rattle.std.proofs.Common.{◌≡◌, ℕ, ◌^◌, ◌<◌, ◌≤◌, true, ◌&&◌, T, sym, zero-le, le_trans, le_of_eq, mul-le-mul_right, one-mul, le-div_iff_mul-le, arith, lit<}
+use Rattle.std.proofs.Common.{◌≡◌, ℕ, ◌^◌, ◌<◌, ◌≤◌, true, ◌&&◌, nat_le, T, sym, zero-le, le_trans, le_of_eq, le_of_mul-le-mul_right, mul-le-mul_right, one-mul, le-div_iff_mul-le, arith, lit<}
+use Rattle.std.specs.Cmp.{both_ways}
+use Rattle.std.proofs.lemmas.Bool.{leb-true, le-leb}
 use lib.Ieee.{Float, binary64, fits, le, lt, of_int}
 use lib.Ieee.Fits.{and_i}
 use lib.Ieee.Scale.{finite}
-use Rattle.float64.specs.Number.{plus_zero, float_of, whole_part, Small, is_number, clamp_of}
+use Rattle.float64.specs.Number.{plus_zero, float_of, whole_part, Small, is_number, in_range, clamp_of}
 use Rattle.float64.proofs.Units.{one, one-pos}
-use Rattle.float64.proofs.Keys.{le-of-size, of_int-at}
+use Rattle.float64.proofs.Keys.{le-of-size, size-of-le, of_int-at}
 use Rattle.float64.proofs.Order.{plus_zero-at, le-lt-lt, le-transitive}
 use Rattle.float64.proofs.Interval.{In, ends, box, in-finite}
+use Rattle.float64.proofs.Ranges.{is-true, yes}
 use Rattle.float64.proofs.Wholes.{count, whole_le, whole_is}
 use Rattle.float64.proofs.Clamped.{clamp-in}
 
@@ -68,3 +71,17 @@ whole-between a n b h k l =
     box (and_i (fits binary64 (float_of a) && fits binary64 (float_of b) && finite (float_of a)) (finite (float_of b)) low (in-finite (whole_in b l))) y.fit
     (le-of-size x y (mul-le-mul_right (one binary64) h))
     (le-of-size y z (mul-le-mul_right (one binary64) k))
+
+-- whole numbers up to 2 ^ 53 have the order of their floats
+pub le-whole : (a b : ℕ) → a < 2 ^ 53 → b < 2 ^ 53 → le (float_of a) (float_of b) ≡ nat_le a b
+le-whole a b h k =
+    let x = of_int-at binary64 a h in
+    let y = of_int-at binary64 b k in
+    both_ways (le (float_of a) (float_of b)) (nat_le a b)
+    (λ t. le-leb a b (le_of_mul-le-mul_right (size-of-le x y (yes t)) (one-pos binary64)))
+    (λ t. is-true (le (float_of a) (float_of b)) (le-of-size x y (mul-le-mul_right (one binary64) (leb-true a b t))))
+
+-- so that a range between whole numbers has those that it has as floats
+pub range-whole : (a n b : ℕ) → a < 2 ^ 53 → n < 2 ^ 53 → b < 2 ^ 53 → in_range (float_of n) (float_of a) (float_of b) ≡ (nat_le a n && nat_le n b)
+unfolding in_range
+range-whole a n b h k l = rw (is-true (fits binary64 (float_of n)) ((of_int-at binary64 n k).fit), le-whole a n h k, le-whole n b k l)

@@ -25,7 +25,7 @@ tick_of audio depth mix frequency sine = record { audio = audio; depth = depth; 
 
 -- L: the whole part of rate × 20 / 1000, plus 10
 unfoldable pub line_length : Float → ℕ
-line_length rate = swept_length 20 rate
+line_length rate = swept_length (float_of 20) rate
 
 abbrev pub state_of : ℕ → Float → Float → Vibrato
 state_of pos phase rate = record { write_pos = pos; lfo_phase = phase; sample_rate = rate }
