@@ -135,21 +135,29 @@ module _ (s : DelayLine) where
 
 -- ---- causes 5 and 6
 
+-- what the delay is worked out from, in either mode
 pub record TickFits (t : Tick) (linear : Bool) : Type 0 where
   pub time : linear ≡ true → is_nan_set t.time ≡ false
-  pub feedback : is_nan_set t.feedback ≡ false
-  pub mix : is_nan_set t.mix ≡ false
   pub milliseconds : linear ≡ false → is_number t.milliseconds ≡ true
 
-pub tick-fits : (t : Tick) (linear : Bool) → tick_number t linear ≡ 0 → TickFits t linear
-unfolding tick_number
-tick-fits t linear e =
-    let others = is_nan_set t.feedback || is_nan_set t.mix in
-    let v = no-cause (linear && is_nan_set t.time || others) (linear || is_number t.milliseconds) e in
-    let a = neither (linear && is_nan_set t.time) others v.0 in
-    let b = neither (is_nan_set t.feedback) (is_nan_set t.mix) a.1 in
-    let time = a.0 in
-    record { time = λ l. rw l at time; feedback = b.0; mix = b.1; milliseconds = λ l. rw l at v.1 }
+-- what its sample is blended by
+pub record BlendFits (t : Tick) : Type 0 where
+  pub feedback : is_nan_set t.feedback ≡ false
+  pub mix : is_nan_set t.mix ≡ false
+
+module _ (t : Tick) (linear : Bool) (e : tick_number t linear ≡ 0) where
+  accepted-parts : ((linear && is_nan_set t.time ≡ false) × (is_nan_set t.feedback || is_nan_set t.mix ≡ false)) × (linear || is_number t.milliseconds ≡ true)
+  unfolding tick_number
+  accepted-parts =
+      let others = is_nan_set t.feedback || is_nan_set t.mix in
+      let v = no-cause (linear && is_nan_set t.time || others) (linear || is_number t.milliseconds) e in
+      (neither (linear && is_nan_set t.time) others v.0, v.1)
+
+  pub tick-fits : TickFits t linear
+  tick-fits = let p = accepted-parts in let time = p.0.0 in record { time = λ l. rw l at time; milliseconds = λ l. rw l at p.1 }
+
+  pub blend-fits : BlendFits t
+  blend-fits = let b = neither (is_nan_set t.feedback) (is_nan_set t.mix) accepted-parts.0.1 in record { feedback = b.0; mix = b.1 }
 
 -- a tick with these numbers: time, feedback, mix and milliseconds
 abbrev pub set_tick : Float → Float → Float → Float → Tick

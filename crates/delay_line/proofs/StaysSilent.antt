@@ -15,7 +15,7 @@ use Rattle.effect.proofs.SilentLaws.{SilentTick, keeps-nothing}
 use Rattle.effect.proofs.StaysSilent.{stays-silent}
 use Rattle.delay_line.specs.declared.DelayLine.{DelayLine}
 use Rattle.delay_line.specs.DelayLine.{Tick, delay_line, line_length, input, distance, delayed_by, delayed, writes, samples}
-use Rattle.delay_line.proofs.Laws.{fits-parts, length-fits, tick-fits, distance-in}
+use Rattle.delay_line.proofs.Laws.{fits-parts, length-fits, tick-fits, blend-fits, distance-in}
 use Rattle.delay_line.proofs.Demand1.{laws}
 
 module _ (t : Tick) (s : DelayLine) (m : List Float) (u : SilentTick delay_line t s m) where
@@ -30,11 +30,11 @@ module _ (t : Tick) (s : DelayLine) (m : List Float) (u : SilentTick delay_line 
   answers : all_zero (samples t s m) ≡ true
   unfolding samples all_zero is_number Ieee.fits Ieee.is_nan Ieee.round
   answers =
-      both-true (mix-zero (input t) (delayed t s m) u.audio heard (control-in t.mix half (tick-fits t s.linear_time u.number).mix refl)) refl
+      both-true (mix-zero (input t) (delayed t s m) u.audio heard (control-in t.mix half (blend-fits t s.linear_time u.number).mix refl)) refl
 
   written : EachWritten Zero (writes t s m)
   unfolding writes le Ieee.fits Ieee.round
-  written = (fed-zero (input t) (delayed t s m) t.feedback _ _ u.audio heard (tick-fits t s.linear_time u.number).feedback tt tt, tt)
+  written = (fed-zero (input t) (delayed t s m) t.feedback _ _ u.audio heard (blend-fits t s.linear_time u.number).feedback tt tt, tt)
 
 pub shown : StaysSilent delay_line
 shown = stays-silent delay_line laws (keeps-nothing delay_line (λ s. refl) answers written)

@@ -63,9 +63,12 @@ impl<E: Effect<N>, const N: usize> Unlined<E, N> {
         }
     }
 
-    /// Zeros of either sign in the stores, but mostly for one.
+    /// Another phase, and zeros of either sign in the stores, but mostly for one.
     fn quiet(&self, random: &mut Random) -> State<N> {
-        let mut state = self.ours;
+        let mut state = State {
+            lfo_phase: random.phase(),
+            ..self.ours
+        };
         state.stores = state.stores.map(|_| random.of(&[0.0, -0.0]));
         let any = random.below(N as u64 + 1) as usize;
         if let Some(store) = state.stores.get_mut(any) {
