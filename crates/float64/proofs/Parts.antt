@@ -72,7 +72,7 @@ whole-between a n b h k l =
     (le-of-size x y (mul-le-mul_right (one binary64) h))
     (le-of-size y z (mul-le-mul_right (one binary64) k))
 
--- whole numbers up to 2 ^ 53 have the order of their floats
+-- whole numbers below 2 ^ 53 have the order of their floats
 pub le-whole : (a b : ℕ) → a < 2 ^ 53 → b < 2 ^ 53 → le (float_of a) (float_of b) ≡ nat_le a b
 le-whole a b h k =
     let x = of_int-at binary64 a h in
