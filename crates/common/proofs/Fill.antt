@@ -15,8 +15,3 @@ module _ {A : Type 0} where
   -- a store of v at n, below d's length, makes it the same at n + 1
   pub fill_more : (n : ℕ) (v : A) (d : List A) → n < length d → set (replicate n v ++ drop n d) n v ≡ replicate (n + 1) v ++ drop (n + 1) d
   fill_more n v d l = rw (add-one n) (fill_suc n v d l)
-
-  -- at the end every place has the value
-  pub fill-all : (v : A) (d : List A) → replicate (length d) v ++ drop (length d) d ≡ replicate (length d) v
-  fill-all v [] = refl
-  fill-all v (x ∷ d) = ap (λ (t : List A). v ∷ t) (fill-all v d)

@@ -10,20 +10,26 @@ use lib.Seq.{take-add}
 use lib.Dec.{eqb}
 use borrow.Author.Tests.{eqb-true}
 use lib.Ieee.{Float, eq}
+use Rattle.std.specs.List.{fold}
 use Rattle.float64.specs.Number.{is_zero}
 use Rattle.float64.proofs.Tests.{both, both-true}
 use Rattle.common.specs.Line.{zeros, all_zero, are_zeros}
 
--- b of the places before x, and then x
-pub one_more : (b : Bool) (x : Float) (l : List Float) → (b && is_zero x) && all_zero l ≡ b && all_zero (x ∷ l)
+-- b of the places before, and then those of l, one by one
+fold-zeros : (b : Bool) (l : List Float) → fold (λ (z : Bool) (x : Float). z && is_zero x) b l ≡ b && all_zero l
 unfolding all_zero
-one_more b x l = and_assoc b (is_zero x) (all_zero l)
+fold-zeros true [] = refl
+fold-zeros false [] = refl
+fold-zeros b (x ∷ l) = fold-zeros (b && is_zero x) l ∙ and_assoc b (is_zero x) (all_zero l)
 
--- b, and then nothing
-pub none_left : (b : Bool) → b && all_zero [] ≡ b
+pub all-by-fold : (l : List Float) → fold (λ (z : Bool) (x : Float). z && is_zero x) true l ≡ all_zero l
+all-by-fold l = fold-zeros true l
+
+-- no places are zeros
+pub no-places : (l : List Float) → length l ≡ 0 → all_zero l ≡ true
 unfolding all_zero
-none_left true = refl
-none_left false = refl
+no-places [] h = refl
+no-places (x ∷ l) h = absurd (omega arith)
 
 pub zeros-append : (a b : List Float) → all_zero (a ++ b) ≡ all_zero a && all_zero b
 unfolding all_zero

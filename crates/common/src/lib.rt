@@ -1,13 +1,24 @@
-// What the effects share: the input rule, dry/wet, phases, and lines in lent memory.
+// What the effects share: a number for each side, the input rule, dry/wet, phases, and lines in lent memory.
 #![tactic(auto)]
 
-ghost use Rattle.std.specs.Prelude.{◌≡◌, true, cond, ◌&&◌, ◌-◌, ◌≤◌, ◌<◌, length};
+ghost use Rattle.std.specs.Prelude.{◌≡◌, true, ◌&&◌, ◌-◌, ◌≤◌, ◌<◌, length};
+ghost use Rattle.std.specs.Bool.{then_some};
 ghost use Rattle.float64.specs.Number.{float_of, in_range, rate_fits, at_least, at_most};
 ghost use Rattle.port.specs.Answer.{number_of};
 ghost use Rattle.common.specs.Signal.{sanitized, blended, advanced, cause_number};
 ghost use Rattle.common.specs.Line.{swept_length, sweep_fits, zeros, place, next_place, line_at, read_at, all_zero};
 
-use port::{Outcome, Refusal};
+use port::Refusal;
+
+// How many places `all_zero` reads between two tests.
+const PART: usize = 512;
+
+// A number of each side.
+#[derive(Clone, Copy)]
+pub struct Sides<T> {
+    pub left: T,
+    pub right: T,
+}
 
 // The input rule: non-finite audio becomes +0. Only a finite number less itself is 0; in this form it compiles without a branch.
 pub fn sanitize_audio(x: f64) -> f64
@@ -32,16 +43,16 @@ pub fn advance_phase(phase: f64, step: f64) -> f64
 }
 
 // Causes 5 and 6 of a tick: whether a control that it reads is NaN, and whether its curve numbers are in range.
-pub fn tick_causes(control_nan: bool, curves_fit: bool) -> Outcome
+pub fn tick_causes(control_nan: bool, curves_fit: bool) -> Result<(), Refusal>
     ensures { number_of result ≡ cause_number control_nan curves_fit }
 {
     if control_nan {
-        return Outcome::Refused(Refusal::Control);
+        return Err(Refusal::Control);
     }
     if !curves_fit {
-        return Outcome::Refused(Refusal::Curve);
+        return Err(Refusal::Curve);
     }
-    Outcome::Accepted
+    Ok(())
 }
 
 // The places of a swept line whose rate and milliseconds are in range.
@@ -53,31 +64,32 @@ fn swept_length(rate: f64, milliseconds: f64) -> u64
     float64::whole_part_small(rate * milliseconds / 1000.0) + 10
 }
 
-// The places of a swept line. A refused rate gives 0, so that no position fits.
-pub fn line_length(rate: f64, milliseconds: f64) -> u64
-    ensures { result ≡ cond (rate_fits rate && sweep_fits milliseconds) (swept_length milliseconds rate) 0 }
+// The places of a swept line; none for a rate or milliseconds out of range.
+pub fn line_length(rate: f64, milliseconds: f64) -> Option<u64>
+    ensures { result ≡ then_some (rate_fits rate && sweep_fits milliseconds) (swept_length milliseconds rate) }
 {
     if !(float64::rate_fits(rate) & float64::in_range(milliseconds, 1.0, 100.0)) {
-        return 0;
+        return None;
     }
-    swept_length(rate, milliseconds)
+    Some(swept_length(rate, milliseconds))
 }
 
-// The same for whole milliseconds. They are a constant of an effect's, and the test of a constant is gone in the compiled code, where that of a float would stay.
-pub fn line_length_whole(rate: f64, milliseconds: u32) -> u64
-    ensures { result ≡ cond (rate_fits rate && sweep_fits (float_of milliseconds)) (swept_length (float_of milliseconds) rate) 0 }
+// The same for whole milliseconds. They are a constant of an effect's, and the test of a constant is gone in the compiled code, where that of a float would stay: no
+// one function of both, by which the ticks took six to nine instructions more.
+pub fn line_length_whole(rate: f64, milliseconds: u32) -> Option<u64>
+    ensures { result ≡ then_some (rate_fits rate && sweep_fits (float_of milliseconds)) (swept_length (float_of milliseconds) rate) }
 {
     if !(float64::rate_fits(rate) & ((1 <= milliseconds) & (milliseconds <= 100))) {
-        return 0;
+        return None;
     }
-    swept_length(rate, float64::from_u32(milliseconds))
+    Some(swept_length(rate, f64::from(milliseconds)))
 }
 
 // A distance held to a line: at least 1, and at most the last place.
 pub fn held_to_line(distance: f64, last: u32) -> f64
     ensures { result ≡ at_most (at_least distance (float_of 1)) (float_of last) }
 {
-    float64::at_most(float64::at_least(distance, 1.0), float64::from_u32(last))
+    float64::at_most(float64::at_least(distance, 1.0), f64::from(last))
 }
 
 // The place d samples behind w in a line of n places. A comparison in place of the `%` of the definition.
@@ -119,30 +131,38 @@ pub fn next_place(n: u64, w: u64) -> u64
     next
 }
 
-// What stands `distance` samples back from the write position w of a line. Both places are multiplied, also where the fraction is 0.
-pub fn read_interpolated(line: &[f64], w: usize, distance: f64) -> f64
-    requires w_in_bounds { w < length line.now }
-    requires line_len_bound { length line.now ≤ 16777217 }
-    requires distance_on_line { in_range distance (float_of 1) (float_of (length line.now - 1)) ≡ true }
-    ensures { result ≡ read_at (line_at 0 (length line.now) w line.now) distance }
-{
-    let n = line.len();
-    let whole = float64::whole_part_small(distance);
-    let d = whole as usize;
-    let f = distance - float64::from_u32(whole as u32);
-    let p = place_back(n, w, d);
-    let q = place_before(n, p);
-    blend(line[p], line[q], f)
+// A line of lent memory with its write position, as it is read.
+#[derive(Clone, Copy)]
+pub struct Line<'a> {
+    pub places: &'a [f64],
+    pub write_pos: usize,
+    ghost inside: { write_pos < length places.now },
+    ghost short: { length places.now ≤ 16777217 },
 }
 
-// A clearing: +0 in every place.
+impl<'a> Line<'a> {
+    // What stands `distance` samples back from the write position. Both places are multiplied, also where the fraction is 0.
+    pub fn read(self, distance: f64) -> f64
+        requires { in_range distance (float_of 1) (float_of (length self.places.now - 1)) ≡ true }
+        ensures { result ≡ read_at (line_at 0 (length self.entry.places.now) self.entry.write_pos self.entry.places.now) distance }
+    {
+        let line = self.places;
+        let n = line.len();
+        let whole = float64::whole_part_small(distance);
+        let d = whole as usize;
+        let f = distance - f64::from(whole as u32);
+        let p = place_back(n, self.write_pos, d);
+        let q = place_before(n, p);
+        blend(line[p], line[q], f)
+    }
+}
+
+// A clearing: +0 in every place. A loop and no `fill`, whose last store of its own took 16 bytes more of stack in a delay's start.
 pub fn clear(mem: &mut [f64])
     ensures { mem.new ≡ zeros (length mem.old) }
 {
-    let mut i: usize = 0;
-    while i < mem.len() {
-        mem[i] = 0.0;
-        i += 1;
+    for place in mem {
+        *place = 0.0;
     }
 }
 
@@ -150,39 +170,17 @@ pub fn clear(mem: &mut [f64])
 fn part_zero(part: &[f64]) -> bool
     ensures { result ≡ all_zero part.now }
 {
-    let mut zero = true;
-    let mut i: usize = 0;
-    while i < part.len() {
-        zero = zero & (part[i] == 0.0);
-        i += 1;
-    }
-    zero
-}
-
-// Where the part of at most 512 places from i on ends.
-fn part_end(i: usize, n: usize) -> usize
-    requires { i < n }
-    ensures lower_bound { i < result }
-    ensures upper_bound { result ≤ n }
-{
-    if n - i > 512 {
-        return i + 512;
-    }
-    n
+    part.iter().fold(true, |zero, x| zero & (*x == 0.0))
 }
 
 // Whether every place is +0 or -0: part by part, so that it stops soon after a place that is not.
 pub fn all_zero(places: &[f64]) -> bool
     ensures { result ≡ all_zero places.now }
 {
-    let n = places.len();
-    let mut i: usize = 0;
-    while i < n {
-        let end = part_end(i, n);
-        if !part_zero(&places[i..end]) {
+    for part in places.chunks(PART) {
+        if !part_zero(part) {
             return false;
         }
-        i = end;
     }
     true
 }

@@ -8,7 +8,9 @@ use mathlib.Core.Bool.{Bool, true, false, cond}
 use mathlib.Core.List.{List}
 use lib.ListN.{length}
 use lib.Ieee.{Float}
-use Rattle.port.specs.declared.Outcome.{Outcome}
+use Rattle.std.proofs.Common.{Result, Ok}
+use Rattle.std.specs.Result.{result_and}
+use Rattle.port.specs.declared.Refusal.{Refusal}
 use Rattle.port.specs.Answer.{Reply, done, silent, refused, number_of, outcome_reply}
 use Rattle.common.specs.Line.{zeros}
 use Rattle.effect.specs.Effect.{Effect}
@@ -46,16 +48,16 @@ module _ (E : Effect) (c : CallOf E) (s : E.State) (m : List Float) where
   by_number zero e p q r = accepts (sym e) p q r
   by_number (suc k) e p q r = rw (p, q, r) (refuses (suc k) e (omega arith))
 
-  -- a retune or a reset, by the outcome of its tests: the memory is cleared by it, and the state goes by it
-  pub clears : (o : Outcome) {s' : E.State} {m' : List Float} {o' : Outcome} → number_of o ≡ number_in E c (length m) s
+  -- a retune or a reset, by what its tests came to: the memory is cleared by it, and the state goes by it
+  pub clears : {A : Type 0} (o : Result A Refusal) {s' : E.State} {m' : List Float} {o' : Result (Unit {0}) Refusal} → number_of o ≡ number_in E c (length m) s
       → says E c (record { state = s; memory = m }) ≡ done
       → s' ≡ if_none (number_of o) (changed E c (record { state = s; memory = m })).state s
       → m' ≡ if_none (number_of o) (changed E c (record { state = s; memory = m })).memory m
-      → o' ≡ o
+      → o' ≡ result_and o (Ok tt)
       → Does E c s m s' m' (outcome_reply o')
   clears o e d p q r = by_number (number_of o) e p q (ap outcome_reply r ∙ rw d (outcome-reply o))
 
--- the question, by the outcome of its tests: b is what was found where they passed
+-- the question, by what its tests came to: b is what was found where they passed
 pub asks : (E : Effect) (s : E.State) (m : List Float) (k : ℕ) {b : Bool} {a : Reply} → k ≡ number_in E ask (length m) s
     → (number_in E ask (length m) s ≡ 0 → b ≡ is_silent E (record { state = s; memory = m }))
     → a ≡ if_none k (silent b) (refused k)
@@ -81,11 +83,11 @@ module _ (E : Effect) (x : E.Start) (m : List Float) where
       → Starts E x m s' m' a
   starts-accepted e p q r = record { state = rw e p; memory = rw e q; answer = rw e r }
 
-  -- by the outcome of its tests
-  pub starts-clears : (o : Outcome) {s' : E.State} {m' : List Float} {o' : Outcome} → number_of o ≡ start_number E x (length m)
+  -- by what its tests came to
+  pub starts-clears : {A : Type 0} (o : Result A Refusal) {s' : E.State} {m' : List Float} {o' : Result (Unit {0}) Refusal} → number_of o ≡ start_number E x (length m)
       → s' ≡ if_none (number_of o) (E.fresh (E.start_settings x)) E.blank
       → m' ≡ if_none (number_of o) (zeros (length m)) m
-      → o' ≡ o
+      → o' ≡ result_and o (Ok tt)
       → Starts E x m s' m' (outcome_reply o')
   starts-clears o e p q r = go (number_of o) e p q (ap outcome_reply r ∙ outcome-reply o)
     where

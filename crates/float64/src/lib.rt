@@ -2,7 +2,7 @@
 #![tactic(auto)]
 
 ghost use Rattle.std.specs.Prelude.{◌≡◌, not};
-ghost use Rattle.float64.specs.Number.{float_of, is_number, is_finite, in_range, in_unit, in_signed_unit, is_plus_zero, rate_fits, coefficient_fits, phase_fits, frequency_fits, sine_fits, allpass_fits, clamp_of, at_least, at_most, absolute, whole_part, significand_of, Small, round_half_away};
+ghost use Rattle.float64.specs.Number.{is_number, is_finite, in_range, in_unit, in_signed_unit, is_plus_zero, rate_fits, coefficient_fits, phase_fits, frequency_fits, sine_fits, allpass_fits, clamp_of, at_least, at_most, absolute, whole_part, significand_of, Small, round_half_away};
 
 // IEEE 754's exponent field, the eleven bits under the sign. The field of 1.0: a number with a lower one is below one.
 const FIELD_OF_ONE: u64 = 1023;
@@ -131,13 +131,6 @@ pub fn abs(x: f64) -> f64
     ensures { result ≡ absolute x }
 {
     if x > 0.0 { x } else { 0.0 - x }
-}
-
-// A count as a float, exactly. From 32 bits that is one instruction; from 64 it is ten, as the processor's conversion is of signed numbers.
-pub fn from_u32(n: u32) -> f64
-    ensures { result ≡ float_of n }
-{
-    n as f64
 }
 
 // The 53-bit significand of a number whose exponent field is neither 0 nor 2047, by its bits: the 52 that are stored, under a leading one.

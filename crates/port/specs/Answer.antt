@@ -1,14 +1,10 @@
 -- What each call answers, in the table's numbers and in samples. Definitions only. Assumes nothing.
-use Rattle.std.specs.Prelude.{ℕ, Bool, true, false, cond, List, [], ◌∷◌, get_or, Float}
+use Rattle.std.specs.Prelude.{ℕ, Bool, cond, List, [], ◌∷◌, get_or, Float, Result, Ok, Err}
 use Rattle.float64.specs.Number.{plus_zero}
 use Rattle.port.specs.declared.Refusal.{Refusal}
 use Rattle.port.specs.declared.Refusal.TheVariants.{SampleRate, GlideCoefficient, Memory, State, Control, Curve}
-use Rattle.port.specs.declared.Outcome.{Outcome}
-use Rattle.port.specs.declared.Outcome.TheVariants as outcome
 use Rattle.port.specs.declared.Answer.{Answer}
 use Rattle.port.specs.declared.Answer.TheVariants as answer
-use Rattle.port.specs.declared.Silence.{Silence}
-use Rattle.port.specs.declared.Silence.TheVariants as silence
 
 -- What a call answers: an accepted tick its samples, a clearing that it is done, a question whether the unit is silent, a refused call the number.
 pub data Reply : Type 0 where
@@ -26,15 +22,15 @@ number State = 4
 number Control = 5
 number Curve = 6
 
--- the table's number, 0 for none
-abbrev pub number_of : Outcome → ℕ
-number_of outcome.Accepted = 0
-number_of (outcome.Refused r) = number r
+-- the table's number of an outcome, 0 for none
+abbrev pub number_of : {A : Type 0} → Result A Refusal → ℕ
+number_of (Ok x) = 0
+number_of (Err r) = number r
 
 -- start, retune, reset
-abbrev pub outcome_reply : Outcome → Reply
-outcome_reply outcome.Accepted = done
-outcome_reply (outcome.Refused r) = refused (number r)
+abbrev pub outcome_reply : Result (Unit {0}) Refusal → Reply
+outcome_reply (Ok x) = done
+outcome_reply (Err r) = refused (number r)
 
 -- tick
 abbrev pub answer_reply : Answer → Reply
@@ -44,10 +40,9 @@ answer_reply (answer.Three m l r) = played (m ∷ l ∷ r ∷ [])
 answer_reply (answer.Refused r) = refused (number r)
 
 -- silent?
-abbrev pub silence_reply : Silence → Reply
-silence_reply silence.Silent = silent true
-silence_reply silence.Sounding = silent false
-silence_reply (silence.Refused r) = refused (number r)
+abbrev pub silence_reply : Result Bool Refusal → Reply
+silence_reply (Ok b) = silent b
+silence_reply (Err r) = refused (number r)
 
 -- ---- a reply in plain numbers, as the C interface hands it out
 

@@ -3,17 +3,18 @@
 
 ghost use Rattle.std.specs.Prelude.{◌≡◌};
 ghost use Rattle.port.specs.Port.{port_if};
-ghost use Rattle.port.specs.Answer.{number, outcome_reply, answer_reply, silence_reply, reply_number, reply_sample, reply_silent};
+ghost use Rattle.port.specs.Answer.{number, number_of, answer_reply, silence_reply, reply_number, reply_sample, reply_silent};
 
-// An input port: it carries a number or is unset.
+// An input port: it carries a number or is unset. An enum of its own and no `Option<f64>`, as document 01 names the two cases.
 #[derive(Clone, Copy)]
 pub enum Port {
     Set(f64),
     Unset,
 }
 
-// Why a call is refused: a case for each cause of the table.
-#[derive(Clone, Copy)]
+// Why a call is refused: a case for each cause of the table. `Result<(), Refusal>` is what start, retune and reset answer, `Result<bool, Refusal>` the question
+// "silent?".
+#[derive(Clone, Copy, Debug, PartialEq, Eq)]
 pub enum Refusal {
     SampleRate,
     GlideCoefficient,
@@ -23,27 +24,12 @@ pub enum Refusal {
     Curve,
 }
 
-// Whether a call is accepted: what start, retune and reset answer.
-#[derive(Clone, Copy)]
-pub enum Outcome {
-    Accepted,
-    Refused(Refusal),
-}
-
-// What a tick answers: one sample (delay, vibrato, tremolo), two (reverb: left, right), three (chorus, flanger, phaser: mono, left, right), or a refusal.
+// What a tick answers, in one enum, as document 01 asks: one sample (delay, vibrato, tremolo), two (reverb: left, right), three (chorus, flanger, phaser: mono, left, right), or a refusal.
 #[derive(Clone, Copy)]
 pub enum Answer {
     One(f64),
     Two(f64, f64),
     Three(f64, f64, f64),
-    Refused(Refusal),
-}
-
-// What the question "silent?" answers.
-#[derive(Clone, Copy)]
-pub enum Silence {
-    Silent,
-    Sounding,
     Refused(Refusal),
 }
 
@@ -54,12 +40,12 @@ pub fn port_if(on: bool, x: f64) -> Port
     if on { Port::Set(x) } else { Port::Unset }
 }
 
-impl Refusal {
+impl From<Refusal> for u32 {
     // The number that the table gives to the cause.
-    pub fn number(self) -> u32
-        ensures { result ≡ number self }
-    {
-        match self {
+    ghost from_gives = { λ cause n. n ≡ number cause };
+
+    fn from(cause: Refusal) -> u32 {
+        match cause {
             Refusal::SampleRate => 1,
             Refusal::GlideCoefficient => 2,
             Refusal::Memory => 3,
@@ -70,15 +56,23 @@ impl Refusal {
     }
 }
 
-impl Outcome {
-    // The table's number, 0 for none.
-    pub fn number(self) -> u32
-        ensures { result ≡ reply_number (outcome_reply self) }
-    {
-        match self {
-            Outcome::Accepted => 0,
-            Outcome::Refused(cause) => cause.number(),
-        }
+// The table's number of what a clearing or the question answers, 0 for none.
+pub fn number_of<T: Copy>(answer: Result<T, Refusal>) -> u32
+    ensures { result ≡ number_of answer }
+{
+    match answer {
+        Ok(_) => 0,
+        Err(cause) => u32::from(cause),
+    }
+}
+
+// 1 where the question is answered yes, else 0.
+pub fn silent_flag(silence: Result<bool, Refusal>) -> u32
+    ensures { result ≡ reply_silent (silence_reply silence) }
+{
+    match silence {
+        Ok(silent) => u32::from(silent),
+        Err(_) => 0,
     }
 }
 
@@ -91,7 +85,7 @@ impl Answer {
             Answer::One(_) => 0,
             Answer::Two(_, _) => 0,
             Answer::Three(_, _, _) => 0,
-            Answer::Refused(cause) => cause.number(),
+            Answer::Refused(cause) => u32::from(cause),
         }
     }
 
@@ -128,30 +122,6 @@ impl Answer {
             Answer::Two(_, _) => 0.0,
             Answer::Three(_, _, z) => z,
             Answer::Refused(_cause) => 0.0,
-        }
-    }
-}
-
-impl Silence {
-    // The table's number, 0 for none.
-    pub fn number(self) -> u32
-        ensures { result ≡ reply_number (silence_reply self) }
-    {
-        match self {
-            Silence::Silent => 0,
-            Silence::Sounding => 0,
-            Silence::Refused(cause) => cause.number(),
-        }
-    }
-
-    // 1 where the answer is yes.
-    pub fn flag(self) -> u32
-        ensures { result ≡ reply_silent (silence_reply self) }
-    {
-        match self {
-            Silence::Silent => 1,
-            Silence::Sounding => 0,
-            Silence::Refused(_) => 0,
         }
     }
 }

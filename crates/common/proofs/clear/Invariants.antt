@@ -1,10 +1,7 @@
--- the places below i are +0 already
-use Rattle.std.proofs.Common.{◌≡◌, ◌-◌, ◌≤◌, length, replicate, drop, ◌++◌}
+-- the places below the next one are +0
+use Rattle.std.proofs.Common.{◌≡◌, replicate, drop, ◌++◌}
 use Rattle.float64.specs.Number.{plus_zero}
 use Rattle.common.proofs.clear.Given as goal
 
-abbrev pub invariant-loop-i : goal.invariant-loop-i
-invariant-loop-i l = (l.i ≤ length l.initial.mem) × (l.mem ≡ replicate l.i plus_zero ++ drop l.i l.initial.mem)
-
-abbrev pub decreases-loop-i : goal.decreases-loop-i
-decreases-loop-i l = length l.initial.mem - l.i
+abbrev pub invariant-loop-place : goal.invariant-loop-place
+invariant-loop-place l = l.place-items ≡ replicate l.place-index plus_zero ++ drop l.place-index l.initial.place-items

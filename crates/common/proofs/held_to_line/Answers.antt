@@ -6,4 +6,4 @@ use Rattle.common.proofs.held_to_line.Goals as goal
 
 pub returns : goal.returns
 unfolding of_bits of_int
-returns c = c.at_most.ensures ∙ (λ i. at_most (c.at_least.ensures i) (c.from_u32.ensures i))
+returns c = c.at_most.ensures ∙ (λ i. at_most (c.at_least.ensures i) (c.from.ensures i))

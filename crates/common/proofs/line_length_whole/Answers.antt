@@ -20,12 +20,12 @@ pub swept_length-requires-clause-milliseconds_in_range : goal.swept_length-requi
 swept_length-requires-clause-milliseconds_in_range c =
     let a = c.args in
     let t = tested a.rate a.milliseconds (omega (arith, c.ranges.milliseconds)) c.rate_fits.ensures c.if-not-rate_fits-milliseconds.false in
-    rw c.from_u32.ensures (both (rate_fits a.rate) (sweep_fits (float_of a.milliseconds)) t).1
+    rw c.from.ensures (both (rate_fits a.rate) (sweep_fits (float_of a.milliseconds)) t).1
 
 pub returns : goal.returns
 returns c =
     rw (
       tested c.args.rate c.args.milliseconds (omega (arith, c.ranges.milliseconds)) c.rate_fits.ensures c.if-not-rate_fits-milliseconds.false,
       c.swept_length.ensures,
-      c.from_u32.ensures,
+      c.from.ensures,
     )

@@ -1,4 +1,4 @@
--- `common::read_interpolated`: the whole part of a distance on the line lies in it, and so does the place before that one. Assumes nothing.
+-- `common::Line::read`: the whole part of a distance on the line lies in it, and so does the place before that one. Assumes nothing.
 use Rattle.std.proofs.Common.{◌≡◌, ℕ, ◌+◌, ◌-◌, ◌≤◌, ◌<◌, length, true, sym, ap, subst, ◌∙◌, arith}
 use lib.Ieee.{Float}
 use Rattle.float64.specs.Number.{float_of, in_range, whole_part}
@@ -7,7 +7,7 @@ use Rattle.float64.proofs.Parts.{Parts, parts-of, whole-ends}
 use Rattle.common.specs.Line.{place}
 use Rattle.common.proofs.Ring.{place-again}
 use Rattle.common.proofs.Reading.{read_is}
-use Rattle.common.proofs.read_interpolated.Goals as goal
+use Rattle.common.proofs.Line.read.Goals as goal
 
 -- a distance on a line of n places
 module _ (n : ℕ) (distance : Float) (short : n ≤ 16777217) (held : in_range distance (float_of 1) (float_of (n - 1)) ≡ true) where
@@ -22,18 +22,18 @@ module _ (n : ℕ) (distance : Float) (short : n ≤ 16777217) (held : in_range 
 
 pub whole_part_small-whole-requires : goal.whole_part_small-whole-requires
 whole_part_small-whole-requires c =
-    (parts (length c.args.line.now) c.args.distance c.requires.line_len_bound c.requires.distance_on_line).small
+    (parts (length c.args.self.places.now) c.args.distance c.args.self.short c.requires).small
 
-abbrev here : (c : goal.After-whole_part_small-whole) → (1 ≤ c.whole_part_small-whole.result) × (c.whole_part_small-whole.result < length c.args.line.now)
+abbrev here : (c : goal.After-whole_part_small-whole) → (1 ≤ c.whole_part_small-whole.result) × (c.whole_part_small-whole.result < length c.args.self.places.now)
 here c =
-    in-line (length c.args.line.now) c.args.distance c.requires.line_len_bound c.requires.distance_on_line c.whole_part_small-whole.result c.whole_part_small-whole.ensures
+    in-line (length c.args.self.places.now) c.args.distance c.args.self.short c.requires c.whole_part_small-whole.result c.whole_part_small-whole.ensures
 
 pub overflow_cast-whole : goal.overflow_cast-whole
-overflow_cast-whole c = omega (arith, (here c).1, c.requires.line_len_bound)
+overflow_cast-whole c = omega (arith, (here c).1, c.args.self.short)
 
-abbrev there : (c : goal.After-from_u32) → (1 ≤ c.whole_part_small-whole.result) × (c.whole_part_small-whole.result < length c.args.line.now)
+abbrev there : (c : goal.After-from) → (1 ≤ c.whole_part_small-whole.result) × (c.whole_part_small-whole.result < length c.args.self.places.now)
 there c =
-    in-line (length c.args.line.now) c.args.distance c.requires.line_len_bound c.requires.distance_on_line c.whole_part_small-whole.result c.whole_part_small-whole.ensures
+    in-line (length c.args.self.places.now) c.args.distance c.args.self.short c.requires c.whole_part_small-whole.result c.whole_part_small-whole.ensures
 
 pub place_back-p-requires-clause-d_le_n : goal.place_back-p-requires-clause-d_le_n
 place_back-p-requires-clause-d_le_n c = omega (arith, (there c).1)
@@ -43,12 +43,12 @@ place_back-p-requires-clause-d_at_least c = (there c).0
 
 pub returns : goal.returns
 returns c =
-    let line = c.args.line.now in
+    let line = c.args.self.places.now in
     let n = length line in
     let d = c.whole_part_small-whole in
-    let within = in-line n c.args.distance c.requires.line_len_bound c.requires.distance_on_line d.result d.ensures in
-    let before : c.place_before-q.result ≡ place n c.args.w (d.result + 1) =
+    let within = in-line n c.args.distance c.args.self.short c.requires d.result d.ensures in
+    let before : c.place_before-q.result ≡ place n c.args.self.write_pos (d.result + 1) =
     c.place_before-q.ensures.value
     ∙ ap (λ (p : ℕ). place n p 1) c.place_back-p.ensures.value
-    ∙ place-again n c.args.w d.result c.requires.w_in_bounds within.0 within.1 in
-    read_is line c.args.w c.args.distance _ _ _ _ _ d.ensures c.place_back-p.ensures.value before c.from_u32.ensures c.blend.ensures
+    ∙ place-again n c.args.self.write_pos d.result c.args.self.inside within.0 within.1 in
+    read_is line c.args.self.write_pos c.args.distance _ _ _ _ _ d.ensures c.place_back-p.ensures.value before c.from.ensures c.blend.ensures
