@@ -1,11 +1,13 @@
 -- The tremolo's definitions by their cases: the table's row of a tick, and a tick from its steps. Assumes nothing.
-use mathlib.Core.Path.{◌≡◌}
-use mathlib.Core.Bool.{true, false, ◌&&◌, ◌||◌}
+use mathlib.Core.Path.{◌≡◌, refl}
+use mathlib.Core.Bool.{Bool, true, false, not, ◌&&◌, ◌||◌}
 use mathlib.Core.List.{[], ◌∷◌}
-use lib.Ieee.{Float}
-use Rattle.float64.specs.Number.{plus_zero, float_of, half, frequency_fits, sine_fits, clamp_of}
+use lib.Ieee.{Float, fits, is_nan, round}
+use Rattle.float64.specs.Number.{plus_zero, float_of, half, is_number, frequency_fits, sine_fits, clamp_of}
 use Rattle.float64.proofs.Tests.{both}
 use Rattle.port.specs.Port.{value_or, is_nan_set}
+use Rattle.port.proofs.Laws.{nan_is}
+use Rattle.common.specs.Signal.{cause_number}
 use Rattle.common.proofs.Sweep.{no-cause, neither}
 use Rattle.tremolo.specs.declared.Tremolo.{Tremolo}
 use Rattle.tremolo.specs.Tremolo.{Tick, tick_number, lfo, modulated, samples}
@@ -25,6 +27,14 @@ tick-fits t e =
     let a = neither (is_nan_set t.depth) (is_nan_set t.shape) v.0 in
     let b = both (frequency_fits t.frequency) (sine_fits t.sine) v.1 in
     record { depth = a.0; shape = a.1; frequency = b.0; sine = b.1 }
+
+-- by the values taken from the ports, as no default is NaN
+pub number-is : (t : Tick) {d b : Float} {d-nan b-nan frequency sine : Bool} → d ≡ value_or t.depth half → b ≡ value_or t.shape plus_zero
+    → d-nan ≡ not (is_number d) → b-nan ≡ not (is_number b) → frequency ≡ frequency_fits t.frequency → sine ≡ sine_fits t.sine
+    → cause_number (d-nan || b-nan) (frequency && sine) ≡ tick_number t
+unfolding tick_number is_number fits is_nan round
+number-is t amount blend depth shape frequency sine = λ i.
+    cause_number (nan_is t.depth half refl amount depth i || nan_is t.shape plus_zero refl blend shape i) (frequency i && sine i)
 
 -- ---- an accepted tick: the sample worked out step by step is the tick's
 pub samples-are : (t : Tick) (s : Tremolo) {x d b d' b' l y : Float} → x ≡ value_or t.audio plus_zero → d ≡ value_or t.depth half → b ≡ value_or t.shape plus_zero

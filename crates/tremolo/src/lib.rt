@@ -2,13 +2,14 @@
 #![tactic(auto)]
 
 ghost use Rattle.std.specs.Prelude.{◌≡◌, []};
-ghost use Rattle.port.specs.Answer.{outcome_reply, answer_reply, silence_reply};
-ghost use Rattle.effect.specs.Run.{tick, reset, ask};
+ghost use Rattle.port.specs.Answer.{number_of, outcome_reply, answer_reply, silence_reply};
+ghost use Rattle.effect.specs.Run.{tick, reset, ask, number_in};
 ghost use Rattle.effect.specs.Contract.{Does, Starts};
-ghost use Rattle.effect.specs.Needed.{places_needed};
-ghost use Rattle.tremolo.specs.Tremolo.{tremolo, tick_of, state_fits, triangle, lfo, modulated};
+ghost use Rattle.effect.specs.Needed.{places_if_accepted};
+ghost use Rattle.tremolo.specs.Tremolo.{tremolo, tick_of, fresh, state_fits, triangle, lfo, modulated};
 
-use port::{Answer, Outcome, Port, Refusal, Silence};
+use effect::{Cleared, Ticked};
+use port::{Answer, Port, Refusal};
 
 #[derive(Clone, Copy)]
 pub struct Tremolo {
@@ -16,87 +17,61 @@ pub struct Tremolo {
     pub sample_rate: f64,
 }
 
-// What start and reset return.
-#[derive(Clone, Copy)]
-pub struct Cleared {
-    pub state: Tremolo,
-    pub outcome: Outcome,
-}
-
-// What a tick returns.
-#[derive(Clone, Copy)]
-pub struct Ticked {
-    pub state: Tremolo,
-    pub answer: Answer,
-}
-
 impl Tremolo {
-    // Start: phase 0 at the rate.
-    pub fn new(sample_rate: f64) -> Cleared
-        ensures { Starts tremolo sample_rate [] result.state [] (outcome_reply result.outcome) }
+    // The places that a start needs at the rate: 0; none for a rate that is refused.
+    pub fn places_needed(rate: f64) -> Option<u64>
+        ensures { result ≡ places_if_accepted tremolo rate }
     {
-        if !float64::rate_fits(sample_rate) {
-            return Cleared {
-                state: Tremolo {
-                    lfo_phase: 0.0,
-                    sample_rate: 0.0,
-                },
-                outcome: Outcome::Refused(Refusal::SampleRate),
-            };
-        }
-        Cleared {
-            state: Tremolo {
-                lfo_phase: 0.0,
-                sample_rate,
-            },
-            outcome: Outcome::Accepted,
+        float64::rate_fits(rate).then_some(0)
+    }
+
+    // Phase 0, with the rate.
+    fn fresh(rate: f64) -> Tremolo
+        ensures { result ≡ fresh rate }
+    {
+        Tremolo {
+            lfo_phase: 0.0,
+            sample_rate: rate,
         }
     }
 
-    // The places that a start needs at the rate: none; 2^64 - 1 for a rate that is refused.
-    pub fn places_needed(rate: f64) -> u64
-        ensures { result ≡ places_needed tremolo rate }
+    // Start: phase 0 at the rate.
+    pub fn new(sample_rate: f64) -> Cleared<Tremolo>
+        ensures { Starts tremolo sample_rate [] result.state [] (outcome_reply result.outcome) }
     {
-        if !float64::rate_fits(rate) {
-            return 0xffff_ffff_ffff_ffff;
-        }
-        0
+        let tested = Tremolo::places_needed(sample_rate).ok_or(Refusal::SampleRate);
+        Cleared::settled(tested, Tremolo::fresh(sample_rate), Tremolo::fresh(0.0))
     }
 
     // The state test.
+    #[tactic(auto, unfolding(crate::specs::Tremolo::state_fits))]
     fn state_fits(self) -> bool
         ensures { result ≡ state_fits self }
     {
         float64::rate_fits(self.sample_rate) && float64::phase_fits(self.lfo_phase)
     }
 
+    // Cause 4: a state that fails its test.
+    fn checked(self) -> Result<(), Refusal>
+        ensures { number_of result ≡ number_in tremolo reset 0 self }
+    {
+        effect::check_state(self.state_fits(), Ok(()))
+    }
+
     // Reset: phase 0 again.
-    pub fn reset(self) -> Cleared
+    pub fn reset(self) -> Cleared<Tremolo>
         ensures { Does tremolo reset self [] result.state [] (outcome_reply result.outcome) }
     {
-        if !self.state_fits() {
-            return Cleared {
-                state: self,
-                outcome: Outcome::Refused(Refusal::State),
-            };
-        }
-        Cleared {
-            state: Tremolo {
-                lfo_phase: 0.0,
-                sample_rate: self.sample_rate,
-            },
-            outcome: Outcome::Accepted,
-        }
+        Cleared::settled(self.checked(), Tremolo::fresh(self.sample_rate), self)
     }
 
     // Silent? Always, as it has no line.
-    pub fn silent(self) -> Silence
+    #[tactic(auto, unfolding(common::specs::Line::all_zero, effect::specs::Parts::held_in))]
+    pub fn silent(self) -> Result<bool, Refusal>
         ensures { Does tremolo ask self [] self [] (silence_reply result) }
     {
-        if !self.state_fits() {
-            return Silence::Refused(Refusal::State);
-        }
-        Silence::Silent
+        self.checked()?;
+        Ok(true)
     }
 
     // 1 - 4 x |phase - 0.5|.
@@ -121,14 +96,18 @@ impl Tremolo {
     }
 
     // One sample. Frequency and sine are the host's curve numbers, the sine at the state's phase.
-    pub fn tick(self, audio: Port, depth: Port, shape: Port, frequency: f64, sine: f64) -> Ticked
+    pub fn tick(
+        self,
+        audio: Port,
+        depth: Port,
+        shape: Port,
+        frequency: f64,
+        sine: f64,
+    ) -> Ticked<Tremolo>
         ensures { Does tremolo (tick (tick_of audio depth shape frequency sine)) self [] result.state [] (answer_reply result.answer) }
     {
-        if !self.state_fits() {
-            return Ticked {
-                state: self,
-                answer: Answer::Refused(Refusal::State),
-            };
+        if let Err(cause) = self.checked() {
+            return Ticked::refused(self, cause);
         }
         let input = if let Port::Set(x) = audio { x } else { 0.0 };
         let amount = if let Port::Set(x) = depth { x } else { 0.5 };
@@ -137,11 +116,8 @@ impl Tremolo {
             float64::is_nan(amount) | float64::is_nan(blend),
             float64::frequency_fits(frequency) & float64::sine_fits(sine),
         );
-        if let Outcome::Refused(cause) = causes {
-            return Ticked {
-                state: self,
-                answer: Answer::Refused(cause),
-            };
+        if let Err(cause) = causes {
+            return Ticked::refused(self, cause);
         }
         let phase = self.lfo_phase;
         let rate = self.sample_rate;

@@ -7,13 +7,13 @@ use mathlib.Core.Bool.{true, false, ◌&&◌, ◌||◌, cond}
 use mathlib.Core.List.{List, [], ◌∷◌}
 use lib.Dec.{ltb}
 use lib.ListN.{length, take, set}
-use lib.Ieee.{Float, binary64, add, mul, div, neg, le, lt, of_int, round}
+use lib.Ieee.{Float, binary64, is_nan, add, mul, div, neg, le, lt, of_int, round}
 use lib.Ieee as Ieee
 use borrow.Author.Tests.{ltb-true, lt-ltb}
-use Rattle.float64.specs.Number.{plus_zero, float_of, fraction, half, is_number, rate_fits, phase_fits, frequency_fits, sine_fits, clamp_of}
+use Rattle.float64.specs.Number.{plus_zero, float_of, fraction, half, is_number, in_range, rate_fits, phase_fits, frequency_fits, sine_fits, clamp_of}
 use Rattle.float64.proofs.Tests.{both}
 use Rattle.float64.proofs.Interval.{In, point, add-in, mul_in, div-in, scale_in}
-use Rattle.float64.proofs.Ranges.{rate-in, sine-in, in-number}
+use Rattle.float64.proofs.Ranges.{in-range, rate-in, sine-in, in-number}
 use Rattle.float64.proofs.Parts.{clamp-whole-in}
 use Rattle.float64.proofs.Lengths.{length-20}
 use Rattle.port.specs.declared.Port.TheVariants.{Set}
@@ -22,11 +22,13 @@ use Rattle.port.specs.Answer.{Reply, played}
 use Rattle.port.proofs.Laws.{nan_is}
 use Rattle.common.specs.Signal.{blended, advanced, cause_number}
 use Rattle.common.specs.Line.{next_place, line_at, read_at}
-use Rattle.common.proofs.Sweep.{size-tests, no-cause, neither, part-read}
+use Rattle.common.proofs.Slices.{part_length}
+use Rattle.common.proofs.Sweep.{size-tests, no-cause, neither, control-in, part-read}
 use Rattle.effect.specs.Effect.{laid}
 use Rattle.effect.specs.Lines.{in_each}
 use Rattle.effect.specs.Run.{tick, reset, number_in}
 use Rattle.effect.specs.Contract.{Does}
+use Rattle.effect.proofs.Table.{accepted, tick-accepted}
 use Rattle.effect.proofs.Contract.{accepts}
 use Rattle.effect.proofs.Rows.{tick_row}
 use Rattle.vibrato.specs.declared.Vibrato.{Vibrato}
@@ -106,6 +108,38 @@ module _ (rate depth sine : Float) (h : rate_fits rate ≡ true) (d : In binary6
   distance-in =
       let l = length-fits rate h in
       clamp-whole-in (line_length rate - 1) (omega arith) (swept rate depth sine) (omega arith) (in-number swept-in)
+
+-- ---- accepted ticks
+
+-- n is the length of the line: the state passes its test, the memory has the places, and depth and curve numbers are in range
+pub record Ready (t : Tick) (s : Vibrato) (m : List Float) (n : ℕ) : Type 0 where
+  pub state : Fits s
+  pub curves : TickFits t
+  pub short : n ≤ 3850
+  pub inside : s.write_pos < n
+  pub room : n ≤ length m
+  pub part : length (take n m) ≡ n
+  pub distance : in_range (distance s.sample_rate (depth t) t.sine) (float_of 1) (float_of (n - 1)) ≡ true
+
+pub ready : {t : Tick} {s : Vibrato} {m : List Float} {n : ℕ} → n ≡ line_length s.sample_rate → number_in vibrato (tick t) (length m) s ≡ 0
+    → Ready t s m n
+unfolding is_number Ieee.fits is_nan round
+ready {t} {s} {m} {n} e k =
+    let rate = s.sample_rate in
+    let taken = accepted vibrato (length m) (tick t) s k in
+    let row = tick-accepted vibrato (length m) t rate taken.number in
+    let f = fits-parts s taken.state_fits in
+    let curves = tick-fits t row.number in
+    let room : n ≤ length m = omega (arith, e, row.enough) in
+    record {
+      state = f;
+      curves = curves;
+      short = omega (arith, e, (length-fits rate f.rate).1);
+      inside = omega (arith, e, f.inside);
+      room = room;
+      part = part_length 0 n m n refl (omega arith);
+      distance = rw e (in-range (distance-in rate (depth t) t.sine f.rate (control-in t.depth half curves.depth refl) curves.sine));
+    }
 
 -- ---- an accepted tick from its steps
 

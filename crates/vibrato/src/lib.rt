@@ -1,7 +1,8 @@
 // The vibrato: one line in lent memory, read at a swept distance. The state goes in and out by value.
 #![tactic(auto)]
 
-ghost use Rattle.std.specs.Prelude.{◌≡◌, true, cond, ◌<◌, length};
+ghost use Rattle.std.specs.Prelude.{◌≡◌, true, ◌<◌, length, IfOk};
+ghost use Rattle.std.specs.Bool.{then_some};
 ghost use Rattle.std.specs.Float.{binary64};
 ghost use Rattle.std.specs.Float.Ieee.{div};
 ghost use Rattle.float64.specs.Number.{rate_fits};
@@ -9,12 +10,14 @@ ghost use Rattle.port.specs.declared.Port.TheVariants.{Set};
 ghost use Rattle.port.specs.Answer.{number_of, outcome_reply, answer_reply, silence_reply};
 ghost use Rattle.common.specs.Signal.{advanced};
 ghost use Rattle.common.specs.Line.{next_place};
-ghost use Rattle.effect.specs.Run.{tick, retune, reset, ask, if_none, start_number, number_in};
+ghost use Rattle.effect.specs.Run.{tick, retune, reset, ask, start_number, number_in};
 ghost use Rattle.effect.specs.Contract.{Does, Starts};
-ghost use Rattle.effect.specs.Needed.{places_needed};
+ghost use Rattle.effect.specs.Needed.{places_if_accepted};
 ghost use Rattle.vibrato.specs.Vibrato.{vibrato, tick_of, line_length, fresh, state_fits, distance};
 
-use port::{Answer, Outcome, Port, Silence};
+use common::Line;
+use effect::{Cleared, Ticked};
+use port::{Answer, Port, Refusal};
 
 #[derive(Clone, Copy)]
 pub struct Vibrato {
@@ -23,38 +26,24 @@ pub struct Vibrato {
     pub sample_rate: f64,
 }
 
-// What start, retune and reset return.
-#[derive(Clone, Copy)]
-pub struct Cleared {
-    pub state: Vibrato,
-    pub outcome: Outcome,
-}
-
-// What a tick returns.
-#[derive(Clone, Copy)]
-pub struct Ticked {
-    pub state: Vibrato,
-    pub answer: Answer,
-}
-
 impl Vibrato {
     pub const MAX_DELAY_MS: f64 = Vibrato::LINE_MS as f64;
 
     // Whole, for the line's length.
     const LINE_MS: u32 = 20;
 
-    // The places of the line; 0 at a refused rate.
-    fn line_length(rate: f64) -> u64
-        ensures { result ≡ cond (rate_fits rate) (line_length rate) 0 }
+    // The places of the line; none at a refused rate.
+    fn line_length(rate: f64) -> Option<u64>
+        ensures { result ≡ then_some (rate_fits rate) (line_length rate) }
     {
         common::line_length_whole(rate, Vibrato::LINE_MS)
     }
 
-    // The places that a start needs at the rate; 2^64 - 1 for a rate that is refused.
-    pub fn places_needed(rate: f64) -> u64
-        ensures { result ≡ places_needed vibrato rate }
+    // The places that a start needs at the rate; none for a rate that is refused.
+    pub fn places_needed(rate: f64) -> Option<u64>
+        ensures { result ≡ places_if_accepted vibrato rate }
     {
-        effect::places_or_none(Vibrato::line_length(rate))
+        Vibrato::line_length(rate)
     }
 
     // Position 0 and phase 0, with the rate.
@@ -69,82 +58,66 @@ impl Vibrato {
     }
 
     // Causes 1 and 3: a rate that is refused, and memory that is too short for it.
-    fn rate_refusal(rate: f64, places: usize) -> Outcome
+    fn rate_refusal(rate: f64, places: usize) -> Result<(), Refusal>
         ensures { number_of result ≡ start_number vibrato rate places }
     {
         effect::check_rate(Vibrato::line_length(rate), places)
     }
 
-    // What a start, a retune or a reset returns, by the outcome of its tests: the state `next`, or `kept`.
-    fn settled(outcome: Outcome, next: Vibrato, kept: Vibrato) -> Cleared
-        ensures { (result.state ≡ if_none (number_of outcome) next kept) × (result.outcome ≡ outcome) }
-    {
-        if let Outcome::Accepted = outcome {
-            return Cleared {
-                state: next,
-                outcome,
-            };
-        }
-        Cleared {
-            state: kept,
-            outcome,
-        }
-    }
-
     // Start: phase 0, at the rate.
-    pub fn new(sample_rate: f64, mem: &mut [f64]) -> Cleared
+    pub fn new(sample_rate: f64, mem: &mut [f64]) -> Cleared<Vibrato>
         ensures { Starts vibrato sample_rate mem.old result.state mem.new (outcome_reply result.outcome) }
     {
-        let outcome = Vibrato::rate_refusal(sample_rate, mem.len());
-        effect::clear(outcome, mem);
-        Vibrato::settled(outcome, Vibrato::fresh(sample_rate), Vibrato::fresh(0.0))
+        let tested = Vibrato::rate_refusal(sample_rate, mem.len());
+        effect::clear(tested, mem);
+        Cleared::settled(tested, Vibrato::fresh(sample_rate), Vibrato::fresh(0.0))
     }
 
-    // The state test, where n is the length of the line.
-    fn state_fits(self, n: u64) -> bool
-        requires { n ≡ cond (rate_fits self.sample_rate) (line_length self.sample_rate) 0 }
-        ensures { result ≡ state_fits self }
+    // The state test: the places of the line, where it passes.
+    #[tactic(auto, unfolding(crate::specs::Vibrato::state_fits))]
+    fn fitting_length(self) -> Option<u64>
+        ensures { result ≡ then_some (state_fits self) (line_length self.sample_rate) }
     {
-        self.write_pos < n && float64::phase_fits(self.lfo_phase)
+        let n = Vibrato::line_length(self.sample_rate)?;
+        (self.write_pos < n && float64::phase_fits(self.lfo_phase)).then_some(n)
     }
 
-    // Causes 4 and 3: a state that fails its test, and memory that is too short for it.
-    fn refusal(self, n: u64, places: usize) -> Outcome
-        requires { n ≡ cond (rate_fits self.sample_rate) (line_length self.sample_rate) 0 }
-        ensures { number_of result ≡ number_in vibrato reset places self }
+    // The same, where the memory passes its test too: causes 4 and 3.
+    #[tactic(auto, unfolding(crate::specs::Vibrato::state_fits))]
+    fn checked_length(self, places: usize) -> Result<u64, Refusal>
+        ensures number { number_of result ≡ number_in vibrato reset places self }
+        ensures length { IfOk result (λ n. n ≡ line_length self.sample_rate) }
     {
-        effect::check_state(self.state_fits(n), effect::check_memory(n, places))
+        let n = self.fitting_length().ok_or(Refusal::State)?;
+        effect::check_memory(n, places)?;
+        Ok(n)
     }
 
     // Retune: a clearing at another rate. The phase goes to 0 too.
-    pub fn set_sample_rate(self, sample_rate: f64, mem: &mut [f64]) -> Cleared
+    pub fn set_sample_rate(self, sample_rate: f64, mem: &mut [f64]) -> Cleared<Vibrato>
         ensures { Does vibrato (retune sample_rate) self mem.old result.state mem.new
             (outcome_reply result.outcome) }
     {
-        let n = Vibrato::line_length(self.sample_rate);
         let others = Vibrato::rate_refusal(sample_rate, mem.len());
-        let outcome = effect::check_state(self.state_fits(n), others);
-        effect::clear(outcome, mem);
-        Vibrato::settled(outcome, Vibrato::fresh(sample_rate), self)
+        let tested = effect::check_state(self.fitting_length().is_some(), others);
+        effect::clear(tested, mem);
+        Cleared::settled(tested, Vibrato::fresh(sample_rate), self)
     }
 
     // Reset: a clearing at the rate in force, with phase 0 again.
-    pub fn reset(self, mem: &mut [f64]) -> Cleared
+    pub fn reset(self, mem: &mut [f64]) -> Cleared<Vibrato>
         ensures { Does vibrato reset self mem.old result.state mem.new (outcome_reply result.outcome) }
     {
-        let n = Vibrato::line_length(self.sample_rate);
-        let outcome = self.refusal(n, mem.len());
-        effect::clear(outcome, mem);
-        Vibrato::settled(outcome, Vibrato::fresh(self.sample_rate), self)
+        let tested = self.checked_length(mem.len());
+        effect::clear(tested, mem);
+        Cleared::settled(tested, Vibrato::fresh(self.sample_rate), self)
     }
 
     // Silent? Whether every place of the line is +0 or -0.
-    pub fn silent(self, mem: &[f64]) -> Silence
+    pub fn silent(self, mem: &[f64]) -> Result<bool, Refusal>
         ensures { Does vibrato ask self mem.now self mem.now (silence_reply result) }
     {
-        let n = Vibrato::line_length(self.sample_rate);
-        let outcome = self.refusal(n, mem.len());
-        effect::silence(outcome, n as usize, mem)
+        effect::silence(self.checked_length(mem.len()), mem)
     }
 
     // (10 + sine x (depth x 10 x 0.9)) x rate / 1000, clamped to 1 to n - 1, n the length of the line.
@@ -176,6 +149,7 @@ impl Vibrato {
     }
 
     // An accepted tick with all its ports set; n is the length of the line, which is read before the store. The phase comes first, as the next tick waits for it.
+    #[tactic(auto, using(crate::proofs::Laws::ready))]
     fn advance(
         self,
         n: u64,
@@ -185,7 +159,7 @@ impl Vibrato {
         mix: f64,
         frequency: f64,
         sine: f64,
-    ) -> Ticked
+    ) -> Ticked<Vibrato>
         requires n_value { n ≡ line_length self.sample_rate }
         requires tick_accepted { number_in vibrato (tick (tick_of (Set audio) (Set depth) (Set mix) frequency sine)) (length mem.old) self ≡ 0 }
         ensures { Does vibrato (tick (tick_of (Set audio) (Set depth) (Set mix) frequency sine)) self mem.old result.state
@@ -196,8 +170,11 @@ impl Vibrato {
         let wet = float64::clamp(mix, 0.0, 1.0);
         let distance = Vibrato::distance(n, self.sample_rate, amount, sine);
         let w = self.write_pos as usize;
-        let end = n as usize;
-        let delayed = common::read_interpolated(&mem[..end], w, distance);
+        let line = Line {
+            places: &mem[..n as usize],
+            write_pos: w,
+        };
+        let delayed = line.read(distance);
         mem[w] = audio;
         Ticked {
             state,
@@ -214,18 +191,14 @@ impl Vibrato {
         mix: Port,
         frequency: f64,
         sine: f64,
-    ) -> Ticked
+    ) -> Ticked<Vibrato>
         ensures { Does vibrato (tick (tick_of audio depth mix frequency sine)) self mem.old result.state mem.new
             (answer_reply result.answer) }
     {
-        let n = Vibrato::line_length(self.sample_rate);
-        let refusal = self.refusal(n, mem.len());
-        if let Outcome::Refused(cause) = refusal {
-            return Ticked {
-                state: self,
-                answer: Answer::Refused(cause),
-            };
-        }
+        let n = match self.checked_length(mem.len()) {
+            Ok(n) => n,
+            Err(cause) => return Ticked::refused(self, cause),
+        };
         let audio = if let Port::Set(x) = audio { x } else { 0.0 };
         let depth = if let Port::Set(x) = depth { x } else { 0.5 };
         let mix = if let Port::Set(x) = mix { x } else { 1.0 };
@@ -233,11 +206,8 @@ impl Vibrato {
             float64::is_nan(depth) | float64::is_nan(mix),
             float64::frequency_fits(frequency) & float64::sine_fits(sine),
         );
-        if let Outcome::Refused(cause) = causes {
-            return Ticked {
-                state: self,
-                answer: Answer::Refused(cause),
-            };
+        if let Err(cause) = causes {
+            return Ticked::refused(self, cause);
         }
         self.advance(n, mem, audio, depth, mix, frequency, sine)
     }

@@ -1,43 +1,36 @@
 -- `Vibrato::tick`: causes 5 and 6 by the values taken from the ports; where none applies, it is the tick with these values set. Assumes nothing.
-use Rattle.std.proofs.Common.{rules, ◌≡◌, length, sym, refl, ◌∙◌}
+use Rattle.std.proofs.Common.{rules, ◌≡◌, sym, refl, ◌∙◌}
 use lib.Ieee.{of_bits, of_int, round}
-use Rattle.float64.specs.Number.{plus_zero, float_of, half, rate_fits}
+use Rattle.float64.specs.Number.{plus_zero, float_of, half}
 use Rattle.port.specs.declared.Port.TheVariants.{Set}
 use Rattle.port.specs.Port.{value_or}
 use Rattle.port.specs.Answer.{number}
 use Rattle.port.proofs.Laws.{number-some}
-use Rattle.common.proofs.Sweep.{size_is}
-use Rattle.effect.specs.Run.{tick, reset}
-use Rattle.effect.proofs.Table.{accepted}
+use Rattle.effect.specs.Run.{tick}
 use Rattle.effect.proofs.Contract.{refuses}
 use Rattle.effect.proofs.Rows.{tick_row}
-use Rattle.vibrato.specs.Vibrato.{vibrato, tick_of, line_length, tick_number}
-use Rattle.vibrato.proofs.Laws.{fits-parts, all_set, set_number, set_does}
+use Rattle.vibrato.specs.Vibrato.{vibrato, tick_of, tick_number}
+use Rattle.vibrato.proofs.Laws.{all_set, set_number, set_does}
 use Rattle.vibrato.proofs.Vibrato.tick.Goals as goal
 
-pub returns-in-Refused-causes : goal.returns-in-Refused-causes
+pub returns-in-Err-causes : goal.returns-in-Err-causes
 unfolding tick_number of_bits of_int round
-returns-in-Refused-causes c =
+returns-in-Err-causes c =
     let a = c.args in
     let t = tick_of a.audio a.depth a.mix a.frequency a.sine in
     let depth : c.match-depth.depth ≡ value_or a.depth half = search rules in
     let mix : c.match-mix.mix ≡ value_or a.mix (float_of 1) = search rules in
-    let cause = c.in-Refused-causes.cause in
-    let e : number cause ≡ tick_number (all_set t refl depth mix) = cc c.in-Refused-causes.ensures in
-    refuses vibrato (tick t) a.self a.mem.now (number cause) (tick_row vibrato t a.self a.mem.now c.in_default.ensures (e ∙ set_number t refl depth mix)) (number-some cause)
-
-pub advance-requires-clause-n_value : goal.advance-requires-clause-n_value
-advance-requires-clause-n_value c =
-    let s = c.args.self in
-    let unit = accepted vibrato (length c.args.mem.now) reset s (sym c.in_default.ensures) in
-    size_is (rate_fits s.sample_rate) (line_length s.sample_rate) c.line_length-n.ensures (fits-parts s unit.state_fits).rate
+    let cause = c.in-Err-causes.cause in
+    let e : number cause ≡ tick_number (all_set t refl depth mix) = cc c.in-Err-causes.ensures in
+    rw (c.refused-in-Err-causes.ensures.state, c.refused-in-Err-causes.ensures.answer)
+    (refuses vibrato (tick t) a.self a.mem.now (number cause) (tick_row vibrato t a.self a.mem.now c.in-Ok.ensures.number (e ∙ set_number t refl depth mix)) (number-some cause))
 
 pub advance-requires-clause-tick_accepted : goal.advance-requires-clause-tick_accepted
 unfolding tick_number
 advance-requires-clause-tick_accepted c =
     let a = c.args in
     let t = tick_of (Set c.match-audio.audio) (Set c.match-depth.depth) (Set c.match-mix.mix) a.frequency a.sine in
-    sym (tick_row vibrato t a.self a.mem.now c.in_default.ensures (cc c.in_default-causes.ensures))
+    sym (tick_row vibrato t a.self a.mem.now c.in-Ok.ensures.number (cc c.in_default-causes.ensures))
 
 pub returns : goal.returns
 unfolding tick_number of_bits of_int round
@@ -47,4 +40,4 @@ returns c =
     let audio : c.match-audio.audio ≡ value_or a.audio plus_zero = search rules in
     let depth : c.match-depth.depth ≡ value_or a.depth half = search rules in
     let mix : c.match-mix.mix ≡ value_or a.mix (float_of 1) = search rules in
-    set_does t audio depth mix c.in_default.ensures (cc c.in_default-causes.ensures) c.advance.ensures
+    set_does t audio depth mix c.in-Ok.ensures.number (cc c.in_default-causes.ensures) c.advance.ensures
