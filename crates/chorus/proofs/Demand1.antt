@@ -14,7 +14,7 @@ use Rattle.effect.proofs.Laws.{Laws, Below}
 use Rattle.effect.specs.Demand1.{Demand1}
 use Rattle.effect.proofs.Demand1.{demand-1}
 use Rattle.chorus.specs.declared.Chorus.{Chorus}
-use Rattle.chorus.specs.Chorus.{Tick, Phases, chorus, state_fits, line_length, phases_of, start_phases, cleared, blank, tick_number, factor, next_phases, next, writes}
+use Rattle.chorus.specs.Chorus.{Tick, Phases, chorus, state_fits, line_length, phases_of, phase_at, start_phases, cleared, blank, tick_number, factor, next_phases, next, writes}
 use Rattle.chorus.proofs.Laws.{factor-0, factor-1, factor-2, fits-parts, fit, length-fits, tick-fits}
 
 -- ---- the laws
@@ -25,9 +25,9 @@ blank-refused = refl
 
 -- three phases that pass the test, and the state that a clearing leaves with them
 record PhasesFit (p : Phases) : Type 0 where
-  phase0 : phase_fits p.phase0 ≡ true
-  phase1 : phase_fits p.phase1 ≡ true
-  phase2 : phase_fits p.phase2 ≡ true
+  phase0 : phase_fits (phase_at 0 p) ≡ true
+  phase1 : phase_fits (phase_at 1 p) ≡ true
+  phase2 : phase_fits (phase_at 2 p) ≡ true
 
 start-phases : PhasesFit start_phases
 unfolding in_unit le lt of_int round Ieee.fits
@@ -60,9 +60,9 @@ next_fits t s e n =
     (record {
       rate = f.rate;
       inside = next-lt (line_length rate) s.write_pos f.inside;
-      phase0 = detuned-stays s.lfo_phase0 t.frequency rate f.phase0 h f.rate low;
-      phase1 = detuned-stays s.lfo_phase1 t.frequency rate f.phase1 h f.rate middle;
-      phase2 = detuned-stays s.lfo_phase2 t.frequency rate f.phase2 h f.rate high;
+      phase0 = detuned-stays (phase_at 0 (phases_of s)) t.frequency rate f.phase0 h f.rate low;
+      phase1 = detuned-stays (phase_at 1 (phases_of s)) t.frequency rate f.phase1 h f.rate middle;
+      phase2 = detuned-stays (phase_at 2 (phases_of s)) t.frequency rate f.phase2 h f.rate high;
     })
 
 inside : (t : Tick) (s : Chorus) → state_fits s ≡ true → Below (line_length s.sample_rate) (writes t s)

@@ -4,17 +4,19 @@ use Prim.Native.Nat.{ℕ, ◌+◌, ◌-◌, ◌*◌, ◌≤◌, ◌<◌}
 use native.Mathlib.Omega.{arith}
 use mathlib.Core.Path.{◌≡◌, refl, sym, ap, ◌∙◌}
 use mathlib.Core.Bool.{Bool, true, false, ◌&&◌, ◌||◌, cond}
-use mathlib.Core.List.{List}
+use mathlib.Core.List.{List, [], ◌∷◌}
 use lib.IntN.{negsuc}
 use lib.Dec.{ltb}
 use lib.ListN.{length, take, set}
 use lib.Ieee.{Float, fin, binary64, add, sub, mul, div, neg, is_nan, le, lt, of_int, round}
 use lib.Ieee as Ieee
 use borrow.Author.Tests.{ltb-true, lt-ltb}
-use Rattle.float64.specs.Number.{plus_zero, float_of, fraction, half, is_number, rate_fits, phase_fits, frequency_fits, sine_fits, clamp_of}
+use Rattle.std.specs.List.{list_all}
+use Rattle.std.proofs.Math.Bool.{and-true}
+use Rattle.float64.specs.Number.{plus_zero, float_of, fraction, half, is_number, in_range, rate_fits, phase_fits, frequency_fits, sine_fits, clamp_of}
 use Rattle.float64.proofs.Tests.{both}
 use Rattle.float64.proofs.Interval.{In, point, add-in, mul_in, div-in, scale_in}
-use Rattle.float64.proofs.Ranges.{rate-in, sine-in, in-number}
+use Rattle.float64.proofs.Ranges.{in-range, rate-in, sine-in, in-number}
 use Rattle.float64.proofs.Parts.{clamp-whole-in}
 use Rattle.float64.proofs.Lengths.{length-32}
 use Rattle.port.specs.declared.Port.TheVariants.{Set}
@@ -24,15 +26,16 @@ use Rattle.port.proofs.Laws.{nan_is}
 use Rattle.common.specs.Signal.{sanitized, cause_number}
 use Rattle.common.specs.Line.{next_place, line_at, read_at}
 use Rattle.common.proofs.Slices.{part_length}
-use Rattle.common.proofs.Sweep.{neither, no-cause, part-read, size-tests}
+use Rattle.common.proofs.Sweep.{neither, no-cause, control-in, part-read, size-tests}
 use Rattle.effect.specs.Effect.{laid}
 use Rattle.effect.specs.Lines.{in_each}
 use Rattle.effect.specs.Run.{tick, reset, number_in}
 use Rattle.effect.specs.Contract.{Does}
+use Rattle.effect.proofs.Table.{accepted, tick-accepted}
 use Rattle.effect.proofs.Contract.{accepts}
 use Rattle.effect.proofs.Rows.{tick_row}
 use Rattle.chorus.specs.declared.Chorus.{Chorus}
-use Rattle.chorus.specs.Chorus.{Tick, tick_of, chorus, line_length, Phases, phases_of, factor, stepped, next_phases, state_fits, tick_number, input, depth, mix, distance, voice, mixed, next, writes}
+use Rattle.chorus.specs.Chorus.{Tick, tick_of, chorus, line_length, Phases, phases_of, phase_at, factor, stepped, next_phases, phases_fit, state_fits, tick_number, input, depth, mix, distance, voice, mixed, next, writes}
 use Rattle.chorus.specs.Chorus as page
 
 -- ---- the line's length
@@ -80,48 +83,44 @@ pub factor-2 : factor 2 ≡ fraction 11 10
 factor-2 = factor-high ∙ sym tenths-high
 
 pub phases-by : (frequency rate : Float) (p : Phases)
-    → record {
-      phase0 = stepped p.phase0 frequency (fraction 9 10) rate;
-      phase1 = stepped p.phase1 frequency (float_of 1) rate;
-      phase2 = stepped p.phase2 frequency (fraction 11 10) rate;
-    }
+    → stepped (phase_at 0 p) frequency (fraction 9 10) rate ∷ stepped (phase_at 1 p) frequency (float_of 1) rate ∷ stepped (phase_at 2 p) frequency (fraction 11 10) rate ∷ []
     ≡ next_phases frequency rate p
 unfolding next_phases
-phases-by frequency rate p = λ i.
-    record {
-      phase0 = stepped p.phase0 frequency (sym factor-0 i) rate;
-      phase1 = stepped p.phase1 frequency (sym factor-1 i) rate;
-      phase2 = stepped p.phase2 frequency (sym factor-2 i) rate;
-    }
+phases-by frequency rate p = rw (factor-0, factor-1, factor-2)
 
 -- ---- the state test
 
--- the phases of the three voices
-abbrev pub phases_fit : Chorus → Bool
-phases_fit s = phase_fits s.lfo_phase0 && (phase_fits s.lfo_phase1 && phase_fits s.lfo_phase2)
+-- an array's phases, tested from first to last
+pub each-phase : (p : Phases) → length p ≡ 3 → list_all phase_fits p ≡ phases_fit p
+each-phase (x ∷ y ∷ z ∷ []) e = ap (λ (b : Bool). phase_fits x && (phase_fits y && b)) (and-true (phase_fits z))
+each-phase (x ∷ y ∷ z ∷ w ∷ p) e = absurd (omega arith)
+each-phase (x ∷ y ∷ []) e = absurd (omega arith)
+each-phase (x ∷ []) e = absurd (omega arith)
+each-phase [] e = absurd (omega arith)
 
 -- by the length n of the line, as `line_length` answers it
-pub fits_by : (s : Chorus) {n : ℕ} → n ≡ cond (rate_fits s.sample_rate) (line_length s.sample_rate) 0 → state_fits s ≡ ltb s.write_pos n && phases_fit s
+pub fits_by : (s : Chorus) {n : ℕ} → n ≡ cond (rate_fits s.sample_rate) (line_length s.sample_rate) 0 → state_fits s ≡ ltb s.write_pos n && phases_fit (phases_of s)
 unfolding state_fits
-fits_by s e = size-tests (rate_fits s.sample_rate) (line_length s.sample_rate) s.write_pos (λ n. phases_fit s) e
+fits_by s e = size-tests (rate_fits s.sample_rate) (line_length s.sample_rate) s.write_pos (λ n. phases_fit (phases_of s)) e
 
 pub record Fits (s : Chorus) : Type 0 where
   pub rate : rate_fits s.sample_rate ≡ true
   pub inside : s.write_pos < line_length s.sample_rate
-  pub phase0 : phase_fits s.lfo_phase0 ≡ true
-  pub phase1 : phase_fits s.lfo_phase1 ≡ true
-  pub phase2 : phase_fits s.lfo_phase2 ≡ true
+  pub phase0 : phase_fits (phase_at 0 (phases_of s)) ≡ true
+  pub phase1 : phase_fits (phase_at 1 (phases_of s)) ≡ true
+  pub phase2 : phase_fits (phase_at 2 (phases_of s)) ≡ true
 
 module _ (s : Chorus) where
   pub fits-parts : state_fits s ≡ true → Fits s
   unfolding state_fits
   fits-parts e =
       let w = ltb s.write_pos (line_length s.sample_rate) in
-      let others = phase_fits s.lfo_phase1 && phase_fits s.lfo_phase2 in
-      let a = both (rate_fits s.sample_rate) (w && phases_fit s) e in
-      let b = both w (phases_fit s) a.1 in
-      let c = both (phase_fits s.lfo_phase0) others b.1 in
-      let d = both (phase_fits s.lfo_phase1) (phase_fits s.lfo_phase2) c.1 in
+      let p = phases_of s in
+      let others = phase_fits (phase_at 1 p) && phase_fits (phase_at 2 p) in
+      let a = both (rate_fits s.sample_rate) (w && phases_fit p) e in
+      let b = both w (phases_fit p) a.1 in
+      let c = both (phase_fits (phase_at 0 p)) others b.1 in
+      let d = both (phase_fits (phase_at 1 p)) (phase_fits (phase_at 2 p)) c.1 in
       record { rate = a.0; inside = ltb-true s.write_pos (line_length s.sample_rate) b.0; phase0 = c.0; phase1 = d.0; phase2 = d.1 }
 
   pub fit : Fits s → state_fits s ≡ true
@@ -176,19 +175,49 @@ module _ (rate depth sine : Float) (h : rate_fits rate ≡ true) (d : In binary6
       let l = length-fits rate h in
       clamp-whole-in (line_length rate - 1) (omega arith) (swept rate depth sine) (omega arith) (in-number swept-in)
 
+-- ---- accepted ticks
+
+-- n is the length of the line: the state passes its test, the memory has the places, and depth and curve numbers are in range
+pub record Ready (t : Tick) (s : Chorus) (m : List Float) (n : ℕ) : Type 0 where
+  pub state : Fits s
+  pub curves : TickFits t
+  pub short : n ≤ 6154
+  pub inside : s.write_pos < n
+  pub room : n ≤ length m
+  pub part : length (take n m) ≡ n
+  pub depth : in_range (depth t) plus_zero (float_of 1) ≡ true
+
+pub ready : {t : Tick} {s : Chorus} {m : List Float} {n : ℕ} → n ≡ line_length s.sample_rate → number_in chorus (tick t) (length m) s ≡ 0
+    → Ready t s m n
+unfolding is_number Ieee.fits is_nan round
+ready {t} {s} {m} {n} e k =
+    let rate = s.sample_rate in
+    let taken = accepted chorus (length m) (tick t) s k in
+    let row = tick-accepted chorus (length m) t rate taken.number in
+    let f = fits-parts s taken.state_fits in
+    let curves = tick-fits t row.number in
+    let room : n ≤ length m = omega (arith, e, row.enough) in
+    record {
+      state = f;
+      curves = curves;
+      short = omega (arith, e, (length-fits rate f.rate).1);
+      inside = omega (arith, e, f.inside);
+      room = room;
+      part = part_length 0 n m n refl (omega arith);
+      depth = in-range (control-in t.depth half curves.depth refl);
+    }
+
 -- ---- an accepted tick from its steps
 
 module _ (t : Tick) (s : Chorus) (m : List Float) {n : ℕ} (e : n ≡ line_length s.sample_rate) where
   -- a read in the part of the memory that is the line is what a voice reads
   pub voice-is : {d y : Float} (sine : Float) → n ≤ length m → s.write_pos < n → d ≡ depth t
-      → y ≡ read_at (line_at 0 (length (take n m)) s.write_pos (take n m)) (clamp_of (swept s.sample_rate d sine) (float_of 1) (float_of (length (take n m) - 1)))
+      → y ≡ read_at (line_at 0 (length (take n m)) s.write_pos (take n m)) (distance s.sample_rate d sine)
       → y ≡ voice 0 sine t s m
-  unfolding voice distance
+  unfolding voice
   voice-is sine l h g r =
-      let w = s.write_pos in
-      r
-      ∙ part-read n 0 n w m _ refl (omega arith) h
-      ∙ (λ j. read_at (line_at 0 (e j) w m) (clamp_of (swept s.sample_rate (g j) sine) (float_of 1) (float_of ((part_length 0 n m n refl (omega arith) ∙ e) j - 1))))
+      let L = line_length s.sample_rate in
+      r ∙ part-read n 0 L s.write_pos m _ e (omega arith) (omega arith) ∙ (λ j. read_at (line_at 0 L s.write_pos m) (distance s.sample_rate (g j) sine))
 
   pub next-is : {r : Chorus} → r.write_pos ≡ next_place n s.write_pos → phases_of r ≡ next_phases t.frequency s.sample_rate (phases_of s)
       → r.sample_rate ≡ s.sample_rate
@@ -197,9 +226,7 @@ module _ (t : Tick) (s : Chorus) (m : List Float) {n : ℕ} (e : n ≡ line_leng
   next-is p q k = λ i.
       record {
         write_pos = (p ∙ ap (λ (z : ℕ). next_place z s.write_pos) e) i;
-        lfo_phase0 = (q i).phase0;
-        lfo_phase1 = (q i).phase1;
-        lfo_phase2 = (q i).phase2;
+        lfo_phases = q i;
         sample_rate = k i;
       }
 
@@ -217,7 +244,7 @@ module _ (t : Tick) (s : Chorus) (m : List Float) {n : ℕ} (e : n ≡ line_leng
 
 module _ (t : Tick) {x d b : Float} (audio : x ≡ value_or t.audio plus_zero) (amount : d ≡ value_or t.depth half) (wet : b ≡ value_or t.mix half) where
   abbrev pub all_set : Tick
-  all_set = tick_of (Set x) (Set d) (Set b) t.frequency t.sine0 t.sine1 t.sine2
+  all_set = tick_of (Set x) (Set d) (Set b) t.frequency (t.sine0 ∷ t.sine1 ∷ t.sine2 ∷ [])
 
   pub set_number : tick_number all_set ≡ tick_number t
   unfolding tick_number is_number Ieee.fits is_nan round

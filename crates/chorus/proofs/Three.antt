@@ -4,12 +4,13 @@ use native.Mathlib.Nat.{zero-mul}
 use native.Mathlib.Omega.{arith}
 use native.Mathlib.Decide.{dec_lt}
 use mathlib.Core.Path.{◌≡◌, refl, sym, ap, ◌∙◌, subst}
-use mathlib.Core.Bool.{Bool, true, false, ◌&&◌, cond}
+use mathlib.Core.Bool.{Bool, true, ◌&&◌, cond}
 use mathlib.Core.List.{List, [], ◌∷◌}
 use lib.Dec.{ltb}
 use lib.ListN.{length, take, drop, length-replicate}
 use lib.Ieee.{Float}
 use borrow.Author.Tests.{lt-ltb, le-ltb}
+use Rattle.std.proofs.Math.Bool.{and_self, and_self_left}
 use Rattle.float64.specs.Number.{plus_zero, rate_fits}
 use Rattle.port.specs.Answer.{played, done, silent, refused}
 use Rattle.common.specs.Line.{zeros, line_at, read_at, all_zero}
@@ -95,10 +96,6 @@ started-alike rate m n l e =
 abbrev CallAlike : CallOf chorus → Device Chorus → Device Chorus → Type 0
 CallAlike c h g = (reply three_lined c g ≡ reply chorus c h) × Corresponds (step chorus c h) (step three_lined c g)
 
-and_alike : (b : Bool) → b && (b && b) ≡ b
-and_alike true = refl
-and_alike false = refl
-
 module _ (s : Chorus) (m n : List Float) (r : Corresponds (device_of s m) (device_of s n)) where
   abbrev h : Device Chorus
   h = device_of s m
@@ -147,7 +144,8 @@ module _ (s : Chorus) (m n : List Float) (r : Corresponds (device_of s m) (devic
       ∙ ap (λ (b : Bool). all_zero (take L n) && b) (zeros-split L L (drop L n))
       ∙ ap (λ (q : List Float). all_zero (take L n) && (all_zero (take L (drop L n)) && all_zero (take L q))) (drop_more L L n)
       ∙ (λ j. all_zero (each 0 0 (omega arith) (omega arith) j) && (all_zero (each 1 L (omega arith) (omega arith) j) && all_zero (each 2 (L + L) (omega arith) (omega arith) j)))
-      ∙ and_alike (all_zero (take L m))
+      ∙ and_self_left (all_zero (take L m)) (all_zero (take L m))
+      ∙ and_self (all_zero (take L m))
 
   -- what an accepted call leaves, and what it answers
   changed-alike : (c : CallOf chorus) → number_at chorus c h ≡ 0 → Corresponds (changed chorus c h) (changed three_lined c g)
@@ -199,9 +197,7 @@ call-alike c h g r =
     same-state = λ i.
         record {
           write_pos = sym r.position i;
-          lfo_phase0 = (sym r.phases i).phase0;
-          lfo_phase1 = (sym r.phases i).phase1;
-          lfo_phase2 = (sym r.phases i).phase2;
+          lfo_phases = sym r.phases i;
           sample_rate = sym r.rate i;
         }
 

@@ -1,6 +1,6 @@
 -- The chorus: one line that stores the audio, read by three voices, each at its own swept distance. Definitions only. Assumes nothing.
-use Rattle.std.specs.Prelude.{ℕ, ◌-◌, Bool, true, ◌&&◌, ◌||◌, cond, List, [], ◌∷◌, ltb, Float}
-use Rattle.std.specs.Float.{binary64}
+use Rattle.std.specs.Prelude.{ℕ, ◌-◌, Bool, true, ◌&&◌, ◌||◌, cond, List, [], ◌∷◌, get_or, ltb, Float}
+use Rattle.std.specs.Float.{nan, binary64}
 use Rattle.std.specs.Float.Ieee.{add, sub, mul, div}
 use Rattle.float64.specs.Number.{plus_zero, float_of, fraction, half, rate_fits, phase_fits, frequency_fits, sine_fits, clamp_of}
 use Rattle.port.specs.declared.Port.{Port}
@@ -12,7 +12,7 @@ use Rattle.effect.specs.Effect.{Effect, Write}
 use Rattle.effect.specs.Lines.{Lines, in_each}
 use Rattle.chorus.specs.declared.Chorus.{Chorus}
 
--- what a tick is handed: its ports, and the curve numbers frequency and one sine per phase
+-- what a tick is handed: its ports, and the curve numbers frequency and one sine per phase, in the phases' order
 pub record Tick : Type 0 where
   pub audio : Port
   pub depth : Port
@@ -22,29 +22,40 @@ pub record Tick : Type 0 where
   pub sine1 : Float
   pub sine2 : Float
 
-abbrev pub tick_of : Port → Port → Port → Float → Float → Float → Float → Tick
-tick_of audio depth mix frequency sine0 sine1 sine2 =
-    record { audio = audio; depth = depth; mix = mix; frequency = frequency; sine0 = sine0; sine1 = sine1; sine2 = sine2 }
+-- as the code is handed it, with the sines in an array
+abbrev pub tick_of : Port → Port → Port → Float → List Float → Tick
+tick_of audio depth mix frequency sines =
+    record {
+      audio = audio;
+      depth = depth;
+      mix = mix;
+      frequency = frequency;
+      sine0 = get_or sines 0 nan;
+      sine1 = get_or sines 1 nan;
+      sine2 = get_or sines 2 nan;
+    }
 
 -- L: the whole part of rate × 32 / 1000, plus 10; 32 is 25 (MAX_MOD_DELAY_MS) and 7 (BASE_DELAY_MS)
 unfoldable pub line_length : Float → ℕ
 line_length rate = swept_length (float_of 32) rate
 
--- ---- the phases of the three voices
+-- ---- the phases of the three voices, in order, as the state's array has them
 
-pub record Phases : Type 0 where
-  pub phase0 : Float
-  pub phase1 : Float
-  pub phase2 : Float
+abbrev pub Phases : Type 0
+Phases = List Float
 
 abbrev pub phases_of : Chorus → Phases
-phases_of s = record { phase0 = s.lfo_phase0; phase1 = s.lfo_phase1; phase2 = s.lfo_phase2 }
+phases_of s = s.lfo_phases
+
+-- the phase of voice i, from 0 on
+abbrev pub phase_at : ℕ → Phases → Float
+phase_at i p = get_or p i nan
 
 abbrev pub start_phases : Phases
-start_phases = record { phase0 = plus_zero; phase1 = fraction 33 100; phase2 = fraction 67 100 }
+start_phases = plus_zero ∷ fraction 33 100 ∷ fraction 67 100 ∷ []
 
 abbrev pub zero_phases : Phases
-zero_phases = record { phase0 = plus_zero; phase1 = plus_zero; phase2 = plus_zero }
+zero_phases = plus_zero ∷ plus_zero ∷ plus_zero ∷ []
 
 -- the factor of voice i, from 0 on: 1 + (i − 1) × 0.1
 unfoldable pub factor : ℕ → Float
@@ -56,17 +67,12 @@ stepped phase frequency factor rate = advanced phase (div binary64 (mul binary64
 
 unfoldable pub next_phases : Float → Float → Phases → Phases
 next_phases frequency rate p =
-    record {
-      phase0 = stepped p.phase0 frequency (factor 0) rate;
-      phase1 = stepped p.phase1 frequency (factor 1) rate;
-      phase2 = stepped p.phase2 frequency (factor 2) rate;
-    }
+    stepped (phase_at 0 p) frequency (factor 0) rate ∷ stepped (phase_at 1 p) frequency (factor 1) rate ∷ stepped (phase_at 2 p) frequency (factor 2) rate ∷ []
 
 -- ---- states
 
 abbrev pub state_of : ℕ → Phases → Float → Chorus
-state_of pos p rate =
-    record { write_pos = pos; lfo_phase0 = p.phase0; lfo_phase1 = p.phase1; lfo_phase2 = p.phase2; sample_rate = rate }
+state_of pos p rate = record { write_pos = pos; lfo_phases = p; sample_rate = rate }
 
 abbrev pub cleared : Phases → Float → Chorus
 cleared p rate = state_of 0 p rate
@@ -83,11 +89,12 @@ retuned rate s = cleared (phases_of s) rate
 abbrev pub blank : Chorus
 blank = cleared zero_phases plus_zero
 
+abbrev pub phases_fit : Phases → Bool
+phases_fit p = phase_fits (phase_at 0 p) && (phase_fits (phase_at 1 p) && phase_fits (phase_at 2 p))
+
 -- the state test, cause 4
 unfoldable pub state_fits : Chorus → Bool
-state_fits s =
-    rate_fits s.sample_rate
-    && (ltb s.write_pos (line_length s.sample_rate) && (phase_fits s.lfo_phase0 && (phase_fits s.lfo_phase1 && phase_fits s.lfo_phase2)))
+state_fits s = rate_fits s.sample_rate && (ltb s.write_pos (line_length s.sample_rate) && phases_fit (phases_of s))
 
 -- causes 5 and 6
 unfoldable pub tick_number : Tick → ℕ

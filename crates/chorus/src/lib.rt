@@ -1,41 +1,26 @@
 // The chorus: one line in lent memory, read by three voices. The state goes in and out by value.
 #![tactic(auto)]
 
-ghost use Rattle.std.specs.Prelude.{◌≡◌, true, cond, ◌-◌, ◌≤◌, ◌<◌, length};
-ghost use Rattle.std.specs.Float.{binary64};
-ghost use Rattle.std.specs.Float.Ieee.{add, mul};
-ghost use Rattle.float64.specs.Number.{float_of, half, is_number, rate_fits, clamp_of};
+ghost use Rattle.std.specs.Prelude.{◌≡◌, true, ◌<◌, length, IfOk};
+ghost use Rattle.std.specs.Bool.{then_some};
+ghost use Rattle.float64.specs.Number.{float_of, in_range, rate_fits, sine_fits};
 ghost use Rattle.port.specs.declared.Port.TheVariants.{Set};
 ghost use Rattle.port.specs.Answer.{number_of, outcome_reply, answer_reply, silence_reply, played};
 ghost use Rattle.common.specs.Line.{line_at, read_at, next_place};
-ghost use Rattle.effect.specs.Run.{tick, retune, reset, ask, if_none, start_number, number_in};
+ghost use Rattle.effect.specs.Run.{tick, retune, reset, ask, start_number, number_in};
 ghost use Rattle.effect.specs.Contract.{Does, Starts};
-ghost use Rattle.effect.specs.Needed.{places_needed};
-ghost use Rattle.chorus.specs.Chorus.{chorus, tick_of, line_length, phases_of, next_phases, cleared, fresh, state_fits, mixed};
+ghost use Rattle.effect.specs.Needed.{places_if_accepted};
+ghost use Rattle.chorus.specs.Chorus.{chorus, tick_of, line_length, phases_of, next_phases, cleared, fresh, state_fits, distance, mixed};
 
-use port::{Answer, Outcome, Port, Silence};
+use common::Line;
+use effect::{Cleared, Ticked};
+use port::{Answer, Port, Refusal};
 
 #[derive(Clone, Copy)]
 pub struct Chorus {
     pub write_pos: u64,
-    pub lfo_phase0: f64,
-    pub lfo_phase1: f64,
-    pub lfo_phase2: f64,
+    pub lfo_phases: [f64; 3],
     pub sample_rate: f64,
-}
-
-// What start, retune and reset return.
-#[derive(Clone, Copy)]
-pub struct Cleared {
-    pub state: Chorus,
-    pub outcome: Outcome,
-}
-
-// What a tick returns.
-#[derive(Clone, Copy)]
-pub struct Ticked {
-    pub state: Chorus,
-    pub answer: Answer,
 }
 
 impl Chorus {
@@ -48,29 +33,27 @@ impl Chorus {
 
     const BASE_MS: u32 = 7;
 
-    // The places of the line; 0 at a refused rate.
-    fn line_length(rate: f64) -> u64
-        ensures { result ≡ cond (rate_fits rate) (line_length rate) 0 }
+    // The places of the line; none at a refused rate.
+    fn line_length(rate: f64) -> Option<u64>
+        ensures { result ≡ then_some (rate_fits rate) (line_length rate) }
     {
         common::line_length_whole(rate, Chorus::MOD_MS + Chorus::BASE_MS)
     }
 
-    // The places that a start needs at the rate; 2^64 - 1 for a rate that is refused.
-    pub fn places_needed(rate: f64) -> u64
-        ensures { result ≡ places_needed chorus rate }
+    // The places that a start needs at the rate, none for a rate that is refused.
+    pub fn places_needed(rate: f64) -> Option<u64>
+        ensures { result ≡ places_if_accepted chorus rate }
     {
-        effect::places_or_none(Chorus::line_length(rate))
+        Chorus::line_length(rate)
     }
 
     // Position 0, with the phases and the rate.
-    fn cleared(phase0: f64, phase1: f64, phase2: f64, rate: f64) -> Chorus
-        ensures { result ≡ cleared (record { phase0 = phase0; phase1 = phase1; phase2 = phase2 }) rate }
+    fn cleared(lfo_phases: [f64; 3], rate: f64) -> Chorus
+        ensures { result ≡ cleared lfo_phases rate }
     {
         Chorus {
             write_pos: 0,
-            lfo_phase0: phase0,
-            lfo_phase1: phase1,
-            lfo_phase2: phase2,
+            lfo_phases,
             sample_rate: rate,
         }
     }
@@ -79,120 +62,98 @@ impl Chorus {
     fn fresh(rate: f64) -> Chorus
         ensures { result ≡ fresh rate }
     {
-        Chorus::cleared(0.0, 0.33, 0.67, rate)
+        Chorus::cleared([0.0, 0.33, 0.67], rate)
     }
 
     // Causes 1 and 3: a rate that is refused, and memory that is too short for it.
-    fn rate_refusal(rate: f64, places: usize) -> Outcome
+    fn rate_refusal(rate: f64, places: usize) -> Result<(), Refusal>
         ensures { number_of result ≡ start_number chorus rate places }
     {
         effect::check_rate(Chorus::line_length(rate), places)
     }
 
-    // What a start, a retune or a reset returns, by the outcome of its tests: the state `next`, or `kept`.
-    fn settled(outcome: Outcome, next: Chorus, kept: Chorus) -> Cleared
-        ensures { (result.state ≡ if_none (number_of outcome) next kept) × (result.outcome ≡ outcome) }
-    {
-        if let Outcome::Accepted = outcome {
-            return Cleared {
-                state: next,
-                outcome,
-            };
-        }
-        Cleared {
-            state: kept,
-            outcome,
-        }
-    }
-
     // Start: the start phases, at the rate.
-    pub fn new(sample_rate: f64, mem: &mut [f64]) -> Cleared
+    pub fn new(sample_rate: f64, mem: &mut [f64]) -> Cleared<Chorus>
         ensures { Starts chorus sample_rate mem.old result.state mem.new (outcome_reply result.outcome) }
     {
-        let outcome = Chorus::rate_refusal(sample_rate, mem.len());
-        effect::clear(outcome, mem);
-        Chorus::settled(
-            outcome,
+        let tested = Chorus::rate_refusal(sample_rate, mem.len());
+        effect::clear(tested, mem);
+        Cleared::settled(
+            tested,
             Chorus::fresh(sample_rate),
-            Chorus::cleared(0.0, 0.0, 0.0, 0.0),
+            Chorus::cleared([0.0; 3], 0.0),
         )
     }
 
-    // The state test, where n is the length of the line.
-    fn state_fits(self, n: u64) -> bool
-        requires { n ≡ cond (rate_fits self.sample_rate) (line_length self.sample_rate) 0 }
-        ensures { result ≡ state_fits self }
+    // The state test: the places of the line, where it passes.
+    #[tactic(auto, unfolding(crate::specs::Chorus::state_fits))]
+    fn fitting_length(self) -> Option<u64>
+        ensures { result ≡ then_some (state_fits self) (line_length self.sample_rate) }
     {
-        self.write_pos < n
-            && (float64::phase_fits(self.lfo_phase0)
-                && (float64::phase_fits(self.lfo_phase1) && float64::phase_fits(self.lfo_phase2)))
+        let n = Chorus::line_length(self.sample_rate)?;
+        let phases = self.lfo_phases;
+        let fits = self.write_pos < n && phases.iter().all(|phase| float64::phase_fits(*phase));
+        fits.then_some(n)
     }
 
-    // Causes 4 and 3: a state that fails its test, and memory that is too short for it.
-    fn refusal(self, n: u64, places: usize) -> Outcome
-        requires { n ≡ cond (rate_fits self.sample_rate) (line_length self.sample_rate) 0 }
-        ensures { number_of result ≡ number_in chorus reset places self }
+    // The same, where the memory passes its test too: causes 4 and 3.
+    #[tactic(auto, unfolding(crate::specs::Chorus::state_fits))]
+    fn checked_length(self, places: usize) -> Result<u64, Refusal>
+        ensures number { number_of result ≡ number_in chorus reset places self }
+        ensures length { IfOk result (λ n. n ≡ line_length self.sample_rate) }
     {
-        effect::check_state(self.state_fits(n), effect::check_memory(n, places))
+        let n = self.fitting_length().ok_or(Refusal::State)?;
+        effect::check_memory(n, places)?;
+        Ok(n)
     }
 
     // Retune: a clearing at another rate, which keeps the phases.
-    pub fn set_sample_rate(self, sample_rate: f64, mem: &mut [f64]) -> Cleared
+    pub fn set_sample_rate(self, sample_rate: f64, mem: &mut [f64]) -> Cleared<Chorus>
         ensures { Does chorus (retune sample_rate) self mem.old result.state mem.new (outcome_reply result.outcome) }
     {
-        let n = Chorus::line_length(self.sample_rate);
         let others = Chorus::rate_refusal(sample_rate, mem.len());
-        let outcome = effect::check_state(self.state_fits(n), others);
-        effect::clear(outcome, mem);
-        let next = Chorus::cleared(
-            self.lfo_phase0,
-            self.lfo_phase1,
-            self.lfo_phase2,
-            sample_rate,
-        );
-        Chorus::settled(outcome, next, self)
+        let tested = effect::check_state(self.fitting_length().is_some(), others);
+        effect::clear(tested, mem);
+        let next = Chorus::cleared(self.lfo_phases, sample_rate);
+        Cleared::settled(tested, next, self)
     }
 
     // Reset: a clearing at the rate in force, with the start phases again.
-    pub fn reset(self, mem: &mut [f64]) -> Cleared
+    pub fn reset(self, mem: &mut [f64]) -> Cleared<Chorus>
         ensures { Does chorus reset self mem.old result.state mem.new (outcome_reply result.outcome) }
     {
-        let n = Chorus::line_length(self.sample_rate);
-        let outcome = self.refusal(n, mem.len());
-        effect::clear(outcome, mem);
-        Chorus::settled(outcome, Chorus::fresh(self.sample_rate), self)
+        let tested = self.checked_length(mem.len());
+        effect::clear(tested, mem);
+        Cleared::settled(tested, Chorus::fresh(self.sample_rate), self)
     }
 
     // Silent? Whether every place of the line is +0 or -0.
-    pub fn silent(self, mem: &[f64]) -> Silence
+    pub fn silent(self, mem: &[f64]) -> Result<bool, Refusal>
         ensures { Does chorus ask self mem.now self mem.now (silence_reply result) }
     {
-        let n = Chorus::line_length(self.sample_rate);
-        let outcome = self.refusal(n, mem.len());
-        effect::silence(outcome, n as usize, mem)
+        effect::silence(self.checked_length(mem.len()), mem)
     }
 
-    // base + (sine x 0.5 + 0.5) x swing, clamped to 1 to n - 1, n the length of the line.
-    fn distance(n: usize, base: f64, swing: f64, sine: f64) -> f64
-        requires n_at_least { 2 ≤ n }
-        requires n_bound { n ≤ 16777217 }
-        ensures { result ≡ clamp_of (add binary64 base (mul binary64 (add binary64 (mul binary64 sine half) half) swing)) (float_of 1)
-            (float_of (n - 1)) }
+    // 7 x rate / 1000 + (sine x 0.5 + 0.5) x (depth x 25 x rate / 1000), clamped to 1 to n - 1, n the length of the line.
+    fn distance(n: usize, rate: f64, depth: f64, sine: f64) -> f64
+        requires rate_in_range { rate_fits rate ≡ true }
+        requires n_value { n ≡ line_length rate }
+        ensures { result ≡ distance rate depth sine }
     {
+        let base = Chorus::BASE_DELAY_MS * rate / 1000.0;
+        let swing = depth * Chorus::MAX_MOD_DELAY_MS * rate / 1000.0;
         common::held_to_line(base + (sine * 0.5 + 0.5) * swing, (n - 1) as u32)
     }
 
-    // What a voice reads in the line, at its own distance.
-    fn voice(line: &[f64], w: usize, base: f64, swing: f64, sine: f64) -> f64
-        requires w_in_bounds { w < length line.now }
-        requires in_bounds { 2 ≤ length line.now }
-        requires line_len_bound { length line.now ≤ 16777217 }
-        requires swept_is_number { is_number (add binary64 base (mul binary64 (add binary64 (mul binary64 sine half) half) swing)) ≡ true }
-        ensures { result ≡ read_at (line_at 0 (length line.now) w line.now)
-            (clamp_of (add binary64 base (mul binary64 (add binary64 (mul binary64 sine half) half) swing)) (float_of 1)
-            (float_of (length line.now - 1))) }
+    // What a voice with this sine reads in the line, at its own distance.
+    fn voice(line: Line, rate: f64, depth: f64, sine: f64) -> f64
+        requires rate_in_range { rate_fits rate ≡ true }
+        requires places_value { length line.places.now ≡ line_length rate }
+        requires depth_in_range { in_range depth (float_of 0) (float_of 1) ≡ true }
+        requires sine_in_range { sine_fits sine ≡ true }
+        ensures { result ≡ read_at (line_at 0 (length line.entry.places.now) line.entry.write_pos line.entry.places.now) (distance rate depth sine) }
     {
-        common::read_interpolated(line, w, Chorus::distance(line.len(), base, swing, sine))
+        line.read(Chorus::distance(line.places.len(), rate, depth, sine))
     }
 
     // The state after a tick: each voice's phase moves on by its own factor of the frequency.
@@ -202,12 +163,15 @@ impl Chorus {
         ensures phases_value { phases_of result ≡ next_phases frequency self.sample_rate (phases_of self) }
         ensures sample_rate_value { result.sample_rate ≡ self.sample_rate }
     {
+        let phases = self.lfo_phases;
         let rate = self.sample_rate;
         Chorus {
             write_pos: common::next_place(n, self.write_pos),
-            lfo_phase0: common::advance_phase(self.lfo_phase0, frequency * 0.9 / rate),
-            lfo_phase1: common::advance_phase(self.lfo_phase1, frequency * 1.0 / rate),
-            lfo_phase2: common::advance_phase(self.lfo_phase2, frequency * 1.1 / rate),
+            lfo_phases: [
+                common::advance_phase(phases[0], frequency * 0.9 / rate),
+                common::advance_phase(phases[1], frequency * 1.0 / rate),
+                common::advance_phase(phases[2], frequency * 1.1 / rate),
+            ],
             sample_rate: rate,
         }
     }
@@ -227,6 +191,7 @@ impl Chorus {
     }
 
     // An accepted tick with all its ports set; n is the length of the line. All three voices read it before the one store.
+    #[tactic(auto, using(crate::proofs::Laws::ready))]
     fn advance(
         self,
         n: u64,
@@ -235,30 +200,31 @@ impl Chorus {
         depth: f64,
         mix: f64,
         frequency: f64,
-        sine0: f64,
-        sine1: f64,
-        sine2: f64,
-    ) -> Ticked
+        sines: [f64; 3],
+    ) -> Ticked<Chorus>
         requires n_value { n ≡ line_length self.sample_rate }
-        requires tick_accepted { number_in chorus (tick (tick_of (Set audio) (Set depth) (Set mix) frequency sine0 sine1 sine2)) (length mem.old) self
-            ≡ 0 }
-        ensures { Does chorus (tick (tick_of (Set audio) (Set depth) (Set mix) frequency sine0 sine1 sine2)) self mem.old
-            result.state mem.new (answer_reply result.answer) }
+        requires tick_accepted { number_in chorus (tick (tick_of (Set audio) (Set depth) (Set mix) frequency sines)) (length mem.old) self ≡ 0 }
+        ensures { Does chorus (tick (tick_of (Set audio) (Set depth) (Set mix) frequency sines)) self mem.old result.state
+            mem.new (answer_reply result.answer) }
     {
         let state = self.next(n, frequency);
         let rate = self.sample_rate;
         let input = common::sanitize_audio(audio);
-        let base = Chorus::BASE_DELAY_MS * rate / 1000.0;
-        let swing = float64::clamp(depth, 0.0, 1.0) * Chorus::MAX_MOD_DELAY_MS * rate / 1000.0;
+        let depth = float64::clamp(depth, 0.0, 1.0);
+        let mix = float64::clamp(mix, 0.0, 1.0);
         let w = self.write_pos as usize;
-        let end = n as usize;
-        let line = &mem[..end];
-        let d0 = Chorus::voice(line, w, base, swing, sine0);
-        let d1 = Chorus::voice(line, w, base, swing, sine1);
-        let d2 = Chorus::voice(line, w, base, swing, sine2);
+        let line = Line {
+            places: &mem[..n as usize],
+            write_pos: w,
+        };
+        let d0 = Chorus::voice(line, rate, depth, sines[0]);
+        let d1 = Chorus::voice(line, rate, depth, sines[1]);
+        let d2 = Chorus::voice(line, rate, depth, sines[2]);
         mem[w] = input;
-        let answer = Chorus::mixed(input, float64::clamp(mix, 0.0, 1.0), d0, d1, d2);
-        Ticked { state, answer }
+        Ticked {
+            state,
+            answer: Chorus::mixed(input, mix, d0, d1, d2),
+        }
     }
 
     // One sample. Frequency and sines are the host's curve numbers, the sines at the state's phases.
@@ -269,36 +235,27 @@ impl Chorus {
         depth: Port,
         mix: Port,
         frequency: f64,
-        sine0: f64,
-        sine1: f64,
-        sine2: f64,
-    ) -> Ticked
-        ensures { Does chorus (tick (tick_of audio depth mix frequency sine0 sine1 sine2)) self mem.old result.state
-            mem.new (answer_reply result.answer) }
+        sines: [f64; 3],
+    ) -> Ticked<Chorus>
+        ensures { Does chorus (tick (tick_of audio depth mix frequency sines)) self mem.old result.state mem.new
+            (answer_reply result.answer) }
     {
-        let n = Chorus::line_length(self.sample_rate);
-        let refusal = self.refusal(n, mem.len());
-        if let Outcome::Refused(cause) = refusal {
-            return Ticked {
-                state: self,
-                answer: Answer::Refused(cause),
-            };
-        }
+        let n = match self.checked_length(mem.len()) {
+            Ok(n) => n,
+            Err(cause) => return Ticked::refused(self, cause),
+        };
         let audio = if let Port::Set(x) = audio { x } else { 0.0 };
         let depth = if let Port::Set(x) = depth { x } else { 0.5 };
         let mix = if let Port::Set(x) = mix { x } else { 0.5 };
-        let sines = float64::sine_fits(sine0)
-            & (float64::sine_fits(sine1) & float64::sine_fits(sine2));
+        let sines_fit = float64::sine_fits(sines[0])
+            & (float64::sine_fits(sines[1]) & float64::sine_fits(sines[2]));
         let causes = common::tick_causes(
             float64::is_nan(depth) | float64::is_nan(mix),
-            float64::frequency_fits(frequency) & sines,
+            float64::frequency_fits(frequency) & sines_fit,
         );
-        if let Outcome::Refused(cause) = causes {
-            return Ticked {
-                state: self,
-                answer: Answer::Refused(cause),
-            };
+        if let Err(cause) = causes {
+            return Ticked::refused(self, cause);
         }
-        self.advance(n, mem, audio, depth, mix, frequency, sine0, sine1, sine2)
+        self.advance(n, mem, audio, depth, mix, frequency, sines)
     }
 }

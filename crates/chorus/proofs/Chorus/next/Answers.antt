@@ -1,5 +1,5 @@
 -- `Chorus::next`: its three phases, with the voices' factors as the code has them. Assumes nothing.
-use Rattle.std.proofs.Common.{◌∙◌}
+use Rattle.std.proofs.Common.{[], ◌∷◌, ◌∙◌}
 use lib.Ieee.{of_bits, of_int, round}
 use Rattle.chorus.proofs.Laws.{phases-by}
 use Rattle.chorus.proofs.Chorus.next.Goals as goal
@@ -7,4 +7,4 @@ use Rattle.chorus.proofs.Chorus.next.Goals as goal
 pub returns-clause-phases_value : goal.returns-clause-phases_value
 unfolding of_bits of_int round
 returns-clause-phases_value c =
-    (λ i. record { phase0 = c.advance_phase.ensures i; phase1 = c.advance_phase-2.ensures i; phase2 = c.advance_phase-3.ensures i }) ∙ phases-by _ _ _
+    (λ i. c.advance_phase.ensures i ∷ c.advance_phase-2.ensures i ∷ c.advance_phase-3.ensures i ∷ []) ∙ phases-by _ _ _

@@ -1,50 +1,43 @@
 -- `Chorus::tick`: causes 5 and 6 by the values taken from the ports; where none applies, it is the tick with these values set. Assumes nothing.
-use Rattle.std.proofs.Common.{◌≡◌, refl, sym, ◌∙◌, length, rules}
+use Rattle.std.proofs.Common.{◌≡◌, refl, sym, ◌∙◌, rules}
 use lib.Ieee.{of_bits, round}
-use Rattle.float64.specs.Number.{plus_zero, half, rate_fits}
+use Rattle.float64.specs.Number.{plus_zero, half}
 use Rattle.port.specs.declared.Port.TheVariants.{Set}
 use Rattle.port.specs.Port.{value_or}
 use Rattle.port.specs.Answer.{number}
 use Rattle.port.proofs.Laws.{number-some}
-use Rattle.common.proofs.Sweep.{size_is}
-use Rattle.effect.specs.Run.{tick, reset}
-use Rattle.effect.proofs.Table.{accepted}
+use Rattle.effect.specs.Run.{tick}
 use Rattle.effect.proofs.Contract.{refuses}
 use Rattle.effect.proofs.Rows.{tick_row}
-use Rattle.chorus.specs.Chorus.{chorus, tick_of, line_length, tick_number}
-use Rattle.chorus.proofs.Laws.{fits-parts, all_set, set_number, set_does}
+use Rattle.chorus.specs.Chorus.{chorus, tick_of, tick_number}
+use Rattle.chorus.proofs.Laws.{all_set, set_number, set_does}
 use Rattle.chorus.proofs.Chorus.tick.Goals as goal
 
-pub returns-in-Refused-causes : goal.returns-in-Refused-causes
+pub returns-in-Err-causes : goal.returns-in-Err-causes
 unfolding tick_number of_bits round
-returns-in-Refused-causes c =
+returns-in-Err-causes c =
     let a = c.args in
-    let t = tick_of a.audio a.depth a.mix a.frequency a.sine0 a.sine1 a.sine2 in
+    let t = tick_of a.audio a.depth a.mix a.frequency a.sines in
     let depth : c.match-depth.depth ≡ value_or a.depth half = search rules in
     let mix : c.match-mix.mix ≡ value_or a.mix half = search rules in
-    let cause = c.in-Refused-causes.cause in
-    let e : number cause ≡ tick_number (all_set t refl depth mix) = cc c.in-Refused-causes.ensures in
-    refuses chorus (tick t) a.self a.mem.now (number cause) (tick_row chorus t a.self a.mem.now c.in_default.ensures (e ∙ set_number t refl depth mix)) (number-some cause)
-
-pub advance-requires-clause-n_value : goal.advance-requires-clause-n_value
-advance-requires-clause-n_value c =
-    let s = c.args.self in
-    let unit = accepted chorus (length c.args.mem.now) reset s (sym c.in_default.ensures) in
-    size_is (rate_fits s.sample_rate) (line_length s.sample_rate) c.line_length-n.ensures (fits-parts s unit.state_fits).rate
+    let cause = c.in-Err-causes.cause in
+    let e : number cause ≡ tick_number (all_set t refl depth mix) = cc c.in-Err-causes.ensures in
+    let row = tick_row chorus t a.self a.mem.now c.in-Ok.ensures.number (e ∙ set_number t refl depth mix) in
+    rw (c.refused-in-Err-causes.ensures.state, c.refused-in-Err-causes.ensures.answer) (refuses chorus (tick t) a.self a.mem.now (number cause) row (number-some cause))
 
 pub advance-requires-clause-tick_accepted : goal.advance-requires-clause-tick_accepted
 unfolding tick_number
 advance-requires-clause-tick_accepted c =
     let a = c.args in
-    let t = tick_of (Set c.match-audio.audio) (Set c.match-depth.depth) (Set c.match-mix.mix) a.frequency a.sine0 a.sine1 a.sine2 in
-    sym (tick_row chorus t a.self a.mem.now c.in_default.ensures (cc c.in_default-causes.ensures))
+    let t = tick_of (Set c.match-audio.audio) (Set c.match-depth.depth) (Set c.match-mix.mix) a.frequency a.sines in
+    sym (tick_row chorus t a.self a.mem.now c.in-Ok.ensures.number (cc c.in_default-causes.ensures))
 
 pub returns : goal.returns
 unfolding tick_number of_bits round
 returns c =
     let a = c.args in
-    let t = tick_of a.audio a.depth a.mix a.frequency a.sine0 a.sine1 a.sine2 in
+    let t = tick_of a.audio a.depth a.mix a.frequency a.sines in
     let audio : c.match-audio.audio ≡ value_or a.audio plus_zero = search rules in
     let depth : c.match-depth.depth ≡ value_or a.depth half = search rules in
     let mix : c.match-mix.mix ≡ value_or a.mix half = search rules in
-    set_does t audio depth mix c.in_default.ensures (cc c.in_default-causes.ensures) c.advance.ensures
+    set_does t audio depth mix c.in-Ok.ensures.number (cc c.in_default-causes.ensures) c.advance.ensures

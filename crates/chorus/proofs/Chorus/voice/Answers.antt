@@ -1,9 +1,11 @@
--- `Chorus::voice`: the sweep is a number, so that the clamped one lies in the line. Assumes nothing.
-use Rattle.std.proofs.Common.{◌-◌, length, arith}
-use Rattle.float64.proofs.Ranges.{in-range}
-use Rattle.float64.proofs.Parts.{clamp-whole-in}
+-- `Chorus::voice`: at a depth and a sine in range the distance lies on the line. Assumes nothing.
+use lib.Ieee.{fits, le, of_int}
+use Rattle.float64.proofs.Ranges.{range-in, in-range}
+use Rattle.chorus.proofs.Laws.{distance-in}
 use Rattle.chorus.proofs.Chorus.voice.Goals as goal
 
-pub read_interpolated-requires-clause-distance_on_line : goal.read_interpolated-requires-clause-distance_on_line
-read_interpolated-requires-clause-distance_on_line c =
-    rw c.distance.ensures (in-range (clamp-whole-in (length c.args.line.now - 1) (omega arith) _ (omega arith) c.requires.swept_is_number))
+pub read-requires : goal.read-requires
+unfolding fits le of_int
+read-requires c =
+    let r = c.requires in
+    rw (c.distance.ensures, r.places_value) (in-range (distance-in c.args.rate c.args.depth c.args.sine r.rate_in_range (range-in tt r.depth_in_range) r.sine_in_range))
