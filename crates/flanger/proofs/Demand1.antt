@@ -15,7 +15,7 @@ use Rattle.effect.specs.Demand1.{Demand1}
 use Rattle.effect.proofs.Demand1.{demand-1}
 use Rattle.flanger.specs.declared.Flanger.{Flanger}
 use Rattle.flanger.specs.Flanger.{Tick, flanger, state_fits, line_length, places, cleared, blank, tick_number, next, writes}
-use Rattle.flanger.proofs.Laws.{fits-parts, fit, length-fits, tick-fits}
+use Rattle.flanger.proofs.Laws.{fits-parts, fit, length_fits, tick-fits}
 
 -- ---- the laws
 
@@ -25,7 +25,7 @@ blank-refused = refl
 
 -- a clearing leaves a state that passes, with every phase that does
 cleared-fits : (phase rate : Float) → rate_fits rate ≡ true → phase_fits phase ≡ true → state_fits (cleared phase rate) ≡ true
-cleared-fits phase rate h p = fit (cleared phase rate) (record { rate = h; inside = omega (arith, (length-fits rate h).0); phase = p })
+cleared-fits phase rate h p = fit (cleared phase rate) (record { rate = h; inside = omega (arith, (length_fits rate h).0); phase = p })
 
 next_fits : (t : Tick) (s : Flanger) → state_fits s ≡ true → tick_number t ≡ 0 → state_fits (next t s) ≡ true
 unfolding next

@@ -3,15 +3,13 @@
 use Prim.Native.Nat.{ℕ, ◌+◌, ◌-◌, ◌*◌, ◌≤◌, ◌<◌}
 use native.Mathlib.Omega.{arith}
 use mathlib.Core.Path.{◌≡◌, refl, sym, ap, ◌∙◌}
-use mathlib.Core.Bool.{true, false, ◌&&◌, ◌||◌, cond}
+use mathlib.Core.Bool.{true, false, ◌&&◌, ◌||◌}
 use mathlib.Core.List.{List, [], ◌∷◌}
-use lib.Dec.{ltb}
 use lib.ListN.{length, take, drop, set}
 use lib.Ieee.{Float, binary64, add, mul, div, neg, le, lt, of_int, is_nan, round}
 use lib.Ieee as Ieee
-use borrow.Author.Tests.{ltb-true, lt-ltb}
-use Rattle.float64.specs.Number.{plus_zero, float_of, fraction, half, is_number, in_range, rate_fits, phase_fits, frequency_fits, sine_fits, clamp_of}
-use Rattle.float64.proofs.Tests.{both}
+use Rattle.std.proofs.lemmas.Bool.Decides.{nat_tests}
+use Rattle.float64.specs.Number.{plus_zero, float_of, half, is_number, in_range, rate_fits, phase_fits, frequency_fits, sine_fits}
 use Rattle.float64.proofs.Interval.{In, point, add-in, mul_in, div-in}
 use Rattle.float64.proofs.Ranges.{rate-in, sine-in, range-in, in-range, in-number}
 use Rattle.float64.proofs.Parts.{clamp-whole-in}
@@ -20,9 +18,10 @@ use Rattle.port.specs.declared.Port.TheVariants.{Set}
 use Rattle.port.specs.Port.{value_or, is_nan_set}
 use Rattle.port.proofs.Laws.{nan_is}
 use Rattle.port.specs.Answer.{Reply, played}
-use Rattle.common.specs.Signal.{sanitized, blended, advanced, cause_number}
+use Rattle.common.specs.Signal.{blended, advanced, cause_number}
 use Rattle.common.specs.Line.{next_place, line_at, read_at}
-use Rattle.common.proofs.Sweep.{neither, no-cause, control-in, part-read, size_is, size-most, size-tests, size-times}
+use Rattle.common.proofs.Slices.{part_length}
+use Rattle.common.proofs.Sweep.{control-in, part-read}
 use Rattle.effect.specs.Effect.{laid}
 use Rattle.effect.specs.Run.{tick, reset, number_in}
 use Rattle.effect.specs.Contract.{Does}
@@ -35,51 +34,24 @@ use Rattle.flanger.specs.Flanger as page
 
 -- ---- the length of a line
 
-module _ (rate : Float) (h : rate_fits rate ≡ true) where
-  pub length-fits : (90 ≤ line_length rate) × (line_length rate ≤ 1930)
-  unfolding line_length
-  length-fits = let l = length-10 rate h in (omega arith, omega arith)
-
-  pub some-places : 1 ≤ places rate
-  some-places = omega (arith, length-fits.0)
-
--- the same of n, a line's length that is 0 at a refused rate
-module _ (rate : Float) {n : ℕ} (e : n ≡ cond (rate_fits rate) (line_length rate) 0) where
-  pub short : n ≤ 1930
-  short = size-most (rate_fits rate) (line_length rate) 1930 e (λ h. (length-fits rate h).1)
-
-  pub in_lines : 2 * n ≡ cond (rate_fits rate) (places rate) 0
-  in_lines = size-times 2 (rate_fits rate) (line_length rate) e
+pub length_fits : (rate : Float) → rate_fits rate ≡ true → (90 ≤ line_length rate) × (line_length rate ≤ 1930)
+unfolding line_length
+length_fits rate h = let l = length-10 rate h in (omega arith, omega arith)
 
 -- ---- the state test
-
--- by the length n of a line, as `line_length` answers it
-pub fits_by : (s : Flanger) {n : ℕ} → n ≡ cond (rate_fits s.sample_rate) (line_length s.sample_rate) 0 → state_fits s ≡ ltb s.write_pos n && phase_fits s.lfo_phase
-unfolding state_fits
-fits_by s e = size-tests (rate_fits s.sample_rate) (line_length s.sample_rate) s.write_pos (λ n. phase_fits s.lfo_phase) e
 
 pub record Fits (s : Flanger) : Type 0 where
   pub rate : rate_fits s.sample_rate ≡ true
   pub inside : s.write_pos < line_length s.sample_rate
   pub phase : phase_fits s.lfo_phase ≡ true
 
-module _ (s : Flanger) where
-  pub fits-parts : state_fits s ≡ true → Fits s
-  unfolding state_fits
-  fits-parts e =
-      let w = ltb s.write_pos (line_length s.sample_rate) in
-      let p = phase_fits s.lfo_phase in
-      let a = both (rate_fits s.sample_rate) (w && p) e in
-      let b = both w p a.1 in
-      record { rate = a.0; inside = ltb-true s.write_pos (line_length s.sample_rate) b.0; phase = b.1 }
+pub fits-parts : (s : Flanger) → state_fits s ≡ true → Fits s
+unfolding state_fits
+fits-parts s e = record { rate = grind arith; inside = grind (arith, nat_tests); phase = grind arith }
 
-  -- where it passes, what `line_length` answers is a line's length
-  pub line_is : {n : ℕ} → n ≡ cond (rate_fits s.sample_rate) (line_length s.sample_rate) 0 → state_fits s ≡ true → n ≡ line_length s.sample_rate
-  line_is e f = size_is (rate_fits s.sample_rate) (line_length s.sample_rate) e (fits-parts f).rate
-
-  pub fit : Fits s → state_fits s ≡ true
-  unfolding state_fits
-  fit f = rw (f.rate, lt-ltb s.write_pos (line_length s.sample_rate) f.inside, f.phase)
+pub fit : (s : Flanger) → Fits s → state_fits s ≡ true
+unfolding state_fits
+fit s f = grind (arith, nat_tests)
 
 -- ---- causes 5 and 6
 
@@ -94,42 +66,7 @@ pub record TickFits (t : Tick) : Type 0 where
 pub tick-fits : (t : Tick) → tick_number t ≡ 0 → TickFits t
 unfolding tick_number
 tick-fits t e =
-    let others = is_nan_set t.feedback || is_nan_set t.mix in
-    let sines = sine_fits t.sine0 && sine_fits t.sine1 in
-    let v = no-cause (is_nan_set t.depth || others) (frequency_fits t.frequency && sines) e in
-    let a = both (frequency_fits t.frequency) sines v.1 in
-    let b = both (sine_fits t.sine0) (sine_fits t.sine1) a.1 in
-    let c = neither (is_nan_set t.depth) others v.0 in
-    let d = neither (is_nan_set t.feedback) (is_nan_set t.mix) c.1 in
-    record { depth = c.0; feedback = d.0; mix = d.1; frequency = a.0; sine0 = b.0; sine1 = b.1 }
-
--- ---- accepted ticks
-
--- n is the length of a line: the state passes its test, the memory has the places, and depth and curve numbers are in range
-pub record Ready (t : Tick) (s : Flanger) (m : List Float) (n : ℕ) : Type 0 where
-  pub state : Fits s
-  pub curves : TickFits t
-  pub short : n ≤ 1930
-  pub inside : s.write_pos < n
-  pub room : n + n ≤ length m
-  pub amount : in_range (depth t) plus_zero (float_of 1) ≡ true
-
-pub ready : {t : Tick} {s : Flanger} {m : List Float} {n : ℕ} → n ≡ line_length s.sample_rate → number_in flanger (tick t) (length m) s ≡ 0
-    → Ready t s m n
-unfolding is_number Ieee.fits is_nan round
-ready {t} {s} {m} {n} e k =
-    let taken = accepted flanger (length m) (tick t) s k in
-    let row = tick-accepted flanger (length m) t s.sample_rate taken.number in
-    let f = fits-parts s taken.state_fits in
-    let curves = tick-fits t row.number in
-    record {
-      state = f;
-      curves = curves;
-      short = omega (arith, (length-fits s.sample_rate f.rate).1);
-      inside = omega (arith, f.inside);
-      room = omega (arith, row.enough);
-      amount = in-range (control-in t.depth half curves.depth refl);
-    }
+    record { depth = grind arith; feedback = grind arith; mix = grind arith; frequency = grind arith; sine0 = grind arith; sine1 = grind arith }
 
 -- ---- distances
 
@@ -151,22 +88,58 @@ module _ (rate depth sine : Float) (h : rate_fits rate ≡ true) (d : in_range d
   pub distance-in : In binary64 (float_of 1) (float_of (line_length rate - 1)) (distance rate depth sine)
   unfolding distance
   distance-in =
-      let l = length-fits rate h in
+      let l = length_fits rate h in
       clamp-whole-in (line_length rate - 1) (omega arith) (swept rate depth sine) (omega arith) (in-number swept-in)
+
+-- ---- accepted ticks
+
+-- n is the length of a line: the state passes its test, the memory has the places of both lines, and both distances lie on their line
+pub record Ready (t : Tick) (s : Flanger) (m : List Float) (n : ℕ) : Type 0 where
+  pub rate : rate_fits s.sample_rate ≡ true
+  pub short : n ≤ 1930
+  pub inside : s.write_pos < n
+  pub room : n + n ≤ length m
+  pub left_part : length (take n m) ≡ n
+  pub right_part : length (take (n + n - n) (drop n m)) ≡ n
+  pub left : in_range (distance s.sample_rate (depth t) t.sine0) (float_of 1) (float_of (n - 1)) ≡ true
+  pub right : in_range (distance s.sample_rate (depth t) t.sine1) (float_of 1) (float_of (n - 1)) ≡ true
+
+pub ready : {t : Tick} {s : Flanger} {m : List Float} {n : ℕ} → n ≡ line_length s.sample_rate → number_in flanger (tick t) (length m) s ≡ 0
+    → Ready t s m n
+unfolding is_number Ieee.fits is_nan round
+ready {t} {s} {m} {n} e k =
+    let taken = accepted flanger (length m) (tick t) s k in
+    let row = tick-accepted flanger (length m) t s.sample_rate taken.number in
+    let f = fits-parts s taken.state_fits in
+    let room : n + n ≤ length m = omega (arith, row.enough) in
+    let curves = tick-fits t row.number in
+    let far = distance-in s.sample_rate (depth t) in
+    let amount = in-range (control-in t.depth half curves.depth refl) in
+    record {
+      rate = f.rate;
+      short = omega (arith, (length_fits s.sample_rate f.rate).1);
+      inside = omega (arith, f.inside);
+      room = room;
+      left_part = part_length 0 n m n refl (omega arith);
+      right_part = part_length n (n + n - n) m n (omega arith) room;
+      left = rw e (in-range (far t.sine0 f.rate amount curves.sine0));
+      right = rw e (in-range (far t.sine1 f.rate amount curves.sine1));
+    }
 
 -- ---- an accepted tick from its steps
 
 module _ (t : Tick) (s : Flanger) (m : List Float) {n : ℕ} (e : n ≡ line_length s.sample_rate) where
   -- a read in the part of k places from place o on, which is line i, is what the tick reads in that line
-  pub tap-is : (i k o : ℕ) {d y : Float} (sine : Float) → k ≡ n → o ≡ i * n → o + n ≤ length m → s.write_pos < n → d ≡ depth t
-      → y ≡ read_at (line_at 0 (length (take k (drop o m))) s.write_pos (take k (drop o m))) (distance s.sample_rate d sine)
+  pub tap-is : (i k o : ℕ) {d x y : Float} (sine : Float) → k ≡ n → o ≡ i * n → o + n ≤ length m → s.write_pos < n
+      → d ≡ depth t
+      → x ≡ distance s.sample_rate d sine
+      → y ≡ read_at (line_at 0 (length (take k (drop o m))) s.write_pos (take k (drop o m))) x
       → y ≡ tap i sine t s m
   unfolding tap
-  tap-is i k o {d} sine a b l h g r =
-      let rate = s.sample_rate in
+  tap-is i k o {d} {x} sine a b l h g f r =
       r
-      ∙ part-read k o n s.write_pos m (distance rate d sine) a l h
-      ∙ (λ j. read_at (line_at ((b ∙ ap (λ (z : ℕ). i * z) e) j) (e j) s.write_pos m) (distance rate (g j) sine))
+      ∙ part-read k o n s.write_pos m x a l h
+      ∙ (λ j. read_at (line_at ((b ∙ ap (λ (z : ℕ). i * z) e) j) (e j) s.write_pos m) ((f ∙ ap (λ (z : Float). distance s.sample_rate z sine) g) j))
 
   pub next-is : {r : Flanger} → r.write_pos ≡ next_place n s.write_pos
       → r.lfo_phase ≡ advanced s.lfo_phase (div binary64 t.frequency s.sample_rate)
@@ -192,51 +165,25 @@ module _ (t : Tick) (s : Flanger) (m : List Float) {n : ℕ} (e : n ≡ line_len
 
 -- ---- ports: a tick is the one with all ports set to the values that it takes from them
 
--- what a tick reads, stores and plays, by those values: audio x, depth d, feedback f, mix b
-module _ (t : Tick) (s : Flanger) (m : List Float) where
-  abbrev tap_by : ℕ → Float → Float → Float
-  tap_by i sine d =
-      let L = line_length s.sample_rate in
-      read_at (line_at (i * L) L s.write_pos m) (distance s.sample_rate (clamp_of d plus_zero (float_of 1)) sine)
-
-  abbrev fed_by : Float → Float → Float → Float
-  fed_by x y f = add binary64 (sanitized x) (mul binary64 y (clamp_of f (neg (fraction 95 100)) (fraction 95 100)))
-
-  abbrev stored_by : Float → Float → Float → List Float
-  stored_by x d f =
-      set
-      (set m s.write_pos (fed_by x (tap_by 0 t.sine0 d) f))
-      (line_length s.sample_rate + s.write_pos)
-      (fed_by x (tap_by 1 t.sine1 d) f)
-
-  abbrev mixed_by : Float → Float → Float → Float
-  mixed_by x y b = blended (sanitized x) y (clamp_of b plus_zero (float_of 1))
-
-  abbrev played_by : Float → Float → Float → Reply
-  played_by x d b =
-      played (mixed_by x (tap_by 0 t.sine0 d) b ∷ mixed_by x (tap_by 0 t.sine0 d) b ∷ mixed_by x (tap_by 1 t.sine1 d) b ∷ [])
-
-module _ (t : Tick) {x d f b : Float} (audio : x ≡ value_or t.audio plus_zero) (amount : d ≡ value_or t.depth half) (back : f ≡ value_or t.feedback plus_zero) (wet : b ≡ value_or t.mix half) where
-  abbrev pub all_set : Tick
-  all_set = tick_of (Set x) (Set d) (Set f) (Set b) t.frequency t.sine0 t.sine1
+module _ (t : Tick) where
+  abbrev pub filled : Tick
+  filled =
+      tick_of (Set (value_or t.audio plus_zero)) (Set (value_or t.depth half)) (Set (value_or t.feedback plus_zero)) (Set (value_or t.mix half)) t.frequency t.sine0 t.sine1
 
   -- no default is NaN
-  pub set_number : tick_number all_set ≡ tick_number t
+  pub filled_number : tick_number filled ≡ tick_number t
   unfolding tick_number is_number Ieee.fits is_nan round
-  set_number =
-      let depth = nan_is t.depth half refl amount refl in
-      let feedback = nan_is t.feedback plus_zero refl back refl in
-      let mix = nan_is t.mix half refl wet refl in
+  filled_number =
+      let depth = nan_is t.depth half refl refl refl in
+      let feedback = nan_is t.feedback plus_zero refl refl refl in
+      let mix = nan_is t.mix half refl refl refl in
       (λ i. cause_number (depth i || (feedback i || mix i)) (frequency_fits t.frequency && (sine_fits t.sine0 && sine_fits t.sine1)))
 
-  pub set_does : {s : Flanger} {m : List Float} {s' : Flanger} {m' : List Float} {a : Reply} → 0 ≡ number_in flanger reset (length m) s
-      → 0 ≡ tick_number all_set
-      → Does flanger (tick all_set) s m s' m' a
+  pub filled_does : {s : Flanger} {m : List Float} {s' : Flanger} {m' : List Float} {a : Reply} → 0 ≡ number_in flanger reset (length m) s
+      → 0 ≡ tick_number filled
+      → Does flanger (tick filled) s m s' m' a
       → Does flanger (tick t) s m s' m' a
   unfolding next writes fed page.samples tap
-  set_does {s} {m} u e does =
-      let k = sym (tick_row flanger all_set s m u e) in
-      accepts flanger (tick t) s m (sym (tick_row flanger t s m u (e ∙ set_number)))
-      (rw k at does.state)
-      ((rw k at does.memory) ∙ (λ i. stored_by t s m (audio i) (amount i) (back i)))
-      ((rw k at does.answer) ∙ (λ i. played_by t s m (audio i) (amount i) (wet i)))
+  filled_does {s} {m} u e does =
+      let k = sym (tick_row flanger filled s m u e) in
+      accepts flanger (tick t) s m (sym (tick_row flanger t s m u (e ∙ filled_number))) (rw k at does.state) (rw k at does.memory) (rw k at does.answer)

@@ -17,7 +17,7 @@ use Rattle.effect.proofs.SilentLaws.{SilentTick, keeps-nothing}
 use Rattle.effect.proofs.StaysSilent.{stays-silent}
 use Rattle.flanger.specs.declared.Flanger.{Flanger}
 use Rattle.flanger.specs.Flanger.{Tick, flanger, line_length, places, input, depth, mix, distance, tap, fed, writes, samples}
-use Rattle.flanger.proofs.Laws.{fits-parts, length-fits, tick-fits, distance-in}
+use Rattle.flanger.proofs.Laws.{fits-parts, length_fits, tick-fits, distance-in}
 use Rattle.flanger.proofs.Demand1.{laws}
 
 module _ (t : Tick) (s : Flanger) (m : List Float) (u : SilentTick flanger t s m) where
@@ -29,7 +29,7 @@ module _ (t : Tick) (s : Flanger) (m : List Float) (u : SilentTick flanger t s m
       let f = fits-parts s u.state_fits in
       let far = distance-in rate (depth t) sine f.rate (in-range (control-in t.depth half (tick-fits t u.number).depth refl)) h in
       let L = line_length rate in
-      first-read (places rate) (i * L) L s.write_pos m (distance rate (depth t) sine) u.enough u.zeros l f.inside (omega (arith, (length-fits rate f.rate).1)) far
+      first-read (places rate) (i * L) L s.write_pos m (distance rate (depth t) sine) u.enough u.zeros l f.inside (omega (arith, (length_fits rate f.rate).1)) far
 
   left : Zero (tap 0 t.sine0 t s m)
   left = heard 0 t.sine0 (omega arith) (tick-fits t u.number).sine0

@@ -1,20 +1,23 @@
 // The flanger: two lines in lent memory, swept by one phase, each fed back into itself. The state goes in and out by value.
 #![tactic(auto)]
 
-ghost use Rattle.std.specs.Prelude.{◌≡◌, true, cond, ◌<◌, length};
+ghost use Rattle.std.specs.Prelude.{◌≡◌, true, ◌<◌, length, IfOk};
+ghost use Rattle.std.specs.Bool.{then_some};
 ghost use Rattle.std.specs.Float.{binary64};
 ghost use Rattle.std.specs.Float.Ieee.{div};
-ghost use Rattle.float64.specs.Number.{plus_zero, float_of, in_range, rate_fits, sine_fits};
+ghost use Rattle.float64.specs.Number.{rate_fits};
 ghost use Rattle.port.specs.declared.Port.TheVariants.{Set};
 ghost use Rattle.port.specs.Answer.{number_of, outcome_reply, answer_reply, silence_reply};
 ghost use Rattle.common.specs.Signal.{advanced};
-ghost use Rattle.common.specs.Line.{line_at, read_at, next_place};
-ghost use Rattle.effect.specs.Run.{tick, retune, reset, ask, if_none, start_number, number_in};
+ghost use Rattle.common.specs.Line.{next_place};
+ghost use Rattle.effect.specs.Run.{tick, retune, reset, ask, start_number, number_in};
 ghost use Rattle.effect.specs.Contract.{Does, Starts};
-ghost use Rattle.effect.specs.Needed.{places_needed};
+ghost use Rattle.effect.specs.Needed.{places_if_accepted};
 ghost use Rattle.flanger.specs.Flanger.{flanger, tick_of, line_length, cleared, state_fits, distance};
 
-use port::{Answer, Outcome, Port, Silence};
+use common::Line;
+use effect::{Cleared, Ticked};
+use port::{Answer, Port, Refusal};
 
 #[derive(Clone, Copy)]
 pub struct Flanger {
@@ -23,38 +26,25 @@ pub struct Flanger {
     pub sample_rate: f64,
 }
 
-// What start, retune and reset return.
-#[derive(Clone, Copy)]
-pub struct Cleared {
-    pub state: Flanger,
-    pub outcome: Outcome,
-}
-
-// What a tick returns.
-#[derive(Clone, Copy)]
-pub struct Ticked {
-    pub state: Flanger,
-    pub answer: Answer,
-}
-
 impl Flanger {
     pub const MAX_DELAY_MS: f64 = Flanger::LINE_MS as f64;
 
     // Whole, for a line's length.
     const LINE_MS: u32 = 10;
 
-    // The places of a line; 0 at a refused rate.
-    fn line_length(rate: f64) -> u64
-        ensures { result ≡ cond (rate_fits rate) (line_length rate) 0 }
+    // The places of a line; none at a refused rate.
+    fn line_length(rate: f64) -> Option<u64>
+        ensures { result ≡ then_some (rate_fits rate) (line_length rate) }
     {
         common::line_length_whole(rate, Flanger::LINE_MS)
     }
 
-    // The places that a start needs at the rate; 2^64 - 1 for a rate that is refused.
-    pub fn places_needed(rate: f64) -> u64
-        ensures { result ≡ places_needed flanger rate }
+    // The places that a start needs at the rate; none for a rate that is refused.
+    #[tactic(auto, using(crate::proofs::Laws::length_fits))]
+    pub fn places_needed(rate: f64) -> Option<u64>
+        ensures { result ≡ places_if_accepted flanger rate }
     {
-        effect::places_or_none(2 * Flanger::line_length(rate))
+        Flanger::line_length(rate).map(|n| 2 * n)
     }
 
     // Position 0, with the phase and the rate.
@@ -69,90 +59,75 @@ impl Flanger {
     }
 
     // Causes 1 and 3: a rate that is refused, and memory that is too short for it.
-    fn rate_refusal(rate: f64, places: usize) -> Outcome
+    fn rate_refusal(rate: f64, places: usize) -> Result<(), Refusal>
         ensures { number_of result ≡ start_number flanger rate places }
     {
-        effect::check_rate(2 * Flanger::line_length(rate), places)
-    }
-
-    // What a start, a retune or a reset returns, by the outcome of its tests: the state `next`, or `kept`.
-    fn settled(outcome: Outcome, next: Flanger, kept: Flanger) -> Cleared
-        ensures { (result.state ≡ if_none (number_of outcome) next kept) × (result.outcome ≡ outcome) }
-    {
-        if let Outcome::Accepted = outcome {
-            return Cleared {
-                state: next,
-                outcome,
-            };
-        }
-        Cleared {
-            state: kept,
-            outcome,
-        }
+        effect::check_rate(Flanger::places_needed(rate), places)
     }
 
     // Start: phase 0, at the rate.
-    pub fn new(sample_rate: f64, mem: &mut [f64]) -> Cleared
+    pub fn new(sample_rate: f64, mem: &mut [f64]) -> Cleared<Flanger>
         ensures { Starts flanger sample_rate mem.old result.state mem.new (outcome_reply result.outcome) }
     {
-        let outcome = Flanger::rate_refusal(sample_rate, mem.len());
-        effect::clear(outcome, mem);
-        Flanger::settled(
-            outcome,
+        let tested = Flanger::rate_refusal(sample_rate, mem.len());
+        effect::clear(tested, mem);
+        Cleared::settled(
+            tested,
             Flanger::cleared(0.0, sample_rate),
             Flanger::cleared(0.0, 0.0),
         )
     }
 
-    // The state test, where n is the length of a line.
-    fn state_fits(self, n: u64) -> bool
-        requires { n ≡ cond (rate_fits self.sample_rate) (line_length self.sample_rate) 0 }
-        ensures { result ≡ state_fits self }
+    // The state test: the places of a line, where it passes.
+    #[tactic(auto, unfolding(crate::specs::Flanger::state_fits))]
+    fn fitting_length(self) -> Option<u64>
+        ensures { result ≡ then_some (state_fits self) (line_length self.sample_rate) }
     {
-        self.write_pos < n && float64::phase_fits(self.lfo_phase)
+        let n = Flanger::line_length(self.sample_rate)?;
+        (self.write_pos < n && float64::phase_fits(self.lfo_phase)).then_some(n)
     }
 
-    // Causes 4 and 3: a state that fails its test, and memory that is too short for it.
-    fn refusal(self, n: u64, places: usize) -> Outcome
-        requires { n ≡ cond (rate_fits self.sample_rate) (line_length self.sample_rate) 0 }
-        ensures { number_of result ≡ number_in flanger reset places self }
+    // The same, where the memory passes its test too: causes 4 and 3.
+    #[tactic(auto, using(crate::proofs::Laws::length_fits), unfolding(crate::specs::Flanger::state_fits))]
+    fn checked_length(self, places: usize) -> Result<u64, Refusal>
+        ensures number { number_of result ≡ number_in flanger reset places self }
+        ensures length { IfOk result (λ n. n ≡ line_length self.sample_rate) }
     {
-        effect::check_state(self.state_fits(n), effect::check_memory(2 * n, places))
+        let n = self.fitting_length().ok_or(Refusal::State)?;
+        effect::check_memory(2 * n, places)?;
+        Ok(n)
     }
 
     // Retune: a clearing at another rate, which keeps the phase.
-    pub fn set_sample_rate(self, sample_rate: f64, mem: &mut [f64]) -> Cleared
+    pub fn set_sample_rate(self, sample_rate: f64, mem: &mut [f64]) -> Cleared<Flanger>
         ensures { Does flanger (retune sample_rate) self mem.old result.state mem.new
             (outcome_reply result.outcome) }
     {
-        let n = Flanger::line_length(self.sample_rate);
         let others = Flanger::rate_refusal(sample_rate, mem.len());
-        let outcome = effect::check_state(self.state_fits(n), others);
-        effect::clear(outcome, mem);
-        Flanger::settled(outcome, Flanger::cleared(self.lfo_phase, sample_rate), self)
+        let tested = effect::check_state(self.fitting_length().is_some(), others);
+        effect::clear(tested, mem);
+        Cleared::settled(tested, Flanger::cleared(self.lfo_phase, sample_rate), self)
     }
 
     // Reset: a clearing at the rate in force, with phase 0 again.
-    pub fn reset(self, mem: &mut [f64]) -> Cleared
+    pub fn reset(self, mem: &mut [f64]) -> Cleared<Flanger>
         ensures { Does flanger reset self mem.old result.state mem.new (outcome_reply result.outcome) }
     {
-        let n = Flanger::line_length(self.sample_rate);
-        let outcome = self.refusal(n, mem.len());
-        effect::clear(outcome, mem);
-        Flanger::settled(outcome, Flanger::cleared(0.0, self.sample_rate), self)
+        let tested = self.checked_length(mem.len());
+        effect::clear(tested, mem);
+        Cleared::settled(tested, Flanger::cleared(0.0, self.sample_rate), self)
     }
 
     // Silent? Whether every place of the two lines is +0 or -0.
-    pub fn silent(self, mem: &[f64]) -> Silence
+    pub fn silent(self, mem: &[f64]) -> Result<bool, Refusal>
         ensures { Does flanger ask self mem.now self mem.now (silence_reply result) }
     {
-        let n = Flanger::line_length(self.sample_rate);
-        let outcome = self.refusal(n, mem.len());
-        effect::silence(outcome, (2 * n) as usize, mem)
+        effect::silence(self.checked_length(mem.len()).map(|n| 2 * n), mem)
     }
 
     // (1 + (sine + 1) x 0.5 x (depth x 9)) x rate / 1000, clamped to 1 to n - 1, n the length of a line.
-    fn distance(n: usize, rate: f64, depth: f64, sine: f64) -> f64
+    #[tactic(auto, using(crate::proofs::Laws::length_fits))]
+    fn distance(n: u64, rate: f64, depth: f64, sine: f64) -> f64
         requires rate_in_range { rate_fits rate ≡ true }
         requires n_value { n ≡ line_length rate }
         ensures { result ≡ distance rate depth sine }
@@ -160,18 +135,6 @@ impl Flanger {
         let swing = depth * (Flanger::MAX_DELAY_MS - 1.0);
         let samples = (1.0 + (sine + 1.0) * 0.5 * swing) * rate / 1000.0;
         common::held_to_line(samples, (n - 1) as u32)
-    }
-
-    // What a line holds at its own distance.
-    fn tap(line: &[f64], w: usize, rate: f64, depth: f64, sine: f64) -> f64
-        requires rate_in_range { rate_fits rate ≡ true }
-        requires line_len { length line.now ≡ line_length rate }
-        requires w_in_bounds { w < length line.now }
-        requires depth_in_range { in_range depth plus_zero (float_of 1) ≡ true }
-        requires sine_in_range { sine_fits sine ≡ true }
-        ensures { result ≡ read_at (line_at 0 (length line.now) w line.now) (distance rate depth sine) }
-    {
-        common::read_interpolated(line, w, Flanger::distance(line.len(), rate, depth, sine))
     }
 
     // The state after a tick.
@@ -203,7 +166,7 @@ impl Flanger {
         frequency: f64,
         sine0: f64,
         sine1: f64,
-    ) -> Ticked
+    ) -> Ticked<Flanger>
         requires n_value { n ≡ line_length self.sample_rate }
         requires tick_accepted { number_in flanger (tick (tick_of (Set audio) (Set depth) (Set feedback) (Set mix) frequency sine0 sine1))
             (length mem.old) self ≡ 0 }
@@ -219,8 +182,17 @@ impl Flanger {
         let w = self.write_pos as usize;
         let second = n as usize;
         let end = second + second;
-        let d0 = Flanger::tap(&mem[..second], w, rate, amount, sine0);
-        let d1 = Flanger::tap(&mem[second..end], w, rate, amount, sine1);
+        let lines = &mem[..];
+        let left_line = Line {
+            places: &lines[..second],
+            write_pos: w,
+        };
+        let right_line = Line {
+            places: &lines[second..end],
+            write_pos: w,
+        };
+        let d0 = left_line.read(Flanger::distance(n, rate, amount, sine0));
+        let d1 = right_line.read(Flanger::distance(n, rate, amount, sine1));
         mem[w] = input + d0 * back;
         mem[second + w] = input + d1 * back;
         let left = common::blend(input, d0, wet);
@@ -232,6 +204,7 @@ impl Flanger {
     }
 
     // One sample. Frequency and sines are the host's curve numbers, the sines at the state's phase and at that plus half the spread.
+    #[tactic(auto, using(effect::proofs::Rows::tick_row), unfolding(crate::specs::Flanger::tick_number))]
     pub fn tick(
         self,
         mem: &mut [f64],
@@ -242,18 +215,14 @@ impl Flanger {
         frequency: f64,
         sine0: f64,
         sine1: f64,
-    ) -> Ticked
+    ) -> Ticked<Flanger>
         ensures { Does flanger (tick (tick_of audio depth feedback mix frequency sine0 sine1)) self mem.old result.state
             mem.new (answer_reply result.answer) }
     {
-        let n = Flanger::line_length(self.sample_rate);
-        let refusal = self.refusal(n, mem.len());
-        if let Outcome::Refused(cause) = refusal {
-            return Ticked {
-                state: self,
-                answer: Answer::Refused(cause),
-            };
-        }
+        let n = match self.checked_length(mem.len()) {
+            Ok(n) => n,
+            Err(cause) => return Ticked::refused(self, cause),
+        };
         let audio = if let Port::Set(x) = audio { x } else { 0.0 };
         let depth = if let Port::Set(x) = depth { x } else { 0.5 };
         let feedback = if let Port::Set(x) = feedback { x } else { 0.0 };
@@ -263,11 +232,8 @@ impl Flanger {
             float64::frequency_fits(frequency)
                 & (float64::sine_fits(sine0) & float64::sine_fits(sine1)),
         );
-        if let Outcome::Refused(cause) = causes {
-            return Ticked {
-                state: self,
-                answer: Answer::Refused(cause),
-            };
+        if let Err(cause) = causes {
+            return Ticked::refused(self, cause);
         }
         self.advance(n, mem, audio, depth, feedback, mix, frequency, sine0, sine1)
     }

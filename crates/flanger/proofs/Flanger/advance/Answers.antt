@@ -1,31 +1,23 @@
 -- `Flanger::advance`: each line is read, at a distance that lies in it, in the part of the memory that is its own, and then gets the audio and its own read
 -- times the feedback. Assumes nothing.
 use Rattle.std.proofs.Common.{◌+◌, ◌-◌, refl, arith}
-use Rattle.std.proofs.Math.ListN.{length-set}
 use lib.Ieee.{neg, of_bits, of_int, round}
 use Rattle.port.specs.declared.Port.TheVariants.{Set}
-use Rattle.common.proofs.Slices.{part_length}
 use Rattle.effect.specs.Run.{tick}
 use Rattle.effect.proofs.Contract.{accepts}
 use Rattle.flanger.specs.Flanger.{flanger, tick_of}
 use Rattle.flanger.proofs.Laws.{ready, tap-is, next-is, stored_is, played-is}
 use Rattle.flanger.proofs.Flanger.advance.Goals as goal
 
-pub tap-d0-requires-clause-w_in_bounds : goal.tap-d0-requires-clause-w_in_bounds
-tap-d0-requires-clause-w_in_bounds c =
-    let r = ready c.requires.n_value c.requires.tick_accepted in
-    rw (part_length 0 c.args.n c.args.mem.now c.args.n refl (omega (arith, r.room))) r.inside
-
-pub tap-d0-requires-clause-depth_in_range : goal.tap-d0-requires-clause-depth_in_range
+pub read-d0-requires : goal.read-d0-requires
 unfolding of_bits of_int
-tap-d0-requires-clause-depth_in_range c = rw c.clamp-amount.ensures (ready c.requires.n_value c.requires.tick_accepted).amount
+read-d0-requires c =
+    let r = ready c.requires.n_value c.requires.tick_accepted in rw (r.left_part, c.distance.ensures, c.clamp-amount.ensures) r.left
 
-pub tap-d1-requires-clause-depth_in_range : goal.tap-d1-requires-clause-depth_in_range
+pub read-d1-requires : goal.read-d1-requires
 unfolding of_bits of_int
-tap-d1-requires-clause-depth_in_range c = rw c.clamp-amount.ensures (ready c.requires.n_value c.requires.tick_accepted).amount
-
-pub bounds-mem-second : goal.bounds-mem-second
-bounds-mem-second c = let r = ready c.requires.n_value c.requires.tick_accepted in simp length-set (omega (arith, r.inside, r.room))
+read-d1-requires c =
+    let r = ready c.requires.n_value c.requires.tick_accepted in rw (r.right_part, c.distance-2.ensures, c.clamp-amount.ensures) r.right
 
 pub returns : goal.returns
 unfolding of_bits of_int round neg
@@ -37,8 +29,8 @@ returns c =
     let e = c.requires.n_value in
     let r = ready e c.requires.tick_accepted in
     let x = c.sanitize_audio-input.ensures in
-    let d0 = tap-is t a.self m e 0 n 0 a.sine0 refl (omega arith) (omega (arith, r.room)) r.inside c.clamp-amount.ensures c.tap-d0.ensures in
-    let d1 = tap-is t a.self m e 1 (n + n - n) n a.sine1 (omega arith) (omega arith) r.room r.inside c.clamp-amount.ensures c.tap-d1.ensures in
+    let d0 = tap-is t a.self m e 0 n 0 a.sine0 refl (omega arith) (omega (arith, r.room)) r.inside c.clamp-amount.ensures c.distance.ensures c.read-d0.ensures in
+    let d1 = tap-is t a.self m e 1 (n + n - n) n a.sine1 (omega arith) (omega arith) r.room r.inside c.clamp-amount.ensures c.distance-2.ensures c.read-d1.ensures in
     let next = c.next-state.ensures in
     accepts flanger (tick t) a.self m c.requires.tick_accepted
     (next-is t a.self m e next.write_pos_value next.lfo_phase_value next.sample_rate_value)

@@ -3,17 +3,11 @@ use Rattle.std.proofs.Common.{◌-◌, arith}
 use lib.Ieee.{sub, of_bits, of_int, round}
 use Rattle.common.proofs.Sweep.{clamped-halves}
 use Rattle.flanger.specs.Flanger.{distance}
-use Rattle.flanger.proofs.Laws.{length-fits}
+use Rattle.flanger.proofs.Laws.{length_fits}
 use Rattle.flanger.proofs.Flanger.distance.Goals as goal
-
-pub overflow_sub-n : goal.overflow_sub-n
-overflow_sub-n c = omega (arith, (length-fits c.args.rate c.requires.rate_in_range).0)
-
-pub overflow_cast-n : goal.overflow_cast-n
-overflow_cast-n c = omega (arith, (length-fits c.args.rate c.requires.rate_in_range).1)
 
 pub returns : goal.returns
 unfolding distance sub of_bits of_int round
 returns c =
-    let l = length-fits c.args.rate c.requires.rate_in_range in
+    let l = length_fits c.args.rate c.requires.rate_in_range in
     rw (c.held_to_line.ensures, ← c.requires.n_value) (clamped-halves _ (c.args.n - 1) (omega (arith, l.1)) (omega (arith, l.0)))
