@@ -1,19 +1,19 @@
 -- The delay line's definitions by their cases: maximum and length, the state test, the table's row of a tick, the glide, and an accepted tick from its
 -- steps, also where ports are unset. Assumes nothing.
-use Prim.Native.Nat.{ℕ, ◌-◌, ◌≤◌, ◌<◌}
+use Prim.Native.Nat.{ℕ, ◌-◌, ◌^◌, ◌≤◌, ◌<◌}
 use native.Mathlib.Omega.{arith}
-use mathlib.Core.Path.{◌≡◌, refl, ap, ◌∙◌}
+use mathlib.Core.Path.{◌≡◌, refl, sym, ap, ◌∙◌}
 use mathlib.Core.Bool.{Bool, true, false, not, ◌&&◌, ◌||◌, cond}
 use mathlib.Core.List.{List, [], ◌∷◌}
 use lib.Dec.{T, ltb}
 use lib.ListN.{length, take, set}
-use lib.Ieee.{Float, nan, inf, fin, binary64, add, mul, div, le, lt, of_int, round, is_nan}
+use lib.Ieee.{Float, binary64, add, mul, le, lt, of_int, round, is_nan}
 use lib.Ieee as Ieee
-use lib.Ieee.Bits.{is_true}
 use lib.Ieee.Positive.{positive, between}
 use borrow.Author.Tests.{ltb-true, lt-ltb}
 use Rattle.float64.specs.Number.{plus_zero, float_of, fraction, half, is_number, is_finite, in_range, rate_fits, coefficient_fits, clamp_of, Small}
-use Rattle.float64.proofs.Tests.{clash, both}
+use Rattle.std.proofs.lemmas.Bool.{not-false, cond_both, and_parts, or_parts}
+use Rattle.float64.proofs.Tests.{clash}
 use Rattle.float64.proofs.Interval.{In, mul_in}
 use Rattle.float64.proofs.Ranges.{rate-in, range-in, in-range, in-number, finite_number}
 use Rattle.float64.proofs.Clamped.{clamp-in, clamp-number}
@@ -27,11 +27,14 @@ use Rattle.port.specs.Answer.{Reply, played}
 use Rattle.port.proofs.Laws.{nan_is}
 use Rattle.common.specs.Signal.{sanitized, blended, cause_number}
 use Rattle.common.specs.Line.{line_at, read_at}
-use Rattle.common.proofs.Sweep.{size_is, size-some, size-tests, no-cause, neither, value-number, part-read}
+use Rattle.common.proofs.Slices.{part_length}
+use Rattle.common.proofs.Sweep.{size_is, no-cause, value-number, part-read}
 use Rattle.effect.specs.Effect.{laid}
 use Rattle.effect.specs.Run.{tick, first, memory_number, number_in}
+use Rattle.effect.proofs.Table.{accepted, tick-accepted}
 use Rattle.delay_line.specs.declared.DelayLine.{DelayLine}
-use Rattle.delay_line.specs.DelayLine.{Tick, delay_line, tick_of, held_maximum, settings_number, maximum_fits, line_length, glide_fits, state_fits, tick_number, delay_ms, samples_of, glided, reads_at, distance, delayed_by, delayed, next_state, next, writes}
+use Rattle.delay_line.specs.declared.Settings.{Settings}
+use Rattle.delay_line.specs.DelayLine.{Tick, delay_line, tick_of, settings, places, held_maximum, settings_number, maximum_fits, line_length, glide_fits, state_fits, tick_number, delay_ms, samples_of, glided, reads_at, distance, delayed_by, delayed, next_state, next, writes}
 use Rattle.delay_line.specs.DelayLine as page
 
 -- ---- the maximum, and the length of the line
@@ -43,67 +46,43 @@ maximum-in k = range-in tt k
 -- whatever a start is handed, the maximum that it holds is in its range
 pub held_fits : (x : Float) → maximum_fits (held_maximum x) ≡ true
 unfolding held_maximum in_range Ieee.fits le of_int round
-held_fits x = go (is_finite x) refl
-  where
-    go : (b : Bool) → is_finite x ≡ b → maximum_fits (cond b (clamp_of x (fraction 1 1000) (float_of 60)) (float_of 2)) ≡ true
-    go true f = in-range (clamp-in x tt tt (finite_number x f))
-    go false f = refl
+held_fits x = cond_both (is_finite x) _ _ (λ (y : Float). maximum_fits y ≡ true) (λ f. in-range (clamp-in x tt tt (finite_number x f))) (λ f. refl)
 
-module _ (rate maximum : Float) (h : rate_fits rate ≡ true) (k : maximum_fits maximum ≡ true) where
-  pub length-fits : (9 ≤ line_length rate maximum) × (line_length rate maximum ≤ 11520001)
+abbrev pub size_fits : Settings → Bool
+size_fits k = rate_fits k.rate && maximum_fits k.maximum
+
+module _ (k : Settings) (h : size_fits k ≡ true) where
+  pub length-fits : (9 ≤ places k) × (places k ≤ 11520001)
   unfolding line_length
-  length-fits = let l = line-length rate h (maximum-in k) in (omega (arith, l.0), l.1)
+  length-fits =
+      let f = and_parts (rate_fits k.rate) (maximum_fits k.maximum) h in let l = line-length k.rate f.0 (maximum-in f.1) in (omega (arith, l.0), l.1)
 
   -- rate × maximum is small enough for `whole_part_small`
-  pub samples-small : Small (mul binary64 rate maximum)
+  pub samples-small : Small (mul binary64 k.rate k.maximum)
   unfolding Ieee.fits le lt mul of_int round
-  samples-small = small-in (mul_in (float_of 1) (float_of 16777216) tt tt tt (rate-in h) (maximum-in k))
+  samples-small =
+      let f = and_parts (rate_fits k.rate) (maximum_fits k.maximum) h in
+      small-in (mul_in (float_of 1) (float_of 16777216) tt tt tt (rate-in f.0) (maximum-in f.1))
 
--- where the maximum fits, what `settings_refusal` answers is the table's row: causes 1, 2 and 3
-pub settings-row : (rate coefficient maximum : Float) (n : ℕ) {k : ℕ} → maximum_fits maximum ≡ true
-    → k ≡ cond (rate_fits rate && maximum_fits maximum) (cond (coefficient_fits coefficient) (memory_number (line_length rate maximum) n) 2) 1
-    → k ≡ first (settings_number rate coefficient) (memory_number (line_length rate maximum) n)
+-- where the maximum fits, what `refusal` answers is the table's row: causes 1, 2 and 3
+pub settings-row : (k : Settings) (n : ℕ) {j : ℕ} → maximum_fits k.maximum ≡ true
+    → j ≡ cond (size_fits k) (cond (coefficient_fits k.coefficient) (memory_number (places k) n) 2) 1
+    → j ≡ first (settings_number k.rate k.coefficient) (memory_number (places k) n)
 unfolding settings_number
-settings-row rate coefficient maximum n h e = e ∙ (rw h (go (rate_fits rate) (coefficient_fits coefficient)))
+settings-row k n h e = e ∙ (rw h (go (rate_fits k.rate) (coefficient_fits k.coefficient)))
   where
     m : ℕ
-    m = memory_number (line_length rate maximum) n
+    m = memory_number (places k) n
 
     go : (r c : Bool) → cond (r && true) (cond c m 2) 1 ≡ first (cond r (cond c 0 2) 1) m
     go true true = refl
     go true false = refl
     go false c = refl
 
--- where the maximum fits, whether there is a length is by the rate alone
-pub rate-size : (rate maximum : Float) {n : ℕ} → maximum_fits maximum ≡ true → n ≡ cond (rate_fits rate && maximum_fits maximum) (line_length rate maximum) 0
-    → n ≡ cond (rate_fits rate) (line_length rate maximum) 0
-rate-size rate maximum k e = e ∙ go (rate_fits rate)
-  where
-    go : (b : Bool) → cond (b && maximum_fits maximum) (line_length rate maximum) 0 ≡ cond b (line_length rate maximum) 0
-    go true = rw k
-    go false = refl
-
 -- ---- the state test
 
-abbrev pub size_fits : DelayLine → Bool
-size_fits s = rate_fits s.sample_rate && maximum_fits s.max_delay_secs
-
 abbrev pub size : DelayLine → ℕ
-size s = line_length s.sample_rate s.max_delay_secs
-
--- by the length n of the line, as `line_length` answers it
-pub fits_by : (s : DelayLine) {n : ℕ} → n ≡ cond (size_fits s) (size s) 0
-    → state_fits s ≡ ltb s.write_pos n && (coefficient_fits s.delay_smooth_coef && glide_fits s.delay_primed s.smoothed_delay n)
-unfolding state_fits
-fits_by s e = size-tests (size_fits s) (size s) s.write_pos (λ n. coefficient_fits s.delay_smooth_coef && glide_fits s.delay_primed s.smoothed_delay n) e
-
--- where a position lies below it, it is a length
-pub some_size : (s : DelayLine) {n : ℕ} → n ≡ cond (size_fits s) (size s) 0 → s.write_pos < n → (1 ≤ n) × (n ≤ 11520001)
-some_size s {n} e h =
-    let k = size-some (size_fits s) (size s) e (omega (arith, h)) in
-    let b = both (rate_fits s.sample_rate) (maximum_fits s.max_delay_secs) k in
-    let l = length-fits s.sample_rate s.max_delay_secs b.0 b.1 in
-    (omega (arith, h), omega (arith, size_is (size_fits s) (size s) e k, l.1))
+size s = places (settings s)
 
 pub record Fits (s : DelayLine) : Type 0 where
   pub rate : rate_fits s.sample_rate ≡ true
@@ -119,10 +98,10 @@ module _ (s : DelayLine) where
       let w = ltb s.write_pos (size s) in
       let c = coefficient_fits s.delay_smooth_coef in
       let g = glide_fits s.delay_primed s.smoothed_delay (size s) in
-      let a = both (size_fits s) (w && (c && g)) e in
-      let k = both (rate_fits s.sample_rate) (maximum_fits s.max_delay_secs) a.0 in
-      let b = both w (c && g) a.1 in
-      let d = both c g b.1 in
+      let a = and_parts (size_fits (settings s)) (w && (c && g)) e in
+      let k = and_parts (rate_fits s.sample_rate) (maximum_fits s.max_delay_secs) a.0 in
+      let b = and_parts w (c && g) a.1 in
+      let d = and_parts c g b.1 in
       record { rate = k.0; maximum = k.1; inside = ltb-true s.write_pos (size s) b.0; coefficient = d.0; glide = d.1 }
 
   pub fit : Fits s → state_fits s ≡ true
@@ -130,34 +109,30 @@ module _ (s : DelayLine) where
   fit f = rw (f.rate, f.maximum, lt-ltb s.write_pos (size s) f.inside, f.coefficient, f.glide)
 
   -- past the test n is the length of the line
-  pub fits-size : {n : ℕ} → n ≡ cond (size_fits s) (size s) 0 → state_fits s ≡ true → n ≡ size s
-  fits-size e h = let f = fits-parts h in size_is (size_fits s) (size s) e (rw (f.rate, f.maximum))
+  pub fits-size : {n : ℕ} → n ≡ cond (size_fits (settings s)) (size s) 0 → state_fits s ≡ true → n ≡ size s
+  fits-size e h = let f = fits-parts h in size_is (size_fits (settings s)) (size s) e (rw (f.rate, f.maximum))
+
+  pub size-fits : Fits s → (9 ≤ size s) × (size s ≤ 11520001)
+  size-fits f = length-fits (settings s) (rw (f.rate, f.maximum))
 
 -- ---- causes 5 and 6
 
--- what the delay is worked out from, in either mode
+-- what the delay is worked out from, in either mode, and what the sample is blended by
 pub record TickFits (t : Tick) (linear : Bool) : Type 0 where
   pub time : linear ≡ true → is_nan_set t.time ≡ false
   pub milliseconds : linear ≡ false → is_number t.milliseconds ≡ true
-
--- what its sample is blended by
-pub record BlendFits (t : Tick) : Type 0 where
   pub feedback : is_nan_set t.feedback ≡ false
   pub mix : is_nan_set t.mix ≡ false
 
-module _ (t : Tick) (linear : Bool) (e : tick_number t linear ≡ 0) where
-  accepted-parts : ((linear && is_nan_set t.time ≡ false) × (is_nan_set t.feedback || is_nan_set t.mix ≡ false)) × (linear || is_number t.milliseconds ≡ true)
-  unfolding tick_number
-  accepted-parts =
-      let others = is_nan_set t.feedback || is_nan_set t.mix in
-      let v = no-cause (linear && is_nan_set t.time || others) (linear || is_number t.milliseconds) e in
-      (neither (linear && is_nan_set t.time) others v.0, v.1)
-
-  pub tick-fits : TickFits t linear
-  tick-fits = let p = accepted-parts in let time = p.0.0 in record { time = λ l. rw l at time; milliseconds = λ l. rw l at p.1 }
-
-  pub blend-fits : BlendFits t
-  blend-fits = let b = neither (is_nan_set t.feedback) (is_nan_set t.mix) accepted-parts.0.1 in record { feedback = b.0; mix = b.1 }
+pub tick-fits : (t : Tick) (linear : Bool) → tick_number t linear ≡ 0 → TickFits t linear
+unfolding tick_number
+tick-fits t linear e =
+    let others = is_nan_set t.feedback || is_nan_set t.mix in
+    let v = no-cause (linear && is_nan_set t.time || others) (linear || is_number t.milliseconds) e in
+    let n = or_parts (linear && is_nan_set t.time) others v.0 in
+    let b = or_parts (is_nan_set t.feedback) (is_nan_set t.mix) n.1 in
+    let time = n.0 in
+    record { time = λ l. rw l at time; milliseconds = λ l. rw l at v.1; feedback = b.0; mix = b.1 }
 
 -- a tick with these numbers: time, feedback, mix and milliseconds
 abbrev pub set_tick : Float → Float → Float → Float → Tick
@@ -177,45 +152,21 @@ module _ (t : Tick) (linear : Bool) {c f b : Float} (time : c ≡ value_or t.tim
   unfolding state_fits
   set-number n s e = rw e (ap (λ (k : ℕ). cond (state_fits s) (first (memory_number (size s) n) k) 4) set-row)
 
--- none of these numbers is NaN
-pub no_nan : (linear : Bool) (c f b ms : Float) → cond linear (is_number c) (is_number ms) ≡ true → is_number f ≡ true → is_number b ≡ true
-    → tick_number (set_tick c f b ms) linear ≡ 0
+-- none of these numbers is NaN, and neither is the delay in samples x, which is worked out from them
+pub no_nan : (linear : Bool) (time feedback mix ms : Float) (x : Float) {p q r : Bool} → (is_number x ≡ true → cond linear (is_number time) (is_number ms) ≡ true)
+    → p ≡ not (is_number x) → q ≡ not (is_number feedback) → r ≡ not (is_number mix) → p || (q || r) ≡ false
+    → tick_number (set_tick time feedback mix ms) linear ≡ 0
 unfolding tick_number
-no_nan linear c f b ms x y z = rw (y, z) (go linear (is_number c) (is_number ms) x)
+no_nan linear time feedback mix ms x {p} {q} {r} read d e f none =
+    let i = or_parts p (q || r) none in
+    let j = or_parts q r i.1 in
+    rw (sym e ∙ j.0, sym f ∙ j.1) (go linear (is_number time) (is_number ms) (read (not-false (is_number x) (sym d ∙ i.0))))
   where
-    go : (l p q : Bool) → cond l p q ≡ true → ◌≡◌ {A = ℕ} (cause_number (l && not p || false) (l || q)) 0
-    go true true q e = refl
-    go true false q e = clash e refl
-    go false p true e = refl
-    go false p false e = clash e refl
-
--- ---- a NaN on the way to a number of samples
-
-below_nan : (x : Float) → lt x nan ≡ false
-unfolding lt
-below_nan nan = refl
-below_nan (inf s) = refl
-below_nan (fin s m e) = refl
-
-nan-none : (rate : Float) → is_number (samples_of rate nan) ≡ false
-unfolding samples_of is_number is_nan mul div Ieee.fits
-nan-none rate = refl
-
-nan-clamped : (maximum : Float) → mul binary64 (clamp_of nan plus_zero maximum) (float_of 1000) ≡ nan
-unfolding clamp_of lt mul
-nan-clamped maximum = rw (below_nan maximum)
-
-pub plain-read : (rate ms : Float) → T (Ieee.fits binary64 ms) → is_number (samples_of rate ms) ≡ true → is_number ms ≡ true
-unfolding is_number is_nan
-plain-read rate nan h e = clash e (nan-none rate)
-plain-read rate (inf s) h e = rw (is_true (Ieee.fits binary64 (inf s)) h)
-plain-read rate (fin s m d) h e = rw (is_true (Ieee.fits binary64 (fin s m d)) h)
-
-pub linear-read : (rate time maximum : Float) → T (Ieee.fits binary64 time) → is_number (samples_of rate (mul binary64 (clamp_of time plus_zero maximum) (float_of 1000))) ≡ true → is_number time ≡ true
-unfolding is_number is_nan
-linear-read rate nan maximum h e = clash e (ap (λ (y : Float). is_number (samples_of rate y)) (nan-clamped maximum) ∙ nan-none rate)
-linear-read rate (inf s) maximum h e = rw (is_true (Ieee.fits binary64 (inf s)) h)
-linear-read rate (fin s m d) maximum h e = rw (is_true (Ieee.fits binary64 (fin s m d)) h)
+    go : (l t m : Bool) → cond l t m ≡ true → ◌≡◌ {A = ℕ} (cause_number (l && not t || false) (l || m)) 0
+    go true true m e = refl
+    go true false m e = clash e refl
+    go false t true e = refl
+    go false t false e = clash e refl
 
 -- ---- the glide
 
@@ -223,12 +174,10 @@ module _ (t : Tick) (s : DelayLine) (f : Fits s) (k : TickFits t s.linear_time) 
   -- in either mode the delay is a number of milliseconds, if not a finite one
   ms-number : is_number (delay_ms t s) ≡ true
   unfolding delay_ms is_number Ieee.fits is_nan of_int round
-  ms-number = go s.linear_time refl
-    where
-      go : (b : Bool) → s.linear_time ≡ b
-          → is_number (cond b (mul binary64 (clamp_of (value_or t.time half) plus_zero s.max_delay_secs) (float_of 1000)) t.milliseconds) ≡ true
-      go true e = mul-number _ (float_of 1000) (clamp-number _ plus_zero _ (value-number t.time half (k.time e) refl) refl (in-number (maximum-in f.maximum))) tt
-      go false e = k.milliseconds e
+  ms-number =
+      cond_both s.linear_time _ _ (λ (x : Float). is_number x ≡ true)
+      (λ e. mul-number _ (float_of 1000) (clamp-number _ plus_zero _ (value-number t.time half (k.time e) refl) refl (in-number (maximum-in f.maximum))) tt)
+      k.milliseconds
 
   pub samples-number : is_number (samples_of s.sample_rate (delay_ms t s)) ≡ true
   unfolding samples_of of_int
@@ -237,26 +186,32 @@ module _ (t : Tick) (s : DelayLine) (f : Fits s) (k : TickFits t s.linear_time) 
       let p : T (positive s.sample_rate) = between (float_of 8000) s.sample_rate (float_of 192000) tt tt r.lower r.upper in
       div-number _ (float_of 1000) (mul-number (delay_ms t s) s.sample_rate ms-number p) tt
 
+-- an accepted tick with these numbers meets no NaN, also not on the way to its delay in samples
+pub meets-none : (s : DelayLine) (n : ℕ) (time feedback mix ms : Float) {x : Float} {p q r : Bool}
+    → x ≡ samples_of s.sample_rate (cond s.linear_time (mul binary64 (clamp_of time plus_zero s.max_delay_secs) (float_of 1000)) ms)
+    → p ≡ not (is_number x) → q ≡ not (is_number feedback) → r ≡ not (is_number mix)
+    → number_in delay_line (tick (set_tick time feedback mix ms)) n s ≡ 0 → p || (q || r) ≡ false
+unfolding delay_ms
+meets-none s n time feedback mix ms x p q r e =
+    let t = set_tick time feedback mix ms in
+    let u = accepted delay_line n (tick t) s e in
+    let none = (tick-accepted delay_line n t (settings s) u.number).number in
+    let k = tick-fits t s.linear_time none in
+    rw (p, q, r, x, samples-number t s (fits-parts s u.state_fits) k, k.feedback, k.mix)
+
 module _ (s : DelayLine) (f : Fits s) (x : Float) (k : is_number x ≡ true) where
   target-in : In binary64 (float_of 1) (float_of (size s - 1)) (clamp_of x (float_of 1) (float_of (size s - 1)))
-  target-in =
-      let l = length-fits s.sample_rate s.max_delay_secs f.rate f.maximum in
-      clamp-whole-in (size s - 1) (omega (arith, l.1)) x (omega (arith, l.0)) k
+  target-in = let l = size-fits s f in clamp-whole-in (size s - 1) (omega (arith, l.1)) x (omega (arith, l.0)) k
 
   -- the distance stays from 1 to L − 1 by itself, rounding included: so both places that are read lie in the line
   pub reads_in : In binary64 (float_of 1) (float_of (size s - 1)) (reads_at s x)
   unfolding reads_at glided glide_fits
-  reads_in = go s.delay_primed f.glide
-    where
-      target : Float
-      target = clamp_of x (float_of 1) (float_of (size s - 1))
-
-      go : (b : Bool) → glide_fits b s.smoothed_delay (size s) ≡ true
-          → In binary64 (float_of 1) (float_of (size s - 1)) (glided b s.smoothed_delay s.delay_smooth_coef target)
-      go true g =
-          let l = length-fits s.sample_rate s.max_delay_secs f.rate f.maximum in
-          glide-in (size s - 1) s.delay_smooth_coef (omega (arith, l.1)) target-in (range-in (whole-ends (size s - 1) (omega (arith, l.1))) g) f.coefficient
-      go false g = target-in
+  reads_in =
+      let short : size s - 1 ≤ 2 ^ 24 = omega (arith, (size-fits s f).1) in
+      let glide = f.glide in
+      cond_both s.delay_primed _ _ (λ (d : Float). In binary64 (float_of 1) (float_of (size s - 1)) d)
+      (λ e. glide-in (size s - 1) s.delay_smooth_coef short target-in (range-in (whole-ends (size s - 1) short) (rw e at glide)) f.coefficient)
+      (λ e. target-in)
 
   -- by the length n of the line and the distance d that the code works out
   pub in-line : {n : ℕ} {d : Float} → n ≡ size s → d ≡ reads_at s x → in_range d (float_of 1) (float_of (n - 1)) ≡ true
@@ -267,6 +222,19 @@ unfolding distance
 distance-in t s f k = reads_in s f (samples_of s.sample_rate (delay_ms t s)) (samples-number t s f k)
 
 -- ---- an accepted tick from its steps
+
+-- n is the length of the line, and the memory has the places
+pub record Ready (s : DelayLine) (m : List Float) (n : ℕ) : Type 0 where
+  pub long : 9 ≤ n
+  pub short : n ≤ 11520001
+  pub inside : s.write_pos < n
+  pub part : length (take n m) ≡ n
+
+pub ready : {s : DelayLine} {m : List Float} {n : ℕ} → n ≡ line_length s.sample_rate s.max_delay_secs → state_fits s ≡ true → n ≤ length m → Ready s m n
+ready {s} {m} {n} e k room =
+    let f = fits-parts s k in
+    let l = size-fits s f in
+    record { long = omega (arith, l.0); short = omega (arith, l.1); inside = omega (arith, f.inside); part = part_length 0 n m n refl (omega arith) }
 
 module _ (s : DelayLine) (x : Float) {n : ℕ} (e : n ≡ size s) where
   pub reads-is : {target d : Float} → target ≡ clamp_of x (float_of 1) (float_of (n - 1))

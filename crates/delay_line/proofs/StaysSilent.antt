@@ -15,7 +15,7 @@ use Rattle.effect.proofs.SilentLaws.{SilentTick, keeps-nothing}
 use Rattle.effect.proofs.StaysSilent.{stays-silent}
 use Rattle.delay_line.specs.declared.DelayLine.{DelayLine}
 use Rattle.delay_line.specs.DelayLine.{Tick, delay_line, line_length, input, distance, delayed_by, delayed, writes, samples}
-use Rattle.delay_line.proofs.Laws.{fits-parts, length-fits, tick-fits, blend-fits, distance-in}
+use Rattle.delay_line.proofs.Laws.{fits-parts, size-fits, tick-fits, distance-in}
 use Rattle.delay_line.proofs.Demand1.{laws}
 
 module _ (t : Tick) (s : DelayLine) (m : List Float) (u : SilentTick delay_line t s m) where
@@ -24,17 +24,16 @@ module _ (t : Tick) (s : DelayLine) (m : List Float) (u : SilentTick delay_line 
   heard =
       let f = fits-parts s u.state_fits in
       let L = line_length s.sample_rate s.max_delay_secs in
-      let long = length-fits s.sample_rate s.max_delay_secs f.rate f.maximum in
-      first-read L 0 L s.write_pos m (distance t s) u.enough u.zeros (omega arith) f.inside (omega (arith, long.1)) (distance-in t s f (tick-fits t s.linear_time u.number))
+      first-read L 0 L s.write_pos m (distance t s) u.enough u.zeros (omega arith) f.inside (omega (arith, (size-fits s f).1)) (distance-in t s f (tick-fits t s.linear_time u.number))
 
   answers : all_zero (samples t s m) ≡ true
   unfolding samples all_zero is_number Ieee.fits Ieee.is_nan Ieee.round
   answers =
-      both-true (mix-zero (input t) (delayed t s m) u.audio heard (control-in t.mix half (blend-fits t s.linear_time u.number).mix refl)) refl
+      both-true (mix-zero (input t) (delayed t s m) u.audio heard (control-in t.mix half (tick-fits t s.linear_time u.number).mix refl)) refl
 
   written : EachWritten Zero (writes t s m)
   unfolding writes le Ieee.fits Ieee.round
-  written = (fed-zero (input t) (delayed t s m) t.feedback _ _ u.audio heard (blend-fits t s.linear_time u.number).feedback tt tt, tt)
+  written = (fed-zero (input t) (delayed t s m) t.feedback _ _ u.audio heard (tick-fits t s.linear_time u.number).feedback tt tt, tt)
 
 pub shown : StaysSilent delay_line
 shown = stays-silent delay_line laws (keeps-nothing delay_line (λ s. refl) answers written)

@@ -10,13 +10,7 @@ use Rattle.common.specs.Line.{line_at, read_at, next_place}
 use Rattle.effect.specs.Parts.{first_places}
 use Rattle.effect.specs.Effect.{Effect, Write}
 use Rattle.delay_line.specs.declared.DelayLine.{DelayLine}
-
--- what is in force from one clearing to the next: the rate, the glide coefficient, the maximum in seconds, and whether the time is linear
-pub record Settings : Type 0 where
-  pub rate : Float
-  pub coefficient : Float
-  pub maximum : Float
-  pub linear : Bool
+use Rattle.delay_line.specs.declared.Settings.{Settings}
 
 -- what a retune is handed; it keeps the maximum and the mode
 pub record Retune : Type 0 where

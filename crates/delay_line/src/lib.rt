@@ -1,19 +1,22 @@
 // The delay line: one line in lent memory, fed back into itself, read at a distance that glides to the delay time. The state goes in and out by value.
 #![tactic(auto)]
 
-ghost use Rattle.std.specs.Prelude.{◌≡◌, true, false, cond, ◌&&◌, ◌-◌, ◌≤◌, ◌<◌, [], ◌∷◌, length, set};
+ghost use Rattle.std.specs.Prelude.{◌≡◌, true, false, cond, ◌&&◌, ◌-◌, ◌≤◌, ◌<◌, [], ◌∷◌, length, set, IfOk};
+ghost use Rattle.std.specs.Bool.{then_some};
 ghost use Rattle.std.specs.Float.{binary64};
 ghost use Rattle.std.specs.Float.Ieee.{add, mul};
 ghost use Rattle.float64.specs.Number.{plus_zero, float_of, fraction, is_number, rate_fits, coefficient_fits, clamp_of};
 ghost use Rattle.port.specs.declared.Port.TheVariants.{Set, Unset};
 ghost use Rattle.port.specs.Answer.{played, number_of, outcome_reply, answer_reply, silence_reply};
 ghost use Rattle.common.specs.Signal.{sanitized, blended};
-ghost use Rattle.effect.specs.Run.{tick, retune, reset, ask, memory_number, number_in, if_none};
+ghost use Rattle.effect.specs.Run.{tick, retune, reset, ask, memory_number, number_in};
 ghost use Rattle.effect.specs.Contract.{Does, Starts};
-ghost use Rattle.effect.specs.Needed.{places_needed};
-ghost use Rattle.delay_line.specs.DelayLine.{delay_line, handing, start_settings, retuning, tick_of, held_maximum, maximum_fits, line_length, cleared, glide_fits, state_fits, samples_of, glided, reads_at, delayed_by, next_state};
+ghost use Rattle.effect.specs.Needed.{places_if_accepted};
+ghost use Rattle.delay_line.specs.DelayLine.{delay_line, handing, start_settings, settings, retuning, tick_of, held_maximum, maximum_fits, line_length, cleared, glide_fits, state_fits, samples_of, glided, reads_at, delayed_by, next_state};
 
-use port::{Answer, Outcome, Port, Refusal, Silence};
+use common::Line;
+use effect::{Cleared, Ticked};
+use port::{Answer, Port, Refusal};
 
 #[derive(Clone, Copy)]
 pub struct DelayLine {
@@ -23,21 +26,65 @@ pub struct DelayLine {
     pub linear_time: bool,
     pub smoothed_delay: f64,
     pub delay_smooth_coef: f64,
+    // No `Option` of the distance: C hands in and gets both numbers, and a state with the flag off and a distance other than +0 is refused.
     pub delay_primed: bool,
 }
 
-// What start, retune and reset return.
+// What is in force from one clearing to the next.
 #[derive(Clone, Copy)]
-pub struct Cleared {
-    pub state: DelayLine,
-    pub outcome: Outcome,
+struct Settings {
+    rate: f64,
+    coefficient: f64,
+    maximum: f64,
+    linear: bool,
 }
 
-// What a tick returns.
-#[derive(Clone, Copy)]
-pub struct Ticked {
-    pub state: DelayLine,
-    pub answer: Answer,
+impl Settings {
+    // Those of the state that a refused start gives.
+    const NONE: Settings = Settings {
+        rate: 0.0,
+        coefficient: 0.0,
+        maximum: 0.0,
+        linear: false,
+    };
+
+    // The places of the line; none where the rate or the maximum is out of range.
+    fn line_length(self) -> Option<u64>
+        ensures { result ≡ then_some (rate_fits self.rate && maximum_fits self.maximum) (line_length self.rate self.maximum) }
+    {
+        if !(float64::rate_fits(self.rate) & DelayLine::maximum_fits(self.maximum)) {
+            return None;
+        }
+        Some(float64::whole_part_small(self.rate * self.maximum) + 1)
+    }
+
+    // Causes 1, 2 and 3. A maximum out of range, which only a state that fails its test has, counts as a refused rate: the state
+    // test stands before these, and gives 4.
+    fn refusal(self, places: usize) -> Result<(), Refusal>
+        ensures { number_of result ≡ cond (rate_fits self.rate && maximum_fits self.maximum)
+            (cond (coefficient_fits self.coefficient) (memory_number (line_length self.rate self.maximum) places) 2) 1 }
+    {
+        let n = self.line_length().ok_or(Refusal::SampleRate)?;
+        if !float64::coefficient_fits(self.coefficient) {
+            return Err(Refusal::GlideCoefficient);
+        }
+        effect::check_memory(n, places)
+    }
+
+    // Position 0 and the glide unprimed, with these settings.
+    fn cleared(self) -> DelayLine
+        ensures { result ≡ cleared self }
+    {
+        DelayLine {
+            write_pos: 0,
+            sample_rate: self.rate,
+            max_delay_secs: self.maximum,
+            linear_time: self.linear,
+            smoothed_delay: 0.0,
+            delay_smooth_coef: self.coefficient,
+            delay_primed: false,
+        }
+    }
 }
 
 impl DelayLine {
@@ -68,69 +115,16 @@ impl DelayLine {
         )
     }
 
-    // The places of the line. A refused rate or maximum gives 0, so that no position fits.
-    fn line_length(rate: f64, maximum: f64) -> u64
-        ensures { result ≡ cond (rate_fits rate && maximum_fits maximum) (line_length rate maximum) 0 }
+    // The places that a start needs at the rate, with a maximum still to be held; none for a rate that is refused. The coefficient has no part in it.
+    pub fn places_needed(rate: f64, seconds: f64) -> Option<u64>
+        ensures { result ≡ places_if_accepted delay_line (start_settings (handing rate plus_zero seconds false)) }
     {
-        if !(float64::rate_fits(rate) & DelayLine::maximum_fits(maximum)) {
-            return 0;
-        }
-        float64::whole_part_small(rate * maximum) + 1
-    }
-
-    // The places that a start needs at the rate, with a maximum still to be held; 2^64 - 1 for a rate that is refused. The coefficient has no part in it.
-    pub fn places_needed(rate: f64, seconds: f64) -> u64
-        ensures { result ≡ places_needed delay_line (start_settings (handing rate plus_zero seconds false)) }
-    {
-        let maximum = DelayLine::held_maximum(seconds);
-        effect::places_or_none(DelayLine::line_length(rate, maximum))
-    }
-
-    // Position 0 and the glide unprimed, with these settings.
-    fn cleared(rate: f64, coefficient: f64, maximum: f64, linear: bool) -> DelayLine
-        ensures { result ≡ cleared (handing rate coefficient maximum linear) }
-    {
-        DelayLine {
-            write_pos: 0,
-            sample_rate: rate,
-            max_delay_secs: maximum,
-            linear_time: linear,
-            smoothed_delay: 0.0,
-            delay_smooth_coef: coefficient,
-            delay_primed: false,
-        }
-    }
-
-    // Causes 1, 2 and 3. A maximum out of range, which only a state that fails its test has, counts as a refused rate: the state
-    // test stands before these, and gives 4.
-    fn settings_refusal(rate: f64, coefficient: f64, maximum: f64, places: usize) -> Outcome
-        ensures { number_of result ≡ cond (rate_fits rate && maximum_fits maximum)
-            (cond (coefficient_fits coefficient) (memory_number (line_length rate maximum) places) 2) 1 }
-    {
-        let n = DelayLine::line_length(rate, maximum);
-        if n == 0 {
-            return Outcome::Refused(Refusal::SampleRate);
-        }
-        if !float64::coefficient_fits(coefficient) {
-            return Outcome::Refused(Refusal::GlideCoefficient);
-        }
-        effect::check_memory(n, places)
-    }
-
-    // What a start, a retune or a reset returns, by the outcome of its tests: the state `next`, or `kept`.
-    fn settled(outcome: Outcome, next: DelayLine, kept: DelayLine) -> Cleared
-        ensures { (result.state ≡ if_none (number_of outcome) next kept) × (result.outcome ≡ outcome) }
-    {
-        if let Outcome::Accepted = outcome {
-            return Cleared {
-                state: next,
-                outcome,
-            };
-        }
-        Cleared {
-            state: kept,
-            outcome,
-        }
+        let settings = Settings {
+            rate,
+            maximum: DelayLine::held_maximum(seconds),
+            ..Settings::NONE
+        };
+        settings.line_length()
     }
 
     // Start, with the glide coefficient from the host; `linear` is the Rust's `with_linear_time`.
@@ -140,15 +134,30 @@ impl DelayLine {
         coefficient: f64,
         linear: bool,
         mem: &mut [f64],
-    ) -> Cleared
+    ) -> Cleared<DelayLine>
         ensures { Starts delay_line (handing sample_rate coefficient max_delay_secs linear) mem.old result.state
             mem.new (outcome_reply result.outcome) }
     {
-        let maximum = DelayLine::held_maximum(max_delay_secs);
-        let outcome = DelayLine::settings_refusal(sample_rate, coefficient, maximum, mem.len());
-        effect::clear(outcome, mem);
-        let next = DelayLine::cleared(sample_rate, coefficient, maximum, linear);
-        DelayLine::settled(outcome, next, DelayLine::cleared(0.0, 0.0, 0.0, false))
+        let settings = Settings {
+            rate: sample_rate,
+            coefficient,
+            maximum: DelayLine::held_maximum(max_delay_secs),
+            linear,
+        };
+        let tested = settings.refusal(mem.len());
+        effect::clear(tested, mem);
+        Cleared::settled(tested, settings.cleared(), Settings::NONE.cleared())
+    }
+
+    fn settings(self) -> Settings
+        ensures { result ≡ settings self }
+    {
+        Settings {
+            rate: self.sample_rate,
+            coefficient: self.delay_smooth_coef,
+            maximum: self.max_delay_secs,
+            linear: self.linear_time,
+        }
     }
 
     // The glide distance in a line of n places: +0 while unprimed, else 1 to n - 1.
@@ -158,69 +167,70 @@ impl DelayLine {
         ensures { result ≡ glide_fits self.delay_primed self.smoothed_delay n }
     {
         if self.delay_primed {
-            return float64::in_range(self.smoothed_delay, 1.0, float64::from_u32((n - 1) as u32));
+            return float64::in_range(self.smoothed_delay, 1.0, f64::from((n - 1) as u32));
         }
         float64::is_plus_zero(self.smoothed_delay)
     }
 
-    // The state test, where n is the length of the line.
-    fn state_fits(self, n: u64) -> bool
-        requires { n ≡ cond (rate_fits self.sample_rate && maximum_fits self.max_delay_secs)
-            (line_length self.sample_rate self.max_delay_secs) 0 }
-        ensures { result ≡ state_fits self }
+    // The length of the line, where the state passes its test.
+    fn fitting_length(self) -> Option<u64>
+        ensures { result ≡ then_some (state_fits self) (line_length self.sample_rate self.max_delay_secs) }
     {
+        let n = self.settings().line_length()?;
         if self.write_pos >= n {
-            return false;
+            return None;
         }
         if !float64::coefficient_fits(self.delay_smooth_coef) {
-            return false;
+            return None;
         }
-        self.glide_fits(n)
+        self.glide_fits(n).then_some(n)
     }
 
-    // Causes 4 and 3: a state that fails its test, and memory that is too short for it.
-    fn refusal(self, n: u64, places: usize) -> Outcome
-        requires { n ≡ cond (rate_fits self.sample_rate && maximum_fits self.max_delay_secs)
-            (line_length self.sample_rate self.max_delay_secs) 0 }
-        ensures { number_of result ≡ number_in delay_line reset places self }
+    // The places of the line, where the state and the memory pass their tests: causes 4 and 3.
+    fn checked_length(self, places: usize) -> Result<u64, Refusal>
+        ensures number { number_of result ≡ number_in delay_line reset places self }
+        ensures length { IfOk result (λ n. n ≡ line_length self.sample_rate self.max_delay_secs) }
     {
-        effect::check_state(self.state_fits(n), effect::check_memory(n, places))
+        let n = self.fitting_length().ok_or(Refusal::State)?;
+        effect::check_memory(n, places)?;
+        Ok(n)
     }
 
     // Retune: a clearing at another rate and coefficient, which keeps the maximum and the mode.
-    pub fn set_sample_rate(self, sample_rate: f64, coefficient: f64, mem: &mut [f64]) -> Cleared
+    pub fn set_sample_rate(
+        self,
+        sample_rate: f64,
+        coefficient: f64,
+        mem: &mut [f64],
+    ) -> Cleared<DelayLine>
         ensures { Does delay_line (retune (retuning sample_rate coefficient)) self mem.old result.state mem.new
             (outcome_reply result.outcome) }
     {
-        let maximum = self.max_delay_secs;
-        let n = DelayLine::line_length(self.sample_rate, maximum);
-        let others = DelayLine::settings_refusal(sample_rate, coefficient, maximum, mem.len());
-        let outcome = effect::check_state(self.state_fits(n), others);
-        effect::clear(outcome, mem);
-        let next = DelayLine::cleared(sample_rate, coefficient, maximum, self.linear_time);
-        DelayLine::settled(outcome, next, self)
+        let settings = Settings {
+            rate: sample_rate,
+            coefficient,
+            ..self.settings()
+        };
+        let fits = self.fitting_length().is_some();
+        let tested = effect::check_state(fits, settings.refusal(mem.len()));
+        effect::clear(tested, mem);
+        Cleared::settled(tested, settings.cleared(), self)
     }
 
     // Reset: a clearing with the settings in force.
-    pub fn reset(self, mem: &mut [f64]) -> Cleared
+    pub fn reset(self, mem: &mut [f64]) -> Cleared<DelayLine>
         ensures { Does delay_line reset self mem.old result.state mem.new (outcome_reply result.outcome) }
     {
-        let rate = self.sample_rate;
-        let maximum = self.max_delay_secs;
-        let n = DelayLine::line_length(rate, maximum);
-        let outcome = self.refusal(n, mem.len());
-        effect::clear(outcome, mem);
-        let next = DelayLine::cleared(rate, self.delay_smooth_coef, maximum, self.linear_time);
-        DelayLine::settled(outcome, next, self)
+        let tested = self.checked_length(mem.len());
+        effect::clear(tested, mem);
+        Cleared::settled(tested, self.settings().cleared(), self)
     }
 
     // Silent? Whether every place of the line is +0 or -0.
-    pub fn silent(self, mem: &[f64]) -> Silence
+    pub fn silent(self, mem: &[f64]) -> Result<bool, Refusal>
         ensures { Does delay_line ask self mem.now self mem.now (silence_reply result) }
     {
-        let n = DelayLine::line_length(self.sample_rate, self.max_delay_secs);
-        let outcome = self.refusal(n, mem.len());
-        effect::silence(outcome, n as usize, mem)
+        effect::silence(self.checked_length(mem.len()), mem)
     }
 
     // Where the glide goes to: the samples held to 1 to n - 1.
@@ -234,6 +244,7 @@ impl DelayLine {
 
     // The distance to read at: the target itself on the first tick after a clearing, later ones glide to it. It stays inside the line by itself, so that
     // no clamp follows.
+    #[tactic(auto, unfolding(crate::specs::DelayLine::glided))]
     fn glided(self, target: f64) -> f64
         ensures { result ≡ glided self.delay_primed self.smoothed_delay self.delay_smooth_coef target }
     {
@@ -260,21 +271,15 @@ impl DelayLine {
     // Causes 4, 3, 5 and 6 of a tick with these numbers, in that order: for a tick that met a NaN.
     fn nan_refusal(
         self,
-        n: u64,
         places: usize,
         time: f64,
         feedback: f64,
         mix: f64,
         milliseconds: f64,
-    ) -> Outcome
-        requires { n ≡ cond (rate_fits self.sample_rate && maximum_fits self.max_delay_secs)
-            (line_length self.sample_rate self.max_delay_secs) 0 }
+    ) -> Result<(), Refusal>
         ensures { number_of result ≡ number_in delay_line (tick (tick_of Unset (Set time) (Set feedback) (Set mix) milliseconds)) places self }
     {
-        let refusal = self.refusal(n, places);
-        if let Outcome::Refused(cause) = refusal {
-            return Outcome::Refused(cause);
-        }
+        self.checked_length(places)?;
         let linear = self.linear_time;
         common::tick_causes(
             (linear & float64::is_nan(time)) | (float64::is_nan(feedback) | float64::is_nan(mix)),
@@ -289,16 +294,14 @@ impl DelayLine {
     {
         DelayLine {
             write_pos: common::next_place(n, self.write_pos),
-            sample_rate: self.sample_rate,
-            max_delay_secs: self.max_delay_secs,
-            linear_time: self.linear_time,
             smoothed_delay: distance,
-            delay_smooth_coef: self.delay_smooth_coef,
             delay_primed: true,
+            ..self
         }
     }
 
     // An accepted tick with its ports' numbers and its delay in samples; n is the length of the line, which is read before the store.
+    #[tactic(auto, using(crate::proofs::Laws::ready))]
     fn advance(
         self,
         n: u64,
@@ -307,7 +310,7 @@ impl DelayLine {
         samples: f64,
         feedback: f64,
         mix: f64,
-    ) -> Ticked
+    ) -> Ticked<DelayLine>
         requires n_value { n ≡ line_length self.sample_rate self.max_delay_secs }
         requires self_fits { state_fits self ≡ true }
         requires n_in_bounds { n ≤ length mem.old }
@@ -325,8 +328,11 @@ impl DelayLine {
         let back = float64::clamp(feedback, 0.0, 0.99);
         let wet = float64::clamp(mix, 0.0, 1.0);
         let w = self.write_pos as usize;
-        let end = n as usize;
-        let delayed = common::read_interpolated(&mem[..end], w, distance);
+        let line = Line {
+            places: &mem[..n as usize],
+            write_pos: w,
+        };
+        let delayed = line.read(distance);
         mem[w] = input + delayed * back;
         let out = common::blend(input, delayed, wet);
         Ticked {
@@ -345,7 +351,7 @@ impl DelayLine {
         feedback: Port,
         mix: Port,
         milliseconds: f64,
-    ) -> Ticked
+    ) -> Ticked<DelayLine>
         ensures { Does delay_line (tick (tick_of audio time feedback mix milliseconds)) self mem.old result.state
             mem.new (answer_reply result.answer) }
     {
@@ -354,23 +360,14 @@ impl DelayLine {
         let feedback = if let Port::Set(x) = feedback { x } else { 0.0 };
         let mix = if let Port::Set(x) = mix { x } else { 0.5 };
         let samples = self.delay_samples(time, milliseconds);
-        let n = DelayLine::line_length(self.sample_rate, self.max_delay_secs);
         if float64::is_nan(samples) | (float64::is_nan(feedback) | float64::is_nan(mix)) {
-            let met = self.nan_refusal(n, mem.len(), time, feedback, mix, milliseconds);
-            if let Outcome::Refused(cause) = met {
-                return Ticked {
-                    state: self,
-                    answer: Answer::Refused(cause),
-                };
-            }
+            let met = self.nan_refusal(mem.len(), time, feedback, mix, milliseconds);
+            return Ticked::refused(self, met.unwrap_err());
         }
-        let refusal = self.refusal(n, mem.len());
-        if let Outcome::Refused(cause) = refusal {
-            return Ticked {
-                state: self,
-                answer: Answer::Refused(cause),
-            };
-        }
+        let n = match self.checked_length(mem.len()) {
+            Ok(n) => n,
+            Err(cause) => return Ticked::refused(self, cause),
+        };
         self.advance(n, mem, audio, samples, feedback, mix)
     }
 }

@@ -5,7 +5,7 @@ use Rattle.delay_line.proofs.DelayLine.glide_fits.Goals as goal
 
 pub returns-then-self : goal.returns-then-self
 unfolding glide_fits of_bits of_int
-returns-then-self c = rw (c.if-self.true, ← c.from_u32.ensures) c.in_range.ensures
+returns-then-self c = rw (c.if-self.true, ← c.from.ensures) c.in_range.ensures
 
 pub returns : goal.returns
 unfolding glide_fits

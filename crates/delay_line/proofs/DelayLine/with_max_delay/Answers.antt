@@ -12,13 +12,13 @@ pub returns : goal.returns
 unfolding of_bits
 returns c =
     let a = c.args in
-    let held = c.held_maximum-maximum.ensures in
-    let outcome = c.settings_refusal-outcome.result in
+    let held = c.held_maximum.ensures in
+    let tested = c.refusal-tested.result in
     let fits = subst (λ (x : Float). maximum_fits x ≡ true) (sym held) (held_fits a.max_delay_secs) in
-    starts-clears delay_line (handing a.sample_rate a.coefficient a.max_delay_secs a.linear) a.mem.now outcome
-    (settings-row a.sample_rate a.coefficient _ (length a.mem.now) fits c.settings_refusal-outcome.ensures
+    starts-clears delay_line (handing a.sample_rate a.coefficient a.max_delay_secs a.linear) a.mem.now tested
+    (settings-row (handing a.sample_rate a.coefficient _ a.linear) (length a.mem.now) fits c.refusal-tested.ensures
     ∙ ap (λ (x : Float). first (settings_number a.sample_rate a.coefficient) (memory_number (line_length a.sample_rate x) (length a.mem.now))) held)
-    (c.settled.ensures.0
-    ∙ (λ i. if_none (number_of outcome) ((c.cleared-next.ensures ∙ ap (λ (x : Float). cleared (handing a.sample_rate a.coefficient x a.linear)) held) i) (c.cleared.ensures i)))
+    (c.settled.ensures.state
+    ∙ (λ i. if_none (number_of tested) ((c.cleared.ensures ∙ ap (λ (x : Float). cleared (handing a.sample_rate a.coefficient x a.linear)) held) i) (c.cleared-2.ensures i)))
     c.clear.ensures
-    c.settled.ensures.1
+    c.settled.ensures.outcome
