@@ -1,9 +1,8 @@
 -- A silent phaser stays silent: a stage that holds zeros puts out a zero for a zero, and holds zeros again. Assumes nothing.
-use Rattle.std.proofs.Common.{◌≡◌, ℕ, zero, suc, ◌-◌, ◌≤◌, ◌<◌, Bool, true, false, cond, ◌&&◌, eqb, List, length, get_or, set, refl, ap, ◌∙◌, arith, length-set}
+use Rattle.std.proofs.Common.{◌≡◌, ℕ, zero, suc, ◌-◌, ◌≤◌, ◌<◌, true, List, get_or, set, refl, arith, length-set}
 use lib.Ieee.{Float, nan, binary64, add, mul, eq, lt, le, neg, of_int, round}
 use lib.Ieee as Ieee
-use Rattle.float64.specs.Number.{plus_zero, float_of, fraction, half, is_number, allpass_fits, clamp_of}
-use Rattle.float64.proofs.Tests.{both, both-true}
+use Rattle.float64.specs.Number.{plus_zero, float_of, half, is_number, allpass_fits, clamp_of}
 use Rattle.float64.proofs.Interval.{in-finite}
 use Rattle.float64.proofs.Ranges.{sine-in}
 use Rattle.float64.proofs.Zeros.{Zero, times-zero, zero-plus, zero-minus}
@@ -29,9 +28,7 @@ Zeros l = are_zeros max_stages l ≡ true
 
 -- with a zero put into it
 put : (l : List Float) (i : ℕ) (x : Float) → Zeros l → Zero x → Zeros (set l i x)
-put l i x z h =
-    let b = both (eqb (length l) max_stages) (all_zero l) z in
-    both-true (ap (λ (n : ℕ). eqb n max_stages) (length-set l i x) ∙ b.0) (zero-put l i x h b.1)
+put l i x z h = grind (arith, length-set {A = Float}, zero-put l i x h)
 
 -- ---- a chain that holds zeros, with a zero on its way through
 
@@ -61,12 +58,7 @@ module _ (coef : Float) (fits : allpass_fits coef ≡ true) where
 
 running : (c : Float) → (1 ≤ stages_at c) × (stages_at c ≤ max_stages)
 unfolding stages_at
-running c = go (lt c (fraction 33 100)) (lt c (fraction 66 100))
-  where
-    go : (a b : Bool) → (1 ≤ cond a 2 (cond b 4 max_stages)) × (cond a 2 (cond b 4 max_stages) ≤ max_stages)
-    go true b = (omega arith, omega arith)
-    go false true = (omega arith, omega arith)
-    go false false = (omega arith, omega arith)
+running c = (grind arith, grind arith)
 
 module _ (t : Tick) (s : Phaser) (m : List Float) (u : SilentTick phaser t s m) where
   k : TickFits t
@@ -81,13 +73,7 @@ module _ (t : Tick) (s : Phaser) (m : List Float) (u : SilentTick phaser t s m) 
 
   quiet-parts : Quiet
   unfolding quiet
-  quiet-parts =
-      let x = are_zeros max_stages s.allpass_x1_l && are_zeros max_stages s.allpass_x1_r in
-      let y = are_zeros max_stages s.allpass_y1_l && are_zeros max_stages s.allpass_y1_r in
-      let b = both x y u.quiet in
-      let i = both (are_zeros max_stages s.allpass_x1_l) (are_zeros max_stages s.allpass_x1_r) b.0 in
-      let o = both (are_zeros max_stages s.allpass_y1_l) (are_zeros max_stages s.allpass_y1_r) b.1 in
-      record { x1_l = i.0; x1_r = i.1; y1_l = o.0; y1_r = o.1 }
+  quiet-parts = let q = u.quiet in record { x1_l = grind arith; x1_r = grind arith; y1_l = grind arith; y1_r = grind arith }
 
   -- a side's chain after the tick
   side : (coef : Float) (x1 y1 : List Float) → allpass_fits coef ≡ true → Zeros x1 → Zeros y1 → Still (chain_after t coef x1 y1)
@@ -111,14 +97,16 @@ module _ (t : Tick) (s : Phaser) (m : List Float) (u : SilentTick phaser t s m) 
   answers : all_zero (samples t s) ≡ true
   unfolding samples all_zero
   answers =
-      let l = plays (left t s) left-still in both-true l (both-true l (both-true (plays (right t s) right-still) refl))
+      let l = plays (left t s) left-still in
+      let r = plays (right t s) right-still in
+      grind arith
 
   next-quiet : quiet (next t s) ≡ true
   unfolding quiet next
   next-quiet =
       let l = left-still in
       let r = right-still in
-      both-true (both-true l.x1 r.x1) (both-true l.y1 r.y1)
+      grind arith
 
 fresh-quiet : (rate : Float) → quiet (fresh rate) ≡ true
 unfolding quiet all_zero eq

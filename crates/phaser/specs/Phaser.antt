@@ -11,6 +11,11 @@ use Rattle.common.specs.Signal.{sanitized, blended, advanced, cause_number}
 use Rattle.common.specs.Line.{zeros, are_zeros}
 use Rattle.effect.specs.Effect.{Effect}
 use Rattle.phaser.specs.declared.Phaser.{Phaser}
+use Rattle.phaser.specs.declared.Lent.{Lent}
+use Rattle.phaser.specs.declared.allpass.Chain as lent
+use Rattle.phaser.specs.declared.allpass.Chains.{Chains}
+use Rattle.phaser.specs.declared.stages.Stages.{Stages}
+use Rattle.phaser.specs.declared.stages.Stages.TheVariants.{Two, Four, Six}
 use Rattle.phaser.specs.Allpass.{Chain, chain_of, passed}
 
 -- what a tick is handed: its ports, and the curve numbers frequency and the all-pass coefficient of each side
@@ -33,6 +38,27 @@ tick_of audio feedback mix stages frequency left right =
 abbrev pub state_of : List Float → List Float → List Float → List Float → Float → Float → Phaser
 state_of x1l x1r y1l y1r phase rate =
     record { allpass_x1_l = x1l; allpass_x1_r = x1r; allpass_y1_l = y1l; allpass_y1_r = y1r; lfo_phase = phase; sample_rate = rate }
+
+-- a side's lent chain, and the signal on its way through
+abbrev pub carrying : lent.Chain → Float → Chain
+carrying c signal = chain_of c.x1.now c.y1.now signal
+
+-- what is lent, as a state
+abbrev pub lent_state : Lent → Phaser
+lent_state l = state_of l.chains.left.x1.now l.chains.right.x1.now l.chains.left.y1.now l.chains.right.y1.now l.lfo_phase.now l.sample_rate
+
+-- the chains of c' lie where those of c do
+pub record SameChains (c c' : Chains) : Type 0 where
+  pub left_x1 : c'.left.x1.ghost_name ≡ c.left.x1.ghost_name
+  pub left_y1 : c'.left.y1.ghost_name ≡ c.left.y1.ghost_name
+  pub right_x1 : c'.right.x1.ghost_name ≡ c.right.x1.ghost_name
+  pub right_y1 : c'.right.y1.ghost_name ≡ c.right.y1.ghost_name
+
+-- the parts of l' lie where those of l do, and its rate is that of l
+pub record SameParts (l l' : Lent) : Type 0 where
+  pub chains : SameChains l.chains l'.chains
+  pub lfo_phase : l'.lfo_phase.ghost_name ≡ l.lfo_phase.ghost_name
+  pub sample_rate : l'.sample_rate ≡ l.sample_rate
 
 -- all-passes of each chain
 abbrev pub max_stages : ℕ
@@ -76,11 +102,11 @@ mix t = clamp_of (value_or t.mix half) plus_zero (float_of 1)
 unfoldable pub stages_at : Float → ℕ
 stages_at control = cond (lt control (fraction 33 100)) 2 (cond (lt control (fraction 66 100)) 4 max_stages)
 
--- no other count
-pub data TwoFourOrSix : ℕ → Type 0 where
-  two : TwoFourOrSix 2
-  four : TwoFourOrSix 4
-  six : TwoFourOrSix 6
+-- how many the code's cases are
+abbrev pub count : Stages → ℕ
+count Two = 2
+count Four = 4
+count Six = 6
 
 abbrev pub stages : Tick → ℕ
 stages t = stages_at (clamp_of (value_or t.stages (float_of 1)) plus_zero (float_of 1))

@@ -1,94 +1,95 @@
 // First-order all-passes, one after the other: a chain, of which the first stages run.
-ghost use Rattle.std.specs.Prelude.{◌≡◌, ◌+◌, ◌<◌, ◌≤◌, length};
-ghost use Rattle.phaser.specs.Allpass.{allpassed, chain_of, stage, passed};
-ghost use Rattle.phaser.specs.Phaser.{max_stages, TwoFourOrSix};
+ghost use Rattle.std.specs.Prelude.{◌≡◌, ◌+◌, ◌<◌};
+ghost use Rattle.phaser.specs.Allpass.{allpassed, stage, passed};
+ghost use Rattle.phaser.specs.Phaser.{max_stages, carrying, SameChains, count, fed};
 
-// A number of each side.
-#[derive(Clone, Copy)]
-pub struct Sides {
-    pub left: f64,
-    pub right: f64,
-}
+use crate::stages::Stages;
+use common::Sides;
 
 // What one all-pass puts out. Its magnitude is flat: only the phase turns.
+#[tactic(auto, unfolding(crate::specs::Allpass::allpassed))]
 fn allpass(input: f64, x1: f64, y1: f64, coef: f64) -> f64
     ensures { result ≡ allpassed coef input x1 y1 }
 {
     coef * input + x1 - coef * y1
 }
 
-// A signal on each side through stage i of its chain, which holds on to what went in and what came out.
-fn stage(
-    x1_l: &mut [f64],
-    x1_r: &mut [f64],
-    y1_l: &mut [f64],
-    y1_r: &mut [f64],
-    i: usize,
-    coef: Sides,
-    input: Sides,
-) -> Sides
-    requires x1_l_len { i < length x1_l.old }
-    requires x1_r_len { i < length x1_r.old }
-    requires y1_l_len { i < length y1_l.old }
-    requires y1_r_len { i < length y1_r.old }
-    ensures left { chain_of x1_l.new y1_l.new result.left ≡ stage coef.left i (chain_of x1_l.old y1_l.old input.left) }
-    ensures right { chain_of x1_r.new y1_r.new result.right ≡ stage coef.right i (chain_of x1_r.old y1_r.old input.right) }
-{
-    let left = allpass(input.left, x1_l[i], y1_l[i], coef.left);
-    let right = allpass(input.right, x1_r[i], y1_r[i], coef.right);
-    x1_l[i] = input.left;
-    x1_r[i] = input.right;
-    y1_l[i] = left;
-    y1_r[i] = right;
-    Sides { left, right }
+// A side's chain, lent: of each all-pass its last input x1 and its last output y1.
+#[derive(Drop)]
+pub struct Chain<'a> {
+    pub x1: &'a mut [f64; 6],
+    pub y1: &'a mut [f64; 6],
 }
 
-// Through stage i and the next one.
-fn two_stages(
-    x1_l: &mut [f64],
-    x1_r: &mut [f64],
-    y1_l: &mut [f64],
-    y1_r: &mut [f64],
-    i: usize,
-    coef: Sides,
-    input: Sides,
-) -> Sides
-    requires x1_l_len { i + 1 < length x1_l.old }
-    requires x1_r_len { i + 1 < length x1_r.old }
-    requires y1_l_len { i + 1 < length y1_l.old }
-    requires y1_r_len { i + 1 < length y1_r.old }
-    ensures left { chain_of x1_l.new y1_l.new result.left ≡ stage coef.left (i + 1) (stage coef.left i (chain_of x1_l.old y1_l.old input.left)) }
-    ensures right { chain_of x1_r.new y1_r.new result.right ≡ stage coef.right (i + 1) (stage coef.right i (chain_of x1_r.old y1_r.old input.right)) }
-{
-    let first = stage(x1_l, x1_r, y1_l, y1_r, i, coef, input);
-    stage(x1_l, x1_r, y1_l, y1_r, i + 1, coef, first)
+// The chains of both sides.
+#[derive(Drop)]
+pub struct Chains<'a> {
+    pub left: Chain<'a>,
+    pub right: Chain<'a>,
 }
 
-// Through the first two, four or six. Written out: in a loop a tick took 28 instructions more.
-pub fn pass(
-    x1_l: &mut [f64],
-    x1_r: &mut [f64],
-    y1_l: &mut [f64],
-    y1_r: &mut [f64],
-    stages: usize,
-    coef: Sides,
-    input: Sides,
-) -> Sides
-    requires stages_value { TwoFourOrSix stages }
-    requires x1_l_len { length x1_l.old ≡ max_stages }
-    requires x1_r_len { length x1_r.old ≡ max_stages }
-    requires y1_l_len { length y1_l.old ≡ max_stages }
-    requires y1_r_len { length y1_r.old ≡ max_stages }
-    ensures left { chain_of x1_l.new y1_l.new result.left ≡ passed coef.left stages (chain_of x1_l.old y1_l.old input.left) }
-    ensures right { chain_of x1_r.new y1_r.new result.right ≡ passed coef.right stages (chain_of x1_r.old y1_r.old input.right) }
-{
-    let second = two_stages(x1_l, x1_r, y1_l, y1_r, 0, coef, input);
-    if stages == 2 {
-        return second;
+impl Chains<'_> {
+    // A signal on each side through stage i of its chain, which holds on to what went in and what came out.
+    // Both sides in one function: so the compiler does two operations at a time, and with a function of one side a tick took 187 instructions in place of 179.
+    #[tactic(auto, unfolding(crate::specs::Allpass::stage))]
+    fn stage(&mut self, i: usize, coef: Sides<f64>, input: Sides<f64>) -> Sides<f64>
+        requires { i < max_stages }
+        ensures same { SameChains self.old self.new }
+        ensures left { carrying self.new.left result.left ≡ stage coef.left i (carrying self.old.left input.left) }
+        ensures right { carrying self.new.right result.right ≡ stage coef.right i (carrying self.old.right input.right) }
+    {
+        let left = allpass(input.left, self.left.x1[i], self.left.y1[i], coef.left);
+        let right = allpass(input.right, self.right.x1[i], self.right.y1[i], coef.right);
+        self.left.x1[i] = input.left;
+        self.right.x1[i] = input.right;
+        self.left.y1[i] = left;
+        self.right.y1[i] = right;
+        Sides { left, right }
     }
-    let fourth = two_stages(x1_l, x1_r, y1_l, y1_r, 2, coef, second);
-    if stages == 4 {
-        return fourth;
+
+    // Through stage i and the next one.
+    fn two_stages(&mut self, i: usize, coef: Sides<f64>, input: Sides<f64>) -> Sides<f64>
+        requires { i + 1 < max_stages }
+        ensures same { SameChains self.old self.new }
+        ensures left { carrying self.new.left result.left ≡ stage coef.left (i + 1) (stage coef.left i (carrying self.old.left input.left)) }
+        ensures right { carrying self.new.right result.right ≡ stage coef.right (i + 1) (stage coef.right i (carrying self.old.right input.right)) }
+    {
+        let first = self.stage(i, coef, input);
+        self.stage(i + 1, coef, first)
     }
-    two_stages(x1_l, x1_r, y1_l, y1_r, 4, coef, fourth)
+
+    // Through the first two, four or six. Written out: in a loop a tick took 28 instructions more.
+    #[tactic(auto, unfolding(crate::specs::Allpass::passed))]
+    fn pass(&mut self, stages: Stages, coef: Sides<f64>, input: Sides<f64>) -> Sides<f64>
+        ensures same { SameChains self.old self.new }
+        ensures left { carrying self.new.left result.left ≡ passed coef.left (count stages) (carrying self.old.left input.left) }
+        ensures right { carrying self.new.right result.right ≡ passed coef.right (count stages) (carrying self.old.right input.right) }
+    {
+        let second = self.two_stages(0, coef, input);
+        if stages == Stages::Two {
+            return second;
+        }
+        let fourth = self.two_stages(2, coef, second);
+        if stages == Stages::Four {
+            return fourth;
+        }
+        self.two_stages(4, coef, fourth)
+    }
+
+    // What the chains put out. Into each goes the input, with what the last stage that runs put out before times the feedback.
+    #[tactic(auto, unfolding(crate::specs::Phaser::fed))]
+    pub fn run(&mut self, stages: Stages, coef: Sides<f64>, input: f64, feedback: f64) -> Sides<f64>
+        ensures same { SameChains self.old self.new }
+        ensures left { carrying self.new.left result.left
+            ≡ passed coef.left (count stages) (carrying self.old.left (fed input feedback (count stages) self.old.left.y1.now)) }
+        ensures right { carrying self.new.right result.right
+            ≡ passed coef.right (count stages) (carrying self.old.right (fed input feedback (count stages) self.old.right.y1.now)) }
+    {
+        let last = stages.count() - 1;
+        let entering = Sides {
+            left: input + self.left.y1[last] * feedback,
+            right: input + self.right.y1[last] * feedback,
+        };
+        self.pass(stages, coef, entering)
+    }
 }

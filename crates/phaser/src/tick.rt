@@ -1,95 +1,47 @@
 // A tick: the numbers that it takes from its ports, its tests, and what it does to the chains and the phase.
 ghost use Rattle.std.specs.Prelude.{◌≡◌, ◌≤◌, []};
-ghost use Rattle.float64.specs.Number.{plus_zero, float_of, clamp_of};
 ghost use Rattle.port.specs.declared.Port.TheVariants.{Set};
 ghost use Rattle.port.specs.Answer.{answer_reply};
 ghost use Rattle.effect.specs.Run.{tick};
-ghost use Rattle.effect.specs.Contract.{Does, lent_at, from_to};
-ghost use Rattle.phaser.specs.Phaser.{phaser, tick_of, state_of, stages_at, TwoFourOrSix, fed, Advances};
+ghost use Rattle.effect.specs.Contract.{Does};
+ghost use Rattle.phaser.specs.Phaser.{phaser, tick_of, lent_state, SameParts, Advances};
 
-use crate::allpass::{Sides, pass};
-use crate::{Phaser, Ticked};
-use port::{Answer, Outcome, Port, Refusal};
+use crate::allpass::{Chain, Chains};
+use crate::stages::Stages;
+use crate::{Lent, Phaser};
+use common::Sides;
+use effect::Ticked;
+use port::{Answer, Port, Refusal};
 
-// How many stages run: 2, 4 or 6. A clamp to 0 to 1 before, as the Rust's, would move no control over either threshold.
-fn stages_at(control: f64) -> usize
-    ensures value { result ≡ stages_at (clamp_of control plus_zero (float_of 1)) }
-    ensures count { TwoFourOrSix result }
-{
-    if control < 0.33 {
-        2
-    } else if control < 0.66 {
-        4
-    } else {
-        Phaser::MAX_STAGES
+impl Lent<'_> {
+    // An accepted tick, with the numbers that it takes from its ports.
+    fn advance(
+        &mut self,
+        audio: f64,
+        feedback: f64,
+        mix: f64,
+        stages: f64,
+        frequency: f64,
+        coef: Sides<f64>,
+    ) -> Answer
+        ensures same { SameParts self.old self.new }
+        ensures advances { Advances (tick_of (Set audio) (Set feedback) (Set mix) (Set stages) frequency coef.left coef.right)
+            (lent_state self.old) (lent_state self.new) (answer_reply result) }
+    {
+        let input = common::sanitize_audio(audio);
+        let back = float64::clamp(feedback, -0.95, 0.95);
+        let share = float64::clamp(mix, 0.0, 1.0);
+        let wet = self.chains.run(Stages::at(stages), coef, input, back);
+        *self.lfo_phase = common::advance_phase(*self.lfo_phase, frequency / self.sample_rate);
+        let left = common::blend(input, wet.left, share);
+        let right = common::blend(input, wet.right, share);
+        Answer::Three(left, left, right)
     }
-}
 
-// What goes into a chain: the input, with what the last stage that runs put out before times the feedback.
-fn fed(input: f64, feedback: f64, stages: usize, y1: &[f64; 6]) -> f64
-    requires { TwoFourOrSix stages }
-    ensures { result ≡ fed input feedback stages y1.now }
-{
-    input + y1[stages - 1] * feedback
-}
-
-// An accepted tick, with the numbers that it takes from its ports.
-fn advance(
-    allpass_x1_l: &mut [f64; 6],
-    allpass_x1_r: &mut [f64; 6],
-    allpass_y1_l: &mut [f64; 6],
-    allpass_y1_r: &mut [f64; 6],
-    lfo_phase: &mut f64,
-    rate: f64,
-    audio: f64,
-    feedback: f64,
-    mix: f64,
-    stages: f64,
-    frequency: f64,
-    coef_l: f64,
-    coef_r: f64,
-) -> Answer
-    ensures { from_to (λ k. state_of (lent_at allpass_x1_l k) (lent_at allpass_x1_r k) (lent_at allpass_y1_l k) (lent_at allpass_y1_r k)
-        (lent_at lfo_phase k) rate)
-        (λ s s'. Advances (tick_of (Set audio) (Set feedback) (Set mix) (Set stages) frequency coef_l coef_r) s s' (answer_reply result)) }
-{
-    let input = common::sanitize_audio(audio);
-    let back = float64::clamp(feedback, -0.95, 0.95);
-    let share = float64::clamp(mix, 0.0, 1.0);
-    let n = stages_at(stages);
-    let coef = Sides {
-        left: coef_l,
-        right: coef_r,
-    };
-    let entering = Sides {
-        left: fed(input, back, n, allpass_y1_l),
-        right: fed(input, back, n, allpass_y1_r),
-    };
-    let wet = pass(
-        allpass_x1_l,
-        allpass_x1_r,
-        allpass_y1_l,
-        allpass_y1_r,
-        n,
-        coef,
-        entering,
-    );
-    *lfo_phase = common::advance_phase(*lfo_phase, frequency / rate);
-    let left = common::blend(input, wet.left, share);
-    let right = common::blend(input, wet.right, share);
-    Answer::Three(left, left, right)
-}
-
-impl Phaser {
-    // One sample, on a state that is lent in its parts: it is moved where it lies, and left as it was by a tick that is refused. A state by value would be
-    // copied whole, in and out, at each tick. Frequency and coefficients are the host's curve numbers.
-    pub fn tick_in_place(
-        allpass_x1_l: &mut [f64; 6],
-        allpass_x1_r: &mut [f64; 6],
-        allpass_y1_l: &mut [f64; 6],
-        allpass_y1_r: &mut [f64; 6],
-        lfo_phase: &mut f64,
-        rate: f64,
+    // One sample. A tick that is refused leaves the state as it was. Frequency and coefficients are the host's curve numbers.
+    #[tactic(auto, unfolding(crate::specs::Phaser::state_fits))]
+    pub fn tick(
+        &mut self,
         audio: Port,
         feedback: Port,
         mix: Port,
@@ -98,11 +50,10 @@ impl Phaser {
         coef_l: f64,
         coef_r: f64,
     ) -> Answer
-        ensures { from_to (λ k. state_of (lent_at allpass_x1_l k) (lent_at allpass_x1_r k) (lent_at allpass_y1_l k) (lent_at allpass_y1_r k)
-            (lent_at lfo_phase k) rate)
-            (λ s s'. Does phaser (tick (tick_of audio feedback mix stages frequency coef_l coef_r)) s [] s' [] (answer_reply result)) }
+        ensures same { SameParts self.old self.new }
+        ensures does { Does phaser (tick (tick_of audio feedback mix stages frequency coef_l coef_r)) (lent_state self.old) [] (lent_state self.new) [] (answer_reply result) }
     {
-        if !Phaser::fits(rate, *lfo_phase) {
+        if !Phaser::fits(self.sample_rate, *self.lfo_phase) {
             return Answer::Refused(Refusal::State);
         }
         let audio = if let Port::Set(x) = audio { x } else { 0.0 };
@@ -114,29 +65,21 @@ impl Phaser {
             float64::frequency_fits(frequency)
                 & (float64::allpass_fits(coef_l) & float64::allpass_fits(coef_r)),
         );
-        if let Outcome::Refused(cause) = causes {
+        if let Err(cause) = causes {
             return Answer::Refused(cause);
         }
-        advance(
-            allpass_x1_l,
-            allpass_x1_r,
-            allpass_y1_l,
-            allpass_y1_r,
-            lfo_phase,
-            rate,
-            audio,
-            feedback,
-            mix,
-            stages,
-            frequency,
-            coef_l,
-            coef_r,
-        )
+        let coef = Sides {
+            left: coef_l,
+            right: coef_r,
+        };
+        self.advance(audio, feedback, mix, stages, frequency, coef)
     }
+}
 
+impl Phaser {
     // One sample.
     pub fn tick(
-        self,
+        mut self,
         audio: Port,
         feedback: Port,
         mix: Port,
@@ -144,38 +87,26 @@ impl Phaser {
         frequency: f64,
         coef_l: f64,
         coef_r: f64,
-    ) -> Ticked
+    ) -> Ticked<Phaser>
         ensures { Does phaser (tick (tick_of audio feedback mix stages frequency coef_l coef_r)) self [] result.state [] (answer_reply result.answer) }
     {
-        let mut allpass_x1_l = self.allpass_x1_l;
-        let mut allpass_x1_r = self.allpass_x1_r;
-        let mut allpass_y1_l = self.allpass_y1_l;
-        let mut allpass_y1_r = self.allpass_y1_r;
-        let mut lfo_phase = self.lfo_phase;
-        let answer = Phaser::tick_in_place(
-            &mut allpass_x1_l,
-            &mut allpass_x1_r,
-            &mut allpass_y1_l,
-            &mut allpass_y1_r,
-            &mut lfo_phase,
-            self.sample_rate,
-            audio,
-            feedback,
-            mix,
-            stages,
-            frequency,
-            coef_l,
-            coef_r,
-        );
-        Ticked {
-            state: Phaser {
-                allpass_x1_l,
-                allpass_x1_r,
-                allpass_y1_l,
-                allpass_y1_r,
-                lfo_phase,
-                sample_rate: self.sample_rate,
+        let mut lent = Lent {
+            chains: Chains {
+                left: Chain {
+                    x1: &mut self.allpass_x1_l,
+                    y1: &mut self.allpass_y1_l,
+                },
+                right: Chain {
+                    x1: &mut self.allpass_x1_r,
+                    y1: &mut self.allpass_y1_r,
+                },
             },
+            lfo_phase: &mut self.lfo_phase,
+            sample_rate: self.sample_rate,
+        };
+        let answer = lent.tick(audio, feedback, mix, stages, frequency, coef_l, coef_r);
+        Ticked {
+            state: self,
             answer,
         }
     }
