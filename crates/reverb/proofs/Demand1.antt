@@ -13,8 +13,8 @@ use Rattle.effect.proofs.Demand1.{demand-1}
 use Rattle.reverb.specs.declared.tick.Controls.{Controls}
 use Rattle.reverb.specs.declared.Reverb.{Reverb}
 use Rattle.reverb.specs.Tunings.{Side, left, right, predelay_size, comb_most, allpass_most, comb_tunings, allpass_tunings, tuned}
-use Rattle.reverb.specs.Tank.{comb_start, allpass_start, place_of, next_position, by_sides, combs_held, comb_write, allpasses_held, allpass_write}
-use Rattle.reverb.specs.Reverb.{reverb, combs, stores, allpasses, fresh, blank, state_fits, controls_of, damping, feedback, predelayed, summed, next, writes}
+use Rattle.reverb.specs.Tank.{place_of, next_position, by_sides, comb_write, allpass_write}
+use Rattle.reverb.specs.Reverb.{reverb, combs, allpasses, fresh, blank, state_fits, controls_of, comb_writes, allpass_writes, next, writes}
 use Rattle.reverb.proofs.Scaling.{lines-some}
 use Rattle.reverb.proofs.Used.{in_order, comb-used, pass-used, predelay-used}
 use Rattle.reverb.proofs.Lists.{next-below}
@@ -47,8 +47,8 @@ unfolding next next_position
 next_fits c s m e =
     let u = next c s m in
     let f = fits-parts s e in
-    let comb : (side : Side) → _ = λ side. next-below ((combs s).positions side) ((combs s).lengths side) (f.combs.inside side) in
-    let pass : (side : Side) → _ = λ side. next-below ((allpasses s).positions side) ((allpasses s).lengths side) (f.allpasses.inside side) in
+    let comb : (side : Side) → _ = λ side. next-below (combs s side).positions (combs s side).lengths (f.combs side).inside in
+    let pass : (side : Side) → _ = λ side. next-below (allpasses s side).positions (allpasses s side).lengths (f.allpasses side).inside in
     fit u
     (record {
       rate = f.rate;
@@ -66,23 +66,19 @@ each-side P f (suc k) h =
     each-append P (by_sides f k) (f k left ∷ f k right ∷ []) (each-side P f k (λ i l. h i (omega arith))) (h k (omega arith) left, (h k (omega arith) right, tt))
 
 -- the places of combs and all-passes are in use
-pub comb_in : (s : Reverb) → Fits s → (i : ℕ) → i < 8 → (side : Side) → InUse reverb s.sample_rate (place_of comb_start (combs s) side i)
-comb_in s f i h left = comb-used s.sample_rate left i _ h (line-below f.combs left i h).0
-comb_in s f i h right = comb-used s.sample_rate right i _ h (line-below f.combs right i h).0
+pub comb_in : (s : Reverb) → Fits s → (i : ℕ) → i < 8 → (side : Side) → InUse reverb s.sample_rate (place_of (combs s side) i)
+comb_in s f i h side = comb-used s.sample_rate side i _ h (line-below (f.combs side) i h).0
 
-pub pass_in : (s : Reverb) → Fits s → (i : ℕ) → i < 4 → (side : Side) → InUse reverb s.sample_rate (place_of allpass_start (allpasses s) side i)
-pass_in s f i h left = pass-used s.sample_rate left i _ h (line-below f.allpasses left i h).0
-pass_in s f i h right = pass-used s.sample_rate right i _ h (line-below f.allpasses right i h).0
+pub pass_in : (s : Reverb) → Fits s → (i : ℕ) → i < 4 → (side : Side) → InUse reverb s.sample_rate (place_of (allpasses s side) i)
+pass_in s f i h side = pass-used s.sample_rate side i _ h (line-below (f.allpasses side) i h).0
 
 inside : (c : Controls) (s : Reverb) (m : List Float) → state_fits s ≡ true → Within (InUse reverb s.sample_rate) (writes c s m)
 unfolding writes comb_write allpass_write
 inside c s m e =
     let f = fits-parts s e in
-    let used : Write → Type 0 = λ w. InUse reverb s.sample_rate w.place in
-    let comb = comb_write (predelayed c s m) (damping c) (feedback c) (combs s) (stores s) (combs_held (combs s) m) in
-    let pass = allpass_write (summed s m) (allpasses s) (allpasses_held (allpasses s) m) in (
+    let used : Write → Type 0 = λ w. InUse reverb s.sample_rate w.place in (
       predelay-used s.sample_rate s.predelay_pos f.predelay,
-      each-append used (by_sides comb 8) (by_sides pass 4) (each-side used comb 8 (comb_in s f)) (each-side used pass 4 (pass_in s f)),
+      each-append used (by_sides (comb_writes c s m) 8) (by_sides (allpass_writes s m) 4) (each-side used (comb_writes c s m) 8 (comb_in s f)) (each-side used (allpass_writes s m) 4 (pass_in s f)),
     )
 
 pub laws : Laws reverb

@@ -1,5 +1,5 @@
 -- The reverb's state test by its parts, and the table's row of a tick. Assumes nothing.
-use Rattle.std.proofs.Common.{◌≡◌, ◌<◌, Bool, true, false, cond, ◌&&◌, ◌||◌, ltb, length, replicate, refl, ap, ltb-true, lt-ltb}
+use Rattle.std.proofs.Common.{◌≡◌, ◌<◌, Bool, true, false, cond, ◌&&◌, ◌||◌, ltb, replicate, refl, ap, ltb-true, lt-ltb}
 use Rattle.float64.specs.Number.{rate_fits}
 use Rattle.float64.proofs.Tests.{both}
 use Rattle.port.specs.Port.{is_nan_set}
@@ -7,52 +7,38 @@ use Rattle.common.proofs.Sweep.{neither}
 use Rattle.effect.proofs.Table.{none_5}
 use Rattle.reverb.specs.declared.tunings.Lengths.{Lengths}
 use Rattle.reverb.specs.declared.Reverb.{Reverb}
-use Rattle.reverb.specs.Tunings.{Side, left, right, comb_most, allpass_most, predelay_size, lengths_at, no_lengths, lengths_for}
-use Rattle.reverb.specs.Tank.{SidedLines, all_below, positions_fit, InLines}
+use Rattle.reverb.specs.Tunings.{Side, left, right, comb_most, allpass_most, predelay_size, comb_tunings, allpass_tunings, lengths_at, no_lengths, lengths_for}
+use Rattle.reverb.specs.Tank.{Lines, all_below, positions_fit, InLines}
 use Rattle.reverb.specs.Reverb.{Tick, combs, allpasses, state_fits, tick_number}
 use mathlib.Core.Bool.{and-false}
 use Rattle.reverb.proofs.Lists.{below-zero}
-use Rattle.reverb.proofs.Scaling.{roomy}
+use Rattle.reverb.proofs.Scaling.{lines-most}
 
 pub record Fits (s : Reverb) : Type 0 where
   pub rate : rate_fits s.sample_rate ≡ true
   pub predelay : s.predelay_pos < predelay_size
-  pub combs : InLines 8 comb_most (combs s)
-  pub allpasses : InLines 4 allpass_most (allpasses s)
+  pub combs : (side : Side) → InLines 8 comb_most (combs s side)
+  pub allpasses : (side : Side) → InLines 4 allpass_most (allpasses s side)
 
 module _ (s : Reverb) where
   -- the tests of positions
-  abbrev below : SidedLines → Side → Bool
-  below l side = all_below (l.positions side) (l.lengths side)
+  abbrev below : Lines → Bool
+  below l = all_below l.positions l.lengths
 
   abbrev side_below : Side → Bool
-  side_below side = below (combs s) side && below (allpasses s) side
+  side_below side = below (combs s side) && below (allpasses s side)
 
   abbrev inside : Bool
   inside = ltb s.predelay_pos predelay_size && (side_below left && side_below right)
 
   -- the lines of a state with such positions
-  pub combs-in : below (combs s) left ≡ true → below (combs s) right ≡ true → InLines 8 comb_most (combs s)
-  combs-in l r = record { counted = each; inside = under; capped = (roomy s.sample_rate refl).combs }
-    where
-      each : (side : Side) → length ((combs s).lengths side) ≡ 8
-      each left = refl
-      each right = refl
+  pub combs-in : below (combs s left) ≡ true → below (combs s right) ≡ true → (side : Side) → InLines 8 comb_most (combs s side)
+  combs-in l r left = record { counted = refl; inside = l; capped = lines-most comb_most comb_tunings left s.sample_rate }
+  combs-in l r right = record { counted = refl; inside = r; capped = lines-most comb_most comb_tunings right s.sample_rate }
 
-      under : (side : Side) → below (combs s) side ≡ true
-      under left = l
-      under right = r
-
-  pub allpasses-in : below (allpasses s) left ≡ true → below (allpasses s) right ≡ true → InLines 4 allpass_most (allpasses s)
-  allpasses-in l r = record { counted = each; inside = under; capped = (roomy s.sample_rate refl).allpasses }
-    where
-      each : (side : Side) → length ((allpasses s).lengths side) ≡ 4
-      each left = refl
-      each right = refl
-
-      under : (side : Side) → below (allpasses s) side ≡ true
-      under left = l
-      under right = r
+  pub allpasses-in : below (allpasses s left) ≡ true → below (allpasses s right) ≡ true → (side : Side) → InLines 4 allpass_most (allpasses s side)
+  allpasses-in l r left = record { counted = refl; inside = l; capped = lines-most allpass_most allpass_tunings left s.sample_rate }
+  allpasses-in l r right = record { counted = refl; inside = r; capped = lines-most allpass_most allpass_tunings right s.sample_rate }
 
   pub fits-parts : state_fits s ≡ true → Fits s
   unfolding state_fits
@@ -60,8 +46,8 @@ module _ (s : Reverb) where
       let a = both (rate_fits s.sample_rate) inside e in
       let c = both (ltb s.predelay_pos predelay_size) (side_below left && side_below right) a.1 in
       let d = both (side_below left) (side_below right) c.1 in
-      let l = both (below (combs s) left) (below (allpasses s) left) d.0 in
-      let r = both (below (combs s) right) (below (allpasses s) right) d.1 in
+      let l = both (below (combs s left)) (below (allpasses s left)) d.0 in
+      let r = both (below (combs s right)) (below (allpasses s right)) d.1 in
       record {
         rate = a.0;
         predelay = ltb-true s.predelay_pos predelay_size c.0;
@@ -72,8 +58,8 @@ module _ (s : Reverb) where
   pub fit : Fits s → state_fits s ≡ true
   unfolding state_fits
   fit f =
-      let c = f.combs.inside in
-      let p = f.allpasses.inside in
+      let c : (side : Side) → below (combs s side) ≡ true = λ side. (f.combs side).inside in
+      let p : (side : Side) → below (allpasses s side) ≡ true = λ side. (f.allpasses side).inside in
       rw (f.rate, lt-ltb s.predelay_pos predelay_size f.predelay, c left, c right, p left, p right)
 
   -- by the positions and every line's length as the code finds it

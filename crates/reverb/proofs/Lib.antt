@@ -1,4 +1,5 @@
 pub mod Lists
+pub mod Chunks
 pub mod Scaling
 pub mod Predelay
 pub mod Laws

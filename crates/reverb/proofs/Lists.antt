@@ -1,6 +1,8 @@
 -- Tests over lists of positions and lengths, entry by entry: positions below their lengths, and lines that are zeros. Assumes nothing.
-use Rattle.std.proofs.Common.{◌≡◌, ℕ, zero, suc, ◌+◌, ◌-◌, ◌*◌, ◌<◌, ◌≤◌, true, false, ◌&&◌, ltb, List, [], ◌∷◌, length, get_or, take, drop, refl, ap, le_of_suc-le-suc, not-suc-le-zero, suc-mul, add-one, arith, drop-cons, ltb-true, le-ltb, lt-ltb}
+use Rattle.std.proofs.Common.{◌≡◌, ℕ, zero, suc, ◌+◌, ◌-◌, ◌*◌, ◌<◌, ◌≤◌, Bool, true, false, ◌&&◌, ltb, List, [], ◌∷◌, length, get_or, take, drop, fold, refl, sym, ◌∙◌, ap, le_of_suc-le-suc, not-suc-le-zero, suc-mul, add-one, arith, drop-cons, ltb-true, le-ltb, lt-ltb}
 use lib.Ieee.{Float}
+use mathlib.Core.Bool.{and_assoc, and-true}
+use Rattle.std.specs.List.{zip}
 use Rattle.float64.proofs.Tests.{both, clash}
 use Rattle.common.specs.Line.{next_place, table, all_zero}
 use Rattle.common.proofs.Ring.{next-lt}
@@ -26,11 +28,13 @@ below-long [] (n ∷ ns) e = clash e refl
 below-long (w ∷ ws) [] e = clash e refl
 below-long (w ∷ ws) (n ∷ ns) e = ap suc (below-long ws ns (both (ltb w n) (all_below ws ns) e).1)
 
--- one entry more
-pub below_more : (ws ns : List ℕ) (i : ℕ) → i < length ws → i < length ns
-    → all_below (drop i ws) (drop i ns) ≡ ltb (get_or ws i 0) (get_or ns i 0) && all_below (drop (i + 1) ws) (drop (i + 1) ns)
+-- found in one pass over both, from what was found before
+pub below-folded : (b : Bool) (ws ns : List ℕ) → length ws ≡ length ns → fold (λ (a : Bool) (p : ℕ × ℕ). a && ltb p.0 p.1) b (zip ws ns) ≡ b && all_below ws ns
 unfolding all_below
-below_more ws ns i h k = rw (drop-cons ws i 0 h, drop-cons ns i 0 k, add-one i)
+below-folded b [] [] e = sym (and-true b)
+below-folded b [] (n ∷ ns) e = absurd (omega arith)
+below-folded b (w ∷ ws) [] e = absurd (omega arith)
+below-folded b (w ∷ ws) (n ∷ ns) e = below-folded (b && ltb w n) ws ns (omega arith) ∙ and_assoc b (ltb w n) (all_below ws ns)
 
 -- no position lies below a length of 0
 pub below-zero : (ws ns : List ℕ) → all_below ws (0 ∷ ns) ≡ false

@@ -23,7 +23,7 @@ use Rattle.reverb.specs.declared.tick.Controls.{Controls}
 use Rattle.reverb.specs.declared.Reverb.{Reverb}
 use Rattle.reverb.specs.Tunings.{Side, left, right, predelay_size, lengths_at}
 use Rattle.reverb.specs.Freeverb.{comb_store, comb_fed, pass_output, pass_fed}
-use Rattle.reverb.specs.Tank.{SidedLines, comb_start, allpass_start, predelay_start, tank_size, place_of, held, combs_held, sum_of, comb_stored, comb_write, allpasses_held, passed_on, allpass_write, delayed, parts}
+use Rattle.reverb.specs.Tank.{Lines, predelay_start, tank_size, place_of, held, by_sides, combs_held, sum_of, comb_stored, comb_write, allpasses_held, passed_on, allpass_write, delayed, parts}
 use Rattle.reverb.specs.Reverb.{Tick, reverb, combs, stores, allpasses, fresh, quiet, controls_of, input, feedback, damping, mix, delay_by, predelayed, summed, wet, comb_writes, allpass_writes, writes, next, samples}
 use Rattle.reverb.proofs.Laws.{Fits, fits-parts, TickFits, tick-fits}
 use Rattle.reverb.proofs.Used.{in_order, predelay-used}
@@ -81,18 +81,17 @@ module _ (t : Tick) (s : Reverb) (m : List Float) (u : SilentTick reverb t s m) 
   n = tick-fits t u.number
 
   -- what the places of lines hold that are in use
-  held-zero : (start : Side → ℕ → ℕ) (k : ℕ) (l : SidedLines) → ((i : ℕ) → i < k → (side : Side) → InUse reverb s.sample_rate (place_of start l side i))
-      → (side : Side) (i : ℕ) → i < k → Zero (get_or (held start k l m side) i nan)
+  held-zero : (k : ℕ) (l : Lines) → ((i : ℕ) → i < k → InUse reverb s.sample_rate (place_of l i)) → (i : ℕ) → i < k → Zero (get_or (held k l m) i nan)
   unfolding held
-  held-zero start k l used side i h =
-      ap is_zero (get_or-table (λ j. get_or m (place_of start l side j) nan) k i nan h)
-      ∙ zero_in 0 tank_size (parts (lengths_at s.sample_rate)) m (in_order s.sample_rate) u.enough u.zeros (used i h side)
+  held-zero k l used i h =
+      ap is_zero (get_or-table (λ j. get_or m (place_of l j) nan) k i nan h)
+      ∙ zero_in 0 tank_size (parts (lengths_at s.sample_rate)) m (in_order s.sample_rate) u.enough u.zeros (used i h)
 
-  comb-zero : (side : Side) (i : ℕ) → i < 8 → Zero (get_or (combs_held (combs s) m side) i nan)
-  comb-zero = held-zero comb_start 8 (combs s) (comb_in s f)
+  comb-zero : (side : Side) (i : ℕ) → i < 8 → Zero (get_or (combs_held (combs s side) m) i nan)
+  comb-zero side = held-zero 8 (combs s side) (λ i h. comb_in s f i h side)
 
-  pass-zero : (side : Side) (i : ℕ) → i < 4 → Zero (get_or (allpasses_held (allpasses s) m side) i nan)
-  pass-zero = held-zero allpass_start 4 (allpasses s) (pass_in s f)
+  pass-zero : (side : Side) (i : ℕ) → i < 4 → Zero (get_or (allpasses_held (allpasses s side) m) i nan)
+  pass-zero side = held-zero 4 (allpasses s side) (λ i h. pass_in s f i h side)
 
   -- the stores
   store-zero : (side : Side) (i : ℕ) → i < 8 → Zero (get_or (stores s side) i nan)
@@ -116,41 +115,41 @@ module _ (t : Tick) (s : Reverb) (m : List Float) (u : SilentTick reverb t s m) 
           d
 
   -- a comb's next store, and what it writes
-  stored-zero : (side : Side) (i : ℕ) → i < 8 → Zero (comb_stored (damping c) (stores s) (combs_held (combs s) m) side i)
+  stored-zero : (side : Side) (i : ℕ) → i < 8 → Zero (comb_stored (damping c) (stores s side) (combs_held (combs s side) m) i)
   unfolding comb_stored comb_store blended
-  stored-zero side i h = mix-zero (get_or (combs_held (combs s) m side) i nan) (get_or (stores s side) i nan) (comb-zero side i h) (store-zero side i h) (damping-in t n)
+  stored-zero side i h = mix-zero (get_or (combs_held (combs s side) m) i nan) (get_or (stores s side) i nan) (comb-zero side i h) (store-zero side i h) (damping-in t n)
 
-  comb-writes : EachWritten Zero (comb_writes c s m)
+  comb-writes : EachWritten Zero (by_sides (comb_writes c s m) 8)
   unfolding comb_write comb_fed
   comb-writes =
-      each-side (λ w. Zero w.value) (comb_write (predelayed c s m) (damping c) (feedback c) (combs s) (stores s) (combs_held (combs s) m)) 8
+      each-side (λ w. Zero w.value) (comb_writes c s m) 8
       (λ i h side.
-      let store = comb_stored (damping c) (stores s) (combs_held (combs s) m) side i in
+      let store = comb_stored (damping c) (stores s side) (combs_held (combs s side) m) i in
       zero-plus (predelayed c s m) (mul binary64 store (feedback c)) predelay-zero (zero-times store (feedback c) (stored-zero side i h) (in-finite (feedback-in t n))))
 
   -- a side's sum, what goes through its all-passes, and what these write
   summed-zero : (side : Side) → Zero (summed s m side)
   unfolding summed round
-  summed-zero side = zero-times (sum_of (combs_held (combs s) m side) 8) (fraction 1 8) (sum-zero (combs_held (combs s) m side) 8 (comb-zero side)) tt
+  summed-zero side = zero-times (sum_of (combs_held (combs s side) m) 8) (fraction 1 8) (sum-zero (combs_held (combs s side) m) 8 (comb-zero side)) tt
 
-  allpass-writes : EachWritten Zero (allpass_writes s m)
+  allpass-writes : EachWritten Zero (by_sides (allpass_writes s m) 4)
   unfolding allpass_write pass_fed round
   allpass-writes =
-      each-side (λ w. Zero w.value) (allpass_write (summed s m) (allpasses s) (allpasses_held (allpasses s) m)) 4
+      each-side (λ w. Zero w.value) (allpass_writes s m) 4
       (λ i h side.
-      let held = allpasses_held (allpasses s) m side in
+      let held = allpasses_held (allpasses s side) m in
       let into = passed-zero (summed s m side) held i (summed-zero side) (λ k l. pass-zero side k (omega arith)) in
       zero-plus (passed_on (summed s m side) held i) (mul binary64 (get_or held i nan) half) into (zero-times (get_or held i nan) half (pass-zero side i h) tt))
 
   written : EachWritten Zero (writes c s m)
   unfolding writes
-  written = (u.audio, each-append (λ w. Zero w.value) (comb_writes c s m) (allpass_writes s m) comb-writes allpass-writes)
+  written = (u.audio, each-append (λ w. Zero w.value) (by_sides (comb_writes c s m) 8) (by_sides (allpass_writes s m) 4) comb-writes allpass-writes)
 
   -- what a side plays
   plays : (side : Side) → Zero (blended (input c) (wet s m side) (mix c))
   unfolding wet
   plays side =
-      let through = passed-zero (summed s m side) (allpasses_held (allpasses s) m side) 4 (summed-zero side) (pass-zero side) in
+      let through = passed-zero (summed s m side) (allpasses_held (allpasses s side) m) 4 (summed-zero side) (pass-zero side) in
       mix-zero (input c) (wet s m side) u.audio through (mix-in t n)
 
   answers : all_zero (samples c s m) ≡ true
@@ -160,7 +159,7 @@ module _ (t : Tick) (s : Reverb) (m : List Float) (u : SilentTick reverb t s m) 
   next-quiet : quiet (next c s m) ≡ true
   unfolding quiet next
   next-quiet =
-      let after : (side : Side) → _ = λ side. table-zeros (comb_stored (damping c) (stores s) (combs_held (combs s) m) side) 8 (stored-zero side) in
+      let after : (side : Side) → _ = λ side. table-zeros (comb_stored (damping c) (stores s side) (combs_held (combs s side) m)) 8 (stored-zero side) in
       both-true (after left) (after right)
 
 fresh-quiet : (rate : Float) → quiet (fresh rate) ≡ true

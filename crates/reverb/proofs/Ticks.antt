@@ -1,102 +1,166 @@
--- An accepted tick from its steps: the predelay's store, the combs', the all-passes'. Each reads its own line, which the steps before left as it was.
--- Assumes nothing.
-use Rattle.std.proofs.Common.{◌≡◌, ℕ, ◌+◌, List, [], ◌∷◌, get_or, set, sym, ◌∙◌, arith, get_or-set_other}
+-- An accepted tick from its steps: the predelay's store, then the combs' left and right, then the all-passes'. Each reads its own lines, which the steps before
+-- left as they were. Assumes nothing.
+use Rattle.std.proofs.Common.{◌≡◌, ℕ, ◌+◌, ◌*◌, ◌<◌, ◌≤◌, List, [], ◌∷◌, get_or, set, sym, ap, ◌∙◌, arith, get_or-set_other}
 use lib.Ieee.{Float, nan, binary64, mul}
 use Rattle.float64.specs.Number.{fraction}
 use Rattle.port.specs.Answer.{played}
 use Rattle.common.specs.Signal.{blended}
 use Rattle.common.specs.Line.{next_place, table}
-use Rattle.common.proofs.Tables.{table-ext}
 use Rattle.effect.specs.Effect.{laid}
 use Rattle.effect.proofs.Memory.{laid-append}
 use Rattle.reverb.specs.declared.tunings.Lengths.{Lengths}
-use Rattle.reverb.specs.declared.tank.Sides.{Sides}
 use Rattle.reverb.specs.declared.tick.Controls.{Controls}
 use Rattle.reverb.specs.declared.Reverb.{Reverb}
-use Rattle.reverb.specs.Tunings.{Side, left, right, sided, predelay_size, lengths_at}
-use Rattle.reverb.specs.Tank.{comb_lines, allpass_lines, comb_start, allpass_start, predelay_start, place_of, held, next_position, by_sides, combs_held, sum_of, comb_stored, comb_write, CombsStep, allpasses_held, passed_on, allpass_write, AllpassesStep}
+use Rattle.reverb.specs.Tunings.{Side, left, right, sided, comb_size, allpass_size, predelay_size, comb_lengths, allpass_lengths, lengths_at}
+use Rattle.reverb.specs.Tank.{Lines, combs_start, allpasses_start, comb_lines, allpass_lines, predelay_start, place_of, next_position, by_sides, combs_held, sum_of, comb_stored, comb_write, CombsStep, allpasses_held, passed_on, allpass_write, AllpassesStep}
 use Rattle.reverb.specs.Reverb.{state_of, combs, stores, allpasses, input, feedback, damping, mix, predelayed, summed, wet, comb_writes, allpass_writes, writes, Advances}
 use Rattle.reverb.specs.Reverb as page
 use Rattle.reverb.proofs.Laws.{Fits}
-use Rattle.reverb.proofs.Apart.{by-sides-elsewhere, comb-place, allpass-place}
+use Rattle.reverb.proofs.Apart.{laid-beside, sides-laid, comb-place, allpass-place, held-ext}
 
 module _ (c : Controls) (s : Reverb) (m : List Float) (f : Fits s) where
-  -- the memory after the predelay's store, and that after the combs'
+  -- the memory after the predelay's store, and after the combs' on the left, on the right, and the all-passes' on the left
   abbrev pub m1 : List Float
   m1 = set m (predelay_start + s.predelay_pos) (input c)
 
   abbrev m2 : List Float
-  m2 = laid (comb_writes c s m) m1
+  m2 = laid (table (λ i. comb_writes c s m i left) 8) m1
 
-  -- the combs' places hold in the one what they held in m, and the all-passes' in the other
-  combs-same : combs_held (combs s) m1 ≡ combs_held (combs s) m
-  unfolding held
-  combs-same =
-      λ j side.
-      table-ext (λ i. get_or m1 (place_of comb_start (combs s) side i) nan) (λ i. get_or m (place_of comb_start (combs s) side i) nan) 8
-      (λ i h. get_or-set_other m _ (place_of comb_start (combs s) side i) (input c) nan (omega (arith, comb-place f.combs side i h))) j
+  abbrev m3 : List Float
+  m3 = laid (table (λ i. comb_writes c s m i right) 8) m2
 
-  allpasses-same : allpasses_held (allpasses s) m2 ≡ allpasses_held (allpasses s) m
-  unfolding held comb_write
-  allpasses-same =
-      λ j side.
-      table-ext (λ i. get_or m2 (place_of allpass_start (allpasses s) side i) nan) (λ i. get_or m (place_of allpass_start (allpasses s) side i) nan) 4
-      (λ i h.
-      let p = place_of allpass_start (allpasses s) side i in
-      let b = allpass-place f.allpasses side i h in
-      by-sides-elsewhere (comb_write (predelayed c s m) (damping c) (feedback c) (combs s) (stores s) (combs_held (combs s) m)) 8 m1 p nan (λ k l w. omega (arith, b.0, comb-place f.combs w k l))
-      ∙ get_or-set_other m _ p (input c) nan (omega (arith, b.1))) j
+  abbrev m4 : List Float
+  m4 = laid (table (λ i. allpass_writes s m i left) 4) m3
 
-  -- what the code has: the lengths n, the input y of the combs, damping d, feedback b, the memory n1 after the predelay's store, and the combs' step
-  module _ {n : Lengths} (long : n ≡ lengths_at s.sample_rate) {y d b : Float} {n1 : List Float} (into : y ≡ predelayed c s m) (damped : d ≡ damping c) (fed : b ≡ feedback c) (first : n1 ≡ m1) {ws : Side → List ℕ} {zs : Side → List Float} {n2 : List Float} {sums : Sides} (step : CombsStep y d b (comb_lines s.comb_pos_l s.comb_pos_r n) (stores s) n1 ws zs n2 sums) where
-    combs-are : comb_lines s.comb_pos_l s.comb_pos_r n ≡ combs s
-    combs-are = λ j. comb_lines s.comb_pos_l s.comb_pos_r (long j)
+  -- where these lie
+  comb_at : (side : Side) (i : ℕ) → i < 8 → (combs_start side ≤ place_of (combs s side) i) × (place_of (combs s side) i < combs_start side + 8 * comb_size)
+  comb_at side i h = comb-place (combs_start side) (sided s.comb_pos_l s.comb_pos_r side) (comb_lengths side s.sample_rate) (f.combs side) i h
 
-    held-is : combs_held (comb_lines s.comb_pos_l s.comb_pos_r n) n1 ≡ combs_held (combs s) m
-    held-is = (λ j. combs_held (combs-are j) (first j)) ∙ combs-same
+  pass_at : (side : Side) (i : ℕ) → i < 4 → (allpasses_start side ≤ place_of (allpasses s side) i) × (place_of (allpasses s side) i < allpasses_start side + 4 * allpass_size)
+  pass_at side i h = allpass-place (allpasses_start side) (sided s.allpass_pos_l s.allpass_pos_r side) (allpass_lengths side s.sample_rate) (f.allpasses side) i h
+
+  -- so that each place holds, when it is read, what it held in m
+  in-m1 : (p : ℕ) → p < predelay_start → get_or m1 p nan ≡ get_or m p nan
+  in-m1 p h = get_or-set_other m _ p (input c) nan (omega arith)
+
+  in-m2 : (p : ℕ) → combs_start right ≤ p → p < predelay_start → get_or m2 p nan ≡ get_or m p nan
+  unfolding comb_write
+  in-m2 p a h = laid-beside (λ i. comb_writes c s m i left) 8 m1 p nan (λ i k. omega (arith, comb_at left i k)) ∙ in-m1 p h
+
+  in-m3 : (p : ℕ) → allpasses_start left ≤ p → p < predelay_start → get_or m3 p nan ≡ get_or m p nan
+  unfolding comb_write
+  in-m3 p a h = laid-beside (λ i. comb_writes c s m i right) 8 m2 p nan (λ i k. omega (arith, comb_at right i k)) ∙ in-m2 p (omega arith) h
+
+  in-m4 : (p : ℕ) → allpasses_start right ≤ p → p < predelay_start → get_or m4 p nan ≡ get_or m p nan
+  unfolding allpass_write
+  in-m4 p a h = laid-beside (λ i. allpass_writes s m i left) 4 m3 p nan (λ i k. omega (arith, pass_at left i k)) ∙ in-m3 p (omega arith) h
+
+  combs-left : combs_held (combs s left) m1 ≡ combs_held (combs s left) m
+  combs-left = held-ext 8 (combs s left) m m1 (λ i h. in-m1 _ (omega (arith, comb_at left i h)))
+
+  combs-right : combs_held (combs s right) m2 ≡ combs_held (combs s right) m
+  combs-right = held-ext 8 (combs s right) m m2 (λ i h. in-m2 _ (omega (arith, comb_at right i h)) (omega (arith, comb_at right i h)))
+
+  passes-left : allpasses_held (allpasses s left) m3 ≡ allpasses_held (allpasses s left) m
+  passes-left = held-ext 4 (allpasses s left) m m3 (λ i h. in-m3 _ (omega (arith, pass_at left i h)) (omega (arith, pass_at left i h)))
+
+  passes-right : allpasses_held (allpasses s right) m4 ≡ allpasses_held (allpasses s right) m
+  passes-right = held-ext 4 (allpasses s right) m m4 (λ i h. in-m4 _ (omega (arith, pass_at right i h)) (omega (arith, pass_at right i h)))
+
+  -- the writes of all steps, as the page has them
+  written : laid (table (λ i. allpass_writes s m i right) 4) m4 ≡ laid (writes c s m) m
+  unfolding writes comb_write allpass_write
+  written =
+      sides-laid (allpass_writes s m) 4 m3 (λ i k h g. omega (arith, pass_at left i h, pass_at right k (omega arith)))
+      ∙ ap (laid (by_sides (allpass_writes s m) 4)) (sides-laid (comb_writes c s m) 8 m1 (λ i k h g. omega (arith, comb_at left i h, comb_at right k (omega arith))))
+      ∙ sym (laid-append (by_sides (comb_writes c s m) 8) (by_sides (allpass_writes s m) 4) m1)
+
+  -- a side's combs, as the code has them: lengths, input, damping and feedback, the memory before and after
+  module _ (side : Side) {ns : List ℕ} (long : ns ≡ comb_lengths side s.sample_rate) {y d b : Float} (into : y ≡ predelayed c s m) (damped : d ≡ damping c) (fed : b ≡ feedback c) {now before : List Float} (first : now ≡ before) (same : combs_held (combs s side) before ≡ combs_held (combs s side) m) {w' : List ℕ} {z' after : List Float} {sum : Float} (step : CombsStep y d b (comb_lines (combs_start side) (sided s.comb_pos_l s.comb_pos_r side) ns) (stores s side) now w' z' after sum) where
+    abbrev lines : List ℕ → Lines
+    lines l = comb_lines (combs_start side) (sided s.comb_pos_l s.comb_pos_r side) l
+
+    held-is : combs_held (lines ns) now ≡ combs_held (combs s side) m
+    held-is = (λ j. combs_held (lines (long j)) (first j)) ∙ same
+
+    combs-moved : w' ≡ table (next_position (combs s side)) 8
+    combs-moved = step.positions ∙ (λ j. table (next_position (lines (long j))) 8)
+
+    combs-stored : z' ≡ table (comb_stored (damping c) (stores s side) (combs_held (combs s side) m)) 8
+    combs-stored = step.stores ∙ (λ j. table (comb_stored (damped j) (stores s side) (held-is j)) 8)
+
+    combs-written : after ≡ laid (table (λ i. comb_writes c s m i side) 8) before
+    combs-written = step.memory ∙ (λ j. laid (table (comb_write (into j) (damped j) (fed j) (lines (long j)) (stores s side) (held-is j)) 8) (first j))
+
+    sum_is : mul binary64 sum (fraction 1 8) ≡ summed s m side
+    unfolding summed
+    sum_is = λ j. mul binary64 ((step.sum ∙ (λ k. sum_of (held-is k) 8)) j) (fraction 1 8)
+
+  -- and its all-passes, with x into them
+  module _ (side : Side) {ns : List ℕ} (long : ns ≡ allpass_lengths side s.sample_rate) {x : Float} (into : x ≡ summed s m side) {now before : List Float} (first : now ≡ before) (same : allpasses_held (allpasses s side) before ≡ allpasses_held (allpasses s side) m) {w' : List ℕ} {after : List Float} {out : Float} (step : AllpassesStep x (allpass_lines (allpasses_start side) (sided s.allpass_pos_l s.allpass_pos_r side) ns) now w' after out) where
+    abbrev passes : List ℕ → Lines
+    passes l = allpass_lines (allpasses_start side) (sided s.allpass_pos_l s.allpass_pos_r side) l
+
+    passes-held : allpasses_held (passes ns) now ≡ allpasses_held (allpasses s side) m
+    passes-held = (λ j. allpasses_held (passes (long j)) (first j)) ∙ same
+
+    passes-moved : w' ≡ table (next_position (allpasses s side)) 4
+    passes-moved = step.positions ∙ (λ j. table (next_position (passes (long j))) 4)
+
+    passes-written : after ≡ laid (table (λ i. allpass_writes s m i side) 4) before
+    passes-written = step.memory ∙ (λ j. laid (table (allpass_write (into j) (passes (long j)) (passes-held j)) 4) (first j))
+
+    wet-is : out ≡ wet s m side
+    unfolding wet
+    wet-is = step.output ∙ (λ j. passed_on (into j) (passes-held j) 4)
+
+  -- the whole tick: n1 is the memory after the predelay's store, then after each step
+  module _ {n : Lengths} (long : n ≡ lengths_at s.sample_rate) {y d b : Float} (into : y ≡ predelayed c s m) (damped : d ≡ damping c) (fed : b ≡ feedback c) {n1 n2 n3 n4 n5 : List Float} (first : n1 ≡ m1)
+      {wl wr : List ℕ} {zl zr : List Float} {suml sumr : Float} (combl : CombsStep y d b (comb_lines (combs_start left) s.comb_pos_l n.comb_l) s.comb_filter_state_l n1 wl zl n2 suml) (combr : CombsStep y d b (comb_lines (combs_start right) s.comb_pos_r n.comb_r) s.comb_filter_state_r n2 wr zr n3 sumr)
+      {vl vr : List ℕ} {outl outr : Float} (passl : AllpassesStep (mul binary64 suml (fraction 1 8)) (allpass_lines (allpasses_start left) s.allpass_pos_l n.allpass_l) n3 vl n4 outl) (passr : AllpassesStep (mul binary64 sumr (fraction 1 8)) (allpass_lines (allpasses_start right) s.allpass_pos_r n.allpass_r) n4 vr n5 outr) where
+    cl : n.comb_l ≡ comb_lengths left s.sample_rate
+    cl = λ j. (long j).comb_l
+
+    cr : n.comb_r ≡ comb_lengths right s.sample_rate
+    cr = λ j. (long j).comb_r
+
+    pl : n.allpass_l ≡ allpass_lengths left s.sample_rate
+    pl = λ j. (long j).allpass_l
+
+    pr : n.allpass_r ≡ allpass_lengths right s.sample_rate
+    pr = λ j. (long j).allpass_r
 
     second : n2 ≡ m2
-    second = step.memory ∙ (λ j. laid (by_sides (comb_write (into j) (damped j) (fed j) (combs-are j) (stores s) (held-is j)) 8) (first j))
+    second = combs-written left cl into damped fed first combs-left combl
 
-    sum_is : (side : Side) → mul binary64 (sided sums.left sums.right side) (fraction 1 8) ≡ summed s m side
-    unfolding summed
-    sum_is side = λ j. mul binary64 ((step.sums side ∙ (λ k. sum_of (held-is k side) 8)) j) (fraction 1 8)
+    third : n3 ≡ m3
+    third = combs-written right cr into damped fed second combs-right combr
 
-    -- and the all-passes' step, with x into them
-    module _ {x : Side → Float} (eighth : (side : Side) → x side ≡ mul binary64 (sided sums.left sums.right side) (fraction 1 8)) {vs : Side → List ℕ} {m' : List Float} {outs : Sides} (on : AllpassesStep x (allpass_lines s.allpass_pos_l s.allpass_pos_r n) n2 vs m' outs) where
-      allpasses-are : allpass_lines s.allpass_pos_l s.allpass_pos_r n ≡ allpasses s
-      allpasses-are = λ j. allpass_lines s.allpass_pos_l s.allpass_pos_r (long j)
+    suml-is : mul binary64 suml (fraction 1 8) ≡ summed s m left
+    suml-is = sum_is left cl into damped fed first combs-left combl
 
-      passes-held : allpasses_held (allpass_lines s.allpass_pos_l s.allpass_pos_r n) n2 ≡ allpasses_held (allpasses s) m
-      passes-held = (λ j. allpasses_held (allpasses-are j) (second j)) ∙ allpasses-same
+    sumr-is : mul binary64 sumr (fraction 1 8) ≡ summed s m right
+    sumr-is = sum_is right cr into damped fed second combs-right combr
 
-      input-is : x ≡ summed s m
-      input-is = λ j side. (eighth side ∙ sum_is side) j
+    fourth : n4 ≡ m4
+    fourth = passes-written left pl suml-is third passes-left passl
 
-      wet-is : (side : Side) → sided outs.left outs.right side ≡ wet s m side
-      unfolding wet
-      wet-is side = on.outputs side ∙ (λ j. passed_on (input-is j side) (passes-held j side) 4)
-
-      written : m' ≡ laid (writes c s m) m
-      unfolding writes
-      written =
-          on.memory
-          ∙ (λ j. laid (by_sides (allpass_write (input-is j) (allpasses-are j) (passes-held j)) 4) (second j))
-          ∙ sym (laid-append (comb_writes c s m) (allpass_writes s m) m1)
-
-      -- the whole tick
-      pub advances : {p : ℕ} {l r : Float} → p ≡ next_place predelay_size s.predelay_pos
-          → l ≡ blended (input c) outs.left (mix c)
-          → r ≡ blended (input c) outs.right (mix c)
-          → Advances c s m (state_of (ws left) (ws right) (zs left) (zs right) (vs left) (vs right) p s.sample_rate) m' (played (l ∷ r ∷ []))
-      unfolding page.next page.samples
-      advances p l r =
-          let comb : (side : Side) → ws side ≡ table (next_position (combs s) side) 8 = λ side. step.positions side ∙ (λ j. table (next_position (combs-are j) side) 8) in
-          let store : (side : Side) → zs side ≡ table (comb_stored (damping c) (stores s) (combs_held (combs s) m) side) 8 =
-          λ side. step.stores side ∙ (λ j. table (comb_stored (damped j) (stores s) (held-is j) side) 8) in
-          let pass : (side : Side) → vs side ≡ table (next_position (allpasses s) side) 4 = λ side. on.positions side ∙ (λ j. table (next_position (allpasses-are j) side) 4) in
-          record {
-            state = λ j. state_of (comb left j) (comb right j) (store left j) (store right j) (pass left j) (pass right j) (p j) s.sample_rate;
-            memory = written;
-            answer = λ j. played ((l ∙ (λ k. blended (input c) (wet-is left k) (mix c))) j ∷ (r ∙ (λ k. blended (input c) (wet-is right k) (mix c))) j ∷ []);
-          }
+    pub advances : {p : ℕ} {l r : Float} → p ≡ next_place predelay_size s.predelay_pos
+        → l ≡ blended (input c) outl (mix c)
+        → r ≡ blended (input c) outr (mix c)
+        → Advances c s m (state_of wl wr zl zr vl vr p s.sample_rate) n5 (played (l ∷ r ∷ []))
+    unfolding page.next page.samples
+    advances p l r =
+        let comb-l = combs-moved left cl into damped fed first combs-left combl in
+        let comb-r = combs-moved right cr into damped fed second combs-right combr in
+        let store-l = combs-stored left cl into damped fed first combs-left combl in
+        let store-r = combs-stored right cr into damped fed second combs-right combr in
+        let pass-l = passes-moved left pl suml-is third passes-left passl in
+        let pass-r = passes-moved right pr sumr-is fourth passes-right passr in
+        let wet-l = wet-is left pl suml-is third passes-left passl in
+        let wet-r = wet-is right pr sumr-is fourth passes-right passr in
+        record {
+          state = λ j. state_of (comb-l j) (comb-r j) (store-l j) (store-r j) (pass-l j) (pass-r j) (p j) s.sample_rate;
+          memory = passes-written right pr sumr-is fourth passes-right passr ∙ written;
+          answer = λ j. played ((l ∙ (λ k. blended (input c) (wet-l k) (mix c))) j ∷ (r ∙ (λ k. blended (input c) (wet-r k) (mix c))) j ∷ []);
+        }

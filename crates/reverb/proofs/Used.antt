@@ -7,7 +7,7 @@ use Rattle.effect.specs.Parts.{Part, part, held_in, InPart, here, further, InOrd
 use Rattle.effect.proofs.Parts.{earlier, order-append, in_left, in_right, one_part, held-append}
 use Rattle.reverb.specs.declared.tunings.Lengths.{Lengths}
 use Rattle.reverb.specs.Tunings.{Side, left, right, comb_size, comb_most, allpass_size, allpass_most, predelay_size, comb_tunings, allpass_tunings, comb_lengths, allpass_lengths, lengths_at, sided}
-use Rattle.reverb.specs.Tank.{comb_start, allpass_start, predelay_start, tank_size, line_parts, lines_zero, parts}
+use Rattle.reverb.specs.Tank.{combs_start, allpasses_start, predelay_start, tank_size, line_parts, lines_zero, parts}
 use Rattle.reverb.proofs.Scaling.{lines-most}
 
 -- ---- lines that lie `apart` places from each other
@@ -33,45 +33,43 @@ line-place o apart (n ∷ ns) (suc i) w h l =
 
 module _ (rate : Float) where
   abbrev combs_of : Side → List Part
-  combs_of side = line_parts (comb_start side 0) comb_size (comb_lengths side rate)
+  combs_of side = line_parts (combs_start side) comb_size (comb_lengths side rate)
 
   abbrev passes_of : Side → List Part
-  passes_of side = line_parts (allpass_start side 0) allpass_size (allpass_lengths side rate)
+  passes_of side = line_parts (allpasses_start side) allpass_size (allpass_lengths side rate)
 
-  comb-order : (side : Side) → InOrder (comb_start side 0) (comb_start side 0 + 8 * comb_size) (combs_of side)
-  comb-order left = line-order (comb_start left 0) comb_size (comb_lengths left rate) (λ i. omega (arith, lines-most comb_most comb_tunings left rate i))
-  comb-order right = line-order (comb_start right 0) comb_size (comb_lengths right rate) (λ i. omega (arith, lines-most comb_most comb_tunings right rate i))
+  comb-order : (side : Side) → InOrder (combs_start side) (combs_start side + 8 * comb_size) (combs_of side)
+  comb-order left = line-order (combs_start left) comb_size (comb_lengths left rate) (λ i. omega (arith, lines-most comb_most comb_tunings left rate i))
+  comb-order right = line-order (combs_start right) comb_size (comb_lengths right rate) (λ i. omega (arith, lines-most comb_most comb_tunings right rate i))
 
-  pass-order : (side : Side) → InOrder (allpass_start side 0) (allpass_start side 0 + 4 * allpass_size) (passes_of side)
-  pass-order left = line-order (allpass_start left 0) allpass_size (allpass_lengths left rate) (λ i. omega (arith, lines-most allpass_most allpass_tunings left rate i))
-  pass-order right = line-order (allpass_start right 0) allpass_size (allpass_lengths right rate) (λ i. omega (arith, lines-most allpass_most allpass_tunings right rate i))
+  pass-order : (side : Side) → InOrder (allpasses_start side) (allpasses_start side + 4 * allpass_size) (passes_of side)
+  pass-order left = line-order (allpasses_start left) allpass_size (allpass_lengths left rate) (λ i. omega (arith, lines-most allpass_most allpass_tunings left rate i))
+  pass-order right = line-order (allpasses_start right) allpass_size (allpass_lengths right rate) (λ i. omega (arith, lines-most allpass_most allpass_tunings right rate i))
 
   pub in_order : InOrder 0 tank_size (parts (lengths_at rate))
   unfolding parts
   in_order =
       let last = part predelay_start predelay_size ∷ [] in
-      order-append 0 (comb_start right 0) tank_size (combs_of left) (combs_of right ++ (passes_of left ++ (passes_of right ++ last))) (comb-order left)
-      (order-append (comb_start right 0) (allpass_start left 0) tank_size (combs_of right) (passes_of left ++ (passes_of right ++ last)) (comb-order right)
-      (order-append (allpass_start left 0) (allpass_start right 0) tank_size (passes_of left) (passes_of right ++ last) (pass-order left)
-      (order-append (allpass_start right 0) predelay_start tank_size (passes_of right) last (pass-order right)
+      order-append 0 (combs_start right) tank_size (combs_of left) (combs_of right ++ (passes_of left ++ (passes_of right ++ last))) (comb-order left)
+      (order-append (combs_start right) (allpasses_start left) tank_size (combs_of right) (passes_of left ++ (passes_of right ++ last)) (comb-order right)
+      (order-append (allpasses_start left) (allpasses_start right) tank_size (passes_of left) (passes_of right ++ last) (pass-order left)
+      (order-append (allpasses_start right) predelay_start tank_size (passes_of right) last (pass-order right)
       (omega arith, omega arith))))
 
   -- ---- each line's places
 
-  pub comb-used : (side : Side) (i w : ℕ) → i < 8 → w < get_or (comb_lengths side rate) i 0 → InPart (comb_start side i + w) (parts (lengths_at rate))
+  pub comb-used : (side : Side) (i w : ℕ) → i < 8 → w < get_or (comb_lengths side rate) i 0 → InPart (combs_start side + i * comb_size + w) (parts (lengths_at rate))
   unfolding parts
-  comb-used left i w h l =
-      let e : comb_start left 0 + i * comb_size + w ≡ comb_start left i + w = omega arith in
-      in_left (combs_of left) _ (subst (λ (p : ℕ). InPart p (combs_of left)) e (line-place (comb_start left 0) comb_size (comb_lengths left rate) i w h l))
+  comb-used left i w h l = in_left (combs_of left) _ (line-place (combs_start left) comb_size (comb_lengths left rate) i w h l)
   comb-used right i w h l =
-      in_right (combs_of left) _ (in_left (combs_of right) _ (line-place (comb_start right 0) comb_size (comb_lengths right rate) i w h l))
+      in_right (combs_of left) _ (in_left (combs_of right) _ (line-place (combs_start right) comb_size (comb_lengths right rate) i w h l))
 
-  pub pass-used : (side : Side) (i w : ℕ) → i < 4 → w < get_or (allpass_lengths side rate) i 0 → InPart (allpass_start side i + w) (parts (lengths_at rate))
+  pub pass-used : (side : Side) (i w : ℕ) → i < 4 → w < get_or (allpass_lengths side rate) i 0 → InPart (allpasses_start side + i * allpass_size + w) (parts (lengths_at rate))
   unfolding parts
   pass-used left i w h l =
-      in_right (combs_of left) _ (in_right (combs_of right) _ (in_left (passes_of left) _ (line-place (allpass_start left 0) allpass_size (allpass_lengths left rate) i w h l)))
+      in_right (combs_of left) _ (in_right (combs_of right) _ (in_left (passes_of left) _ (line-place (allpasses_start left) allpass_size (allpass_lengths left rate) i w h l)))
   pass-used right i w h l =
-      in_right (combs_of left) _ (in_right (combs_of right) _ (in_right (passes_of left) _ (in_left (passes_of right) _ (line-place (allpass_start right 0) allpass_size (allpass_lengths right rate) i w h l))))
+      in_right (combs_of left) _ (in_right (combs_of right) _ (in_right (passes_of left) _ (in_left (passes_of right) _ (line-place (allpasses_start right) allpass_size (allpass_lengths right rate) i w h l))))
 
   pub predelay-used : (w : ℕ) → w < predelay_size → InPart (predelay_start + w) (parts (lengths_at rate))
   unfolding parts
@@ -81,18 +79,18 @@ module _ (rate : Float) where
 -- ---- zeros in them, line by line: the combs left and right, the all-passes left and right, the predelay
 
 abbrev pub combs_zero : Lengths → List Float → Side → Bool
-combs_zero n m side = lines_zero (comb_start side 0) comb_size (sided n.comb_l n.comb_r side) m
+combs_zero n m side = lines_zero (combs_start side) comb_size (sided n.comb_l n.comb_r side) m
 
 abbrev pub passes_zero : Lengths → List Float → Side → Bool
-passes_zero n m side = lines_zero (allpass_start side 0) allpass_size (sided n.allpass_l n.allpass_r side) m
+passes_zero n m side = lines_zero (allpasses_start side) allpass_size (sided n.allpass_l n.allpass_r side) m
 
 pub parts_zero : (n : Lengths) (m : List Float)
     → (((combs_zero n m left && combs_zero n m right) && passes_zero n m left) && passes_zero n m right) && all_zero (take predelay_size (drop predelay_start m))
     ≡ all_zero (held_in (parts n) m)
 unfolding parts
 parts_zero n m =
-    let c : Side → List Part = λ side. line_parts (comb_start side 0) comb_size (sided n.comb_l n.comb_r side) in
-    let p : Side → List Part = λ side. line_parts (allpass_start side 0) allpass_size (sided n.allpass_l n.allpass_r side) in
+    let c : Side → List Part = λ side. line_parts (combs_start side) comb_size (sided n.comb_l n.comb_r side) in
+    let p : Side → List Part = λ side. line_parts (allpasses_start side) allpass_size (sided n.allpass_l n.allpass_r side) in
     let last = part predelay_start predelay_size in
     let z : List Part → Bool = λ qs. all_zero (held_in qs m) in
     ap (λ (b : Bool). (((z (c left) && z (c right)) && z (p left)) && z (p right)) && b) (sym (one_part last m))

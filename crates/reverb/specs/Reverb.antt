@@ -11,8 +11,9 @@ use Rattle.common.specs.Line.{zeros, are_zeros, next_place, table}
 use Rattle.effect.specs.Effect.{Effect, Write, laid}
 use Rattle.reverb.specs.declared.tick.Controls.{Controls}
 use Rattle.reverb.specs.declared.Reverb.{Reverb}
-use Rattle.reverb.specs.Tunings.{Side, left, right, sided, predelay_size, lengths_at}
-use Rattle.reverb.specs.Tank.{SidedLines, comb_lines, allpass_lines, predelay_start, tank_size, positions_fit, next_position, by_sides, combs_held, sum_of, comb_stored, comb_write, allpasses_held, passed_on, allpass_write, delayed, parts}
+use Rattle.reverb.specs.declared.Lent.{Lent}
+use Rattle.reverb.specs.Tunings.{Side, left, right, sided, predelay_size, comb_lengths, allpass_lengths, lengths_at}
+use Rattle.reverb.specs.Tank.{Lines, combs_start, allpasses_start, comb_lines, allpass_lines, predelay_start, tank_size, positions_fit, next_position, by_sides, combs_held, sum_of, comb_stored, comb_write, allpasses_held, passed_on, allpass_write, delayed, parts}
 
 -- what a tick is handed: its ports; no curve number
 pub record Tick : Type 0 where
@@ -41,6 +42,23 @@ state_of combl combr storesl storesr passl passr predelay rate =
       sample_rate = rate;
     }
 
+-- what is lent, as a state
+abbrev pub lent_state : Lent → Reverb
+lent_state l =
+    state_of l.comb_pos_l.now l.comb_pos_r.now l.comb_filter_state_l.now l.comb_filter_state_r.now l.allpass_pos_l.now l.allpass_pos_r.now l.predelay_pos.now
+    l.sample_rate
+
+-- the parts of l' lie where those of l do, and its rate is that of l
+pub record SameParts (l l' : Lent) : Type 0 where
+  pub comb_pos_l : l'.comb_pos_l.ghost_name ≡ l.comb_pos_l.ghost_name
+  pub comb_pos_r : l'.comb_pos_r.ghost_name ≡ l.comb_pos_r.ghost_name
+  pub comb_filter_state_l : l'.comb_filter_state_l.ghost_name ≡ l.comb_filter_state_l.ghost_name
+  pub comb_filter_state_r : l'.comb_filter_state_r.ghost_name ≡ l.comb_filter_state_r.ghost_name
+  pub allpass_pos_l : l'.allpass_pos_l.ghost_name ≡ l.allpass_pos_l.ghost_name
+  pub allpass_pos_r : l'.allpass_pos_r.ghost_name ≡ l.allpass_pos_r.ghost_name
+  pub predelay_pos : l'.predelay_pos.ghost_name ≡ l.predelay_pos.ghost_name
+  pub sample_rate : l'.sample_rate ≡ l.sample_rate
+
 -- after a start, a retune and a reset: positions 0, damping stores +0
 abbrev pub fresh : Float → Reverb
 fresh rate = state_of (replicate 8 0) (replicate 8 0) (zeros 8) (zeros 8) (replicate 4 0) (replicate 4 0) 0 rate
@@ -49,15 +67,15 @@ fresh rate = state_of (replicate 8 0) (replicate 8 0) (zeros 8) (zeros 8) (repli
 abbrev pub blank : Reverb
 blank = fresh plus_zero
 
--- a state's combs, with their damping stores, and its all-passes
-abbrev pub combs : Reverb → SidedLines
-combs s = comb_lines s.comb_pos_l s.comb_pos_r (lengths_at s.sample_rate)
+-- a side's combs, with their damping stores, and its all-passes
+abbrev pub combs : Reverb → Side → Lines
+combs s side = comb_lines (combs_start side) (sided s.comb_pos_l s.comb_pos_r side) (comb_lengths side s.sample_rate)
 
 abbrev pub stores : Reverb → Side → List Float
 stores s = sided s.comb_filter_state_l s.comb_filter_state_r
 
-abbrev pub allpasses : Reverb → SidedLines
-allpasses s = allpass_lines s.allpass_pos_l s.allpass_pos_r (lengths_at s.sample_rate)
+abbrev pub allpasses : Reverb → Side → Lines
+allpasses s side = allpass_lines (allpasses_start side) (sided s.allpass_pos_l s.allpass_pos_r side) (allpass_lengths side s.sample_rate)
 
 -- the state test, cause 4: at an accepted rate, every position in its line; the stores may hold any float
 unfoldable pub state_fits : Reverb → Bool
@@ -115,34 +133,34 @@ predelayed c s m = delayed predelay_start s.predelay_pos (delay_by c s.sample_ra
 
 -- a side's combs, summed, times 0.125
 unfoldable pub summed : Reverb → List Float → Side → Float
-summed s m side = mul binary64 (sum_of (combs_held (combs s) m side) 8) (fraction 1 8)
+summed s m side = mul binary64 (sum_of (combs_held (combs s side) m) 8) (fraction 1 8)
 
 -- what a side plays: its sum through its four all-passes
 unfoldable pub wet : Reverb → List Float → Side → Float
-wet s m side = passed_on (summed s m side) (allpasses_held (allpasses s) m side) 4
+wet s m side = passed_on (summed s m side) (allpasses_held (allpasses s side) m) 4
 
 unfoldable pub next : Controls → Reverb → List Float → Reverb
 next c s m =
     record {
-      comb_pos_l = table (next_position (combs s) left) 8;
-      comb_pos_r = table (next_position (combs s) right) 8;
-      comb_filter_state_l = table (comb_stored (damping c) (stores s) (combs_held (combs s) m) left) 8;
-      comb_filter_state_r = table (comb_stored (damping c) (stores s) (combs_held (combs s) m) right) 8;
-      allpass_pos_l = table (next_position (allpasses s) left) 4;
-      allpass_pos_r = table (next_position (allpasses s) right) 4;
+      comb_pos_l = table (next_position (combs s left)) 8;
+      comb_pos_r = table (next_position (combs s right)) 8;
+      comb_filter_state_l = table (comb_stored (damping c) (stores s left) (combs_held (combs s left) m)) 8;
+      comb_filter_state_r = table (comb_stored (damping c) (stores s right) (combs_held (combs s right) m)) 8;
+      allpass_pos_l = table (next_position (allpasses s left)) 4;
+      allpass_pos_r = table (next_position (allpasses s right)) 4;
       predelay_pos = next_place predelay_size s.predelay_pos;
       sample_rate = s.sample_rate;
     }
 
 -- 25 writes: one in each line
-abbrev pub comb_writes : Controls → Reverb → List Float → List Write
-comb_writes c s m = by_sides (comb_write (predelayed c s m) (damping c) (feedback c) (combs s) (stores s) (combs_held (combs s) m)) 8
+abbrev pub comb_writes : Controls → Reverb → List Float → ℕ → Side → Write
+comb_writes c s m i side = comb_write (predelayed c s m) (damping c) (feedback c) (combs s side) (stores s side) (combs_held (combs s side) m) i
 
-abbrev pub allpass_writes : Reverb → List Float → List Write
-allpass_writes s m = by_sides (allpass_write (summed s m) (allpasses s) (allpasses_held (allpasses s) m)) 4
+abbrev pub allpass_writes : Reverb → List Float → ℕ → Side → Write
+allpass_writes s m i side = allpass_write (summed s m side) (allpasses s side) (allpasses_held (allpasses s side) m) i
 
 unfoldable pub writes : Controls → Reverb → List Float → List Write
-writes c s m = record { place = predelay_start + s.predelay_pos; value = input c } ∷ (comb_writes c s m ++ allpass_writes s m)
+writes c s m = record { place = predelay_start + s.predelay_pos; value = input c } ∷ (by_sides (comb_writes c s m) 8 ++ by_sides (allpass_writes s m) 4)
 
 -- left, right
 unfoldable pub samples : Controls → Reverb → List Float → List Float

@@ -8,19 +8,18 @@ use Rattle.common.specs.Line.{next_place, line_at, table, all_zero}
 use Rattle.effect.specs.Parts.{Part, part, held_in}
 use Rattle.effect.specs.Effect.{Write, laid}
 use Rattle.reverb.specs.declared.tunings.Lengths.{Lengths}
-use Rattle.reverb.specs.declared.tank.Sides.{Sides}
 use Rattle.reverb.specs.Freeverb.{comb_store, comb_fed, pass_output, pass_fed}
-use Rattle.reverb.specs.Tunings.{Side, left, right, sided, comb_size, allpass_size, predelay_size, Capped}
+use Rattle.reverb.specs.Tunings.{Side, left, right, comb_size, allpass_size, predelay_size, Capped}
 
--- ---- where comb i and all-pass i of a side start, and the predelay; the end
+-- ---- where a side's combs and all-passes start, and the predelay; the end
 
-abbrev pub comb_start : Side → ℕ → ℕ
-comb_start left i = i * comb_size
-comb_start right i = 8 * comb_size + i * comb_size
+abbrev pub combs_start : Side → ℕ
+combs_start left = 0
+combs_start right = 8 * comb_size
 
-abbrev pub allpass_start : Side → ℕ → ℕ
-allpass_start left i = 16 * comb_size + i * allpass_size
-allpass_start right i = 16 * comb_size + 4 * allpass_size + i * allpass_size
+abbrev pub allpasses_start : Side → ℕ
+allpasses_start left = 16 * comb_size
+allpasses_start right = 16 * comb_size + 4 * allpass_size
 
 abbrev pub predelay_start : ℕ
 predelay_start = 16 * comb_size + 8 * allpass_size
@@ -28,18 +27,19 @@ predelay_start = 16 * comb_size + 8 * allpass_size
 abbrev pub tank_size : ℕ
 tank_size = predelay_start + predelay_size
 
--- ---- lines of one kind on both sides: the position in each, and its length
+-- ---- lines of one kind on one side: where each starts, the position in it, and its length
 
-pub record SidedLines : Type 0 where
-  pub positions : Side → List ℕ
-  pub lengths : Side → List ℕ
+pub record Lines : Type 0 where
+  pub start : ℕ → ℕ
+  pub positions : List ℕ
+  pub lengths : List ℕ
 
--- the combs with these positions, and the all-passes
-abbrev pub comb_lines : List ℕ → List ℕ → Lengths → SidedLines
-comb_lines l r n = record { positions = sided l r; lengths = sided n.comb_l n.comb_r }
+-- combs with these positions and lengths, the first from place o on, and all-passes
+abbrev pub comb_lines : ℕ → List ℕ → List ℕ → Lines
+comb_lines o w n = record { start = λ i. o + i * comb_size; positions = w; lengths = n }
 
-abbrev pub allpass_lines : List ℕ → List ℕ → Lengths → SidedLines
-allpass_lines l r n = record { positions = sided l r; lengths = sided n.allpass_l n.allpass_r }
+abbrev pub allpass_lines : ℕ → List ℕ → List ℕ → Lines
+allpass_lines o w n = record { start = λ i. o + i * allpass_size; positions = w; lengths = n }
 
 -- as many positions as lengths, each below its own
 unfoldable pub all_below : List ℕ → List ℕ → Bool
@@ -48,11 +48,11 @@ all_below [] (n ∷ ns) = false
 all_below (w ∷ ws) [] = false
 all_below (w ∷ ws) (n ∷ ns) = nat_lt w n && all_below ws ns
 
--- `count` lines on each side, each position in its line, and no line longer than `most`
-pub record InLines (count most : ℕ) (l : SidedLines) : Type 0 where
-  pub counted : (side : Side) → length (l.lengths side) ≡ count
-  pub inside : (side : Side) → all_below (l.positions side) (l.lengths side) ≡ true
-  pub capped : (side : Side) → Capped most (l.lengths side)
+-- `count` lines, each position in its line, and no line longer than `most`
+pub record InLines (count most : ℕ) (l : Lines) : Type 0 where
+  pub counted : length l.lengths ≡ count
+  pub inside : all_below l.positions l.lengths ≡ true
+  pub capped : Capped most l.lengths
 
 -- every position of a state is in its line, where the lines have the lengths n
 abbrev pub positions_fit : List ℕ → List ℕ → List ℕ → List ℕ → ℕ → Lengths → Bool
@@ -60,27 +60,27 @@ positions_fit combl combr passl passr predelay n =
     nat_lt predelay predelay_size
     && ((all_below combl n.comb_l && all_below passl n.allpass_l) && (all_below combr n.comb_r && all_below passr n.allpass_r))
 
--- the place of line i, of lines that start there
-abbrev pub place_of : (Side → ℕ → ℕ) → SidedLines → Side → ℕ → ℕ
-place_of start l side i = start side i + slice_index (l.positions side) i
+-- the place of line i
+abbrev pub place_of : Lines → ℕ → ℕ
+place_of l i = l.start i + slice_index l.positions i
 
 -- what the places of k lines hold
-unfoldable pub held : (Side → ℕ → ℕ) → ℕ → SidedLines → List Float → Side → List Float
-held start k l m side = table (λ i. get_or m (place_of start l side i) nan) k
+unfoldable pub held : ℕ → Lines → List Float → List Float
+held k l m = table (λ i. get_or m (place_of l i) nan) k
 
 -- where their positions go
-unfoldable pub next_position : SidedLines → Side → ℕ → ℕ
-next_position l side i = next_place (slice_index (l.lengths side) i) (slice_index (l.positions side) i)
+unfoldable pub next_position : Lines → ℕ → ℕ
+next_position l i = next_place (slice_index l.lengths i) (slice_index l.positions i)
 
 -- left and right, line by line, of the first n lines of a side
 unfoldable pub by_sides : (ℕ → Side → Write) → ℕ → List Write
 by_sides f zero = []
 by_sides f (suc n) = by_sides f n ++ (f n left ∷ f n right ∷ [])
 
--- ---- the combs. Each line is read before its own store, and the lines lie apart: what its place holds, h, is what it held before the step
+-- ---- a side's combs. Each line is read before its own store, and the lines lie apart: what its place holds, h, is what it held before the step
 
-abbrev pub combs_held : SidedLines → List Float → Side → List Float
-combs_held l m = held comb_start 8 l m
+abbrev pub combs_held : Lines → List Float → List Float
+combs_held l m = held 8 l m
 
 -- +0, and then each answer in order, of the first n
 unfoldable pub sum_of : List Float → ℕ → Float
@@ -88,39 +88,38 @@ sum_of h zero = plus_zero
 sum_of h (suc n) = add binary64 (sum_of h n) (slice_index_or h n nan)
 
 -- what comb i leaves in its store, which held z, with the damping d
-unfoldable pub comb_stored : Float → (Side → List Float) → (Side → List Float) → Side → ℕ → Float
-comb_stored d z h side i = comb_store (slice_index_or (h side) i nan) (slice_index_or (z side) i nan) d
+unfoldable pub comb_stored : Float → List Float → List Float → ℕ → Float
+comb_stored d z h i = comb_store (slice_index_or h i nan) (slice_index_or z i nan) d
 
--- what comb i writes, with the input x, the damping d and the feedback f
-unfoldable pub comb_write : Float → Float → Float → SidedLines → (Side → List Float) → (Side → List Float) → ℕ → Side → Write
-comb_write x d f l z h i side = record { place = place_of comb_start l side i; value = comb_fed x (comb_stored d z h side i) f }
+-- and in its place, with the input x and the feedback f
+unfoldable pub comb_write : Float → Float → Float → Lines → List Float → List Float → ℕ → Write
+comb_write x d f l z h i = record { place = place_of l i; value = comb_fed x (comb_stored d z h i) f }
 
--- a step of all combs l with the stores z, in the memory m: positions, stores and memory that it leaves, and the sums that it answers
-pub record CombsStep (x d f : Float) (l : SidedLines) (z : Side → List Float) (m : List Float) (w' : Side → List ℕ) (z' : Side → List Float) (m' : List Float) (r : Sides) : Type 0 where
-  pub positions : (side : Side) → w' side ≡ table (next_position l side) 8
-  pub stores : (side : Side) → z' side ≡ table (comb_stored d z (combs_held l m) side) 8
-  pub memory : m' ≡ laid (by_sides (comb_write x d f l z (combs_held l m)) 8) m
-  pub sums : (side : Side) → sided r.left r.right side ≡ sum_of (combs_held l m side) 8
+-- a step of the combs l with the stores z, in the memory m: positions, stores and memory that it leaves, and the sum that it answers
+pub record CombsStep (x d f : Float) (l : Lines) (z : List Float) (m : List Float) (w' : List ℕ) (z' : List Float) (m' : List Float) (r : Float) : Type 0 where
+  pub positions : w' ≡ table (next_position l) 8
+  pub stores : z' ≡ table (comb_stored d z (combs_held l m)) 8
+  pub memory : m' ≡ laid (table (comb_write x d f l z (combs_held l m)) 8) m
+  pub sum : r ≡ sum_of (combs_held l m) 8
 
--- ---- the all-passes, with x into the first
+-- ---- a side's all-passes, with x into the first
 
-abbrev pub allpasses_held : SidedLines → List Float → Side → List Float
-allpasses_held l m = held allpass_start 4 l m
+abbrev pub allpasses_held : Lines → List Float → List Float
+allpasses_held l m = held 4 l m
 
--- what comes out of the first i of a side
+-- what comes out of the first i of them
 unfoldable pub passed_on : Float → List Float → ℕ → Float
 passed_on x h zero = x
 passed_on x h (suc i) = pass_output (passed_on x h i) (slice_index_or h i nan)
 
-unfoldable pub allpass_write : (Side → Float) → SidedLines → (Side → List Float) → ℕ → Side → Write
-allpass_write x l h i side =
-    record { place = place_of allpass_start l side i; value = pass_fed (passed_on (x side) (h side) i) (slice_index_or (h side) i nan) }
+unfoldable pub allpass_write : Float → Lines → List Float → ℕ → Write
+allpass_write x l h i = record { place = place_of l i; value = pass_fed (passed_on x h i) (slice_index_or h i nan) }
 
 -- a step of all of them
-pub record AllpassesStep (x : Side → Float) (l : SidedLines) (m : List Float) (w' : Side → List ℕ) (m' : List Float) (r : Sides) : Type 0 where
-  pub positions : (side : Side) → w' side ≡ table (next_position l side) 4
-  pub memory : m' ≡ laid (by_sides (allpass_write x l (allpasses_held l m)) 4) m
-  pub outputs : (side : Side) → sided r.left r.right side ≡ passed_on (x side) (allpasses_held l m side) 4
+pub record AllpassesStep (x : Float) (l : Lines) (m : List Float) (w' : List ℕ) (m' : List Float) (r : Float) : Type 0 where
+  pub positions : w' ≡ table (next_position l) 4
+  pub memory : m' ≡ laid (table (allpass_write x l (allpasses_held l m)) 4) m
+  pub output : r ≡ passed_on x (allpasses_held l m) 4
 
 -- ---- the predelay
 
@@ -143,8 +142,8 @@ lines_zero o apart ns m = all_zero (held_in (line_parts o apart ns) m)
 -- of lines with the lengths n
 unfoldable pub parts : Lengths → List Part
 parts n =
-    line_parts (comb_start left 0) comb_size n.comb_l
-    ++ (line_parts (comb_start right 0) comb_size n.comb_r
-    ++ (line_parts (allpass_start left 0) allpass_size n.allpass_l
-    ++ (line_parts (allpass_start right 0) allpass_size n.allpass_r
+    line_parts (combs_start left) comb_size n.comb_l
+    ++ (line_parts (combs_start right) comb_size n.comb_r
+    ++ (line_parts (allpasses_start left) allpass_size n.allpass_l
+    ++ (line_parts (allpasses_start right) allpass_size n.allpass_r
     ++ (part predelay_start predelay_size ∷ []))))

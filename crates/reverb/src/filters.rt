@@ -25,7 +25,7 @@ pub struct Passed {
 }
 
 // One step of a comb on its part of the tank.
-fn process_comb(
+pub fn process_comb(
     line: &mut [f64],
     pos: u64,
     filter_state: f64,
@@ -50,37 +50,8 @@ fn process_comb(
     }
 }
 
-// The comb whose part of the tank starts at place o.
-pub fn comb_at(
-    mem: &mut [f64],
-    o: usize,
-    pos: u64,
-    filter_state: f64,
-    input: f64,
-    n: u64,
-    feedback: f64,
-    damping: f64,
-) -> Combed
-    requires pos_lt_n { pos < n }
-    requires n_le_comb_size { n ≤ comb_size }
-    requires comb_size_bound { o + comb_size ≤ ListN.length mem.old }
-    ensures value { result ≡ combed (ListN.get_or mem.old (o + pos) nan) n pos filter_state damping }
-    ensures mem_after { mem.new ≡ comb_line mem.old (o + pos) filter_state input damping feedback }
-{
-    let e = o + Reverb::MAX_COMB_SIZE;
-    process_comb(
-        &mut mem[o..e],
-        pos,
-        filter_state,
-        input,
-        n,
-        feedback,
-        damping,
-    )
-}
-
 // One step of an all-pass on its part of the tank.
-fn process_allpass(line: &mut [f64], pos: u64, input: f64, n: u64) -> Passed
+pub fn process_allpass(line: &mut [f64], pos: u64, input: f64, n: u64) -> Passed
     requires pos_lt_n { pos < n }
     requires n_bound { n ≤ ListN.length line.old }
     ensures value { result ≡ passed (ListN.get_or line.old pos nan) n pos input }
@@ -95,18 +66,6 @@ fn process_allpass(line: &mut [f64], pos: u64, input: f64, n: u64) -> Passed
     }
 }
 
-// The all-pass whose part of the tank starts at place o.
-pub fn allpass_at(mem: &mut [f64], o: usize, pos: u64, input: f64, n: u64) -> Passed
-    requires pos_lt_n { pos < n }
-    requires n_le_allpass_size { n ≤ allpass_size }
-    requires allpass_size_bound { o + allpass_size ≤ ListN.length mem.old }
-    ensures value { result ≡ passed (ListN.get_or mem.old (o + pos) nan) n pos input }
-    ensures mem_after { mem.new ≡ pass_line mem.old (o + pos) input }
-{
-    let e = o + Reverb::MAX_ALLPASS_SIZE;
-    process_allpass(&mut mem[o..e], pos, input, n)
-}
-
 // The predelay's delay in samples, from 0 to the cap: below 1 it is none, from 1 on `whole_part_small` serves, which takes fewer steps than `whole_part`.
 pub fn predelay_samples(control: f64, rate: f64) -> u64
     ensures { result ≡ delay_samples control rate }
@@ -119,7 +78,7 @@ pub fn predelay_samples(control: f64, rate: f64) -> u64
 }
 
 // The predelay on its part of the tank: it writes first, so that a delay of 0 passes the audio itself.
-fn process_predelay(line: &mut [f64], pos: u64, samples: u64, input: f64) -> f64
+pub fn process_predelay(line: &mut [f64], pos: u64, samples: u64, input: f64) -> f64
     requires line_len { ListN.length line.old ≡ predelay_size }
     requires pos_lt_predelay_size { pos < predelay_size }
     requires samples_lt_predelay_size { samples < predelay_size }
@@ -138,16 +97,4 @@ fn process_predelay(line: &mut [f64], pos: u64, samples: u64, input: f64) -> f64
     }
     let back = Reverb::MAX_PREDELAY_SIZE - (d - w);
     line[back]
-}
-
-// The predelay whose part of the tank starts at place o.
-pub fn predelay_at(mem: &mut [f64], o: usize, pos: u64, samples: u64, input: f64) -> f64
-    requires pos_lt_predelay_size { pos < predelay_size }
-    requires samples_lt_predelay_size { samples < predelay_size }
-    requires predelay_size_bound { o + predelay_size ≤ ListN.length mem.old }
-    ensures value { result ≡ delayed o pos samples input mem.old }
-    ensures mem_after { mem.new ≡ ListN.set mem.old (o + pos) input }
-{
-    let e = o + Reverb::MAX_PREDELAY_SIZE;
-    process_predelay(&mut mem[o..e], pos, samples, input)
 }

@@ -2,13 +2,13 @@
 // by value, but for `tick_in_place` of tick.rt.
 #![tactic(auto)]
 
-ghost use Rattle.std.specs.Prelude.{◌≡◌, if◌then◌else◌};
+ghost use Rattle.std.specs.Prelude.{◌≡◌, if◌then◌else◌, IfOk};
 ghost use Rattle.float64.specs.Number.{rate_fits};
 ghost use Rattle.port.specs.Answer.{number_of, outcome_reply, silence_reply};
-ghost use Rattle.effect.specs.Run.{retune, reset, ask, if_none, start_number, number_in};
+ghost use Rattle.effect.specs.Run.{retune, reset, ask, start_number, number_in};
 ghost use Rattle.effect.specs.Contract.{Does, Starts};
-ghost use Rattle.effect.specs.Needed.{places_needed};
-ghost use Rattle.reverb.specs.Tunings.{lengths_for};
+ghost use Rattle.effect.specs.Needed.{places_if_accepted};
+ghost use Rattle.reverb.specs.Tunings.{lengths_at, lengths_for};
 ghost use Rattle.reverb.specs.Tank.{tank_size};
 ghost use Rattle.reverb.specs.Reverb.{reverb, fresh, state_fits, quiet};
 
@@ -18,7 +18,8 @@ mod tick;
 mod tunings;
 
 use crate::tunings::Lengths;
-use port::{Answer, Outcome, Silence};
+use effect::Cleared;
+use port::Refusal;
 
 // Positions and damping stores, a side at a time, and the rate.
 #[derive(Clone, Copy)]
@@ -33,18 +34,17 @@ pub struct Reverb {
     pub sample_rate: f64,
 }
 
-// What start, retune and reset return.
-#[derive(Clone, Copy)]
-pub struct Cleared {
-    pub state: Reverb,
-    pub outcome: Outcome,
-}
-
-// What a tick returns.
-#[derive(Clone, Copy)]
-pub struct Ticked {
-    pub state: Reverb,
-    pub answer: Answer,
+// A state that is lent in its parts, where they lie: a tick moves them there, and a state by value would be copied whole, in and out.
+#[derive(Drop)]
+pub struct Lent<'a> {
+    pub comb_pos_l: &'a mut [u64; 8],
+    pub comb_pos_r: &'a mut [u64; 8],
+    pub comb_filter_state_l: &'a mut [f64; 8],
+    pub comb_filter_state_r: &'a mut [f64; 8],
+    pub allpass_pos_l: &'a mut [u64; 4],
+    pub allpass_pos_r: &'a mut [u64; 4],
+    pub predelay_pos: &'a mut u64,
+    pub sample_rate: f64,
 }
 
 impl Reverb {
@@ -82,22 +82,11 @@ impl Reverb {
     // The places needed, at every rate.
     pub const PLACES: u64 = Reverb::END as u64;
 
-    // The places of the tank; 0 at a refused rate.
-    fn tank_size(rate: f64) -> u64
-        ensures { result ≡ (if rate_fits rate then tank_size else 0) }
+    // The places that a start needs, the same at every rate; none for a rate that is refused.
+    pub fn places_needed(rate: f64) -> Option<u64>
+        ensures { result ≡ places_if_accepted reverb rate }
     {
-        if float64::rate_fits(rate) {
-            Reverb::PLACES
-        } else {
-            0
-        }
-    }
-
-    // The places that a start needs, the same at every rate; 2^64 - 1 for a rate that is refused.
-    pub fn places_needed(rate: f64) -> u64
-        ensures { result ≡ places_needed reverb rate }
-    {
-        effect::places_or_none(Reverb::tank_size(rate))
+        float64::rate_fits(rate).then_some(Reverb::PLACES)
     }
 
     // Positions 0 and damping stores +0, at the rate.
@@ -117,43 +106,23 @@ impl Reverb {
     }
 
     // Causes 1 and 3: a rate that is refused, and memory that is too short.
-    fn rate_refusal(rate: f64, places: usize) -> Outcome
+    fn rate_refusal(rate: f64, places: usize) -> Result<(), Refusal>
         ensures { number_of result ≡ start_number reverb rate places }
     {
-        effect::check_rate(Reverb::tank_size(rate), places)
-    }
-
-    // What a retune or a reset returns, by the outcome of its tests: the fresh state at the rate, or the one that was there. The
-    // fresh one is made here, as a state is large, and two of them by value would be copied.
-    fn settled(outcome: Outcome, rate: f64, kept: Reverb) -> Cleared
-        ensures { (result.state ≡ if_none (number_of outcome) (fresh rate) kept) × (result.outcome ≡ outcome) }
-    {
-        if let Outcome::Accepted = outcome {
-            return Cleared {
-                state: Reverb::fresh(rate),
-                outcome,
-            };
-        }
-        Cleared {
-            state: kept,
-            outcome,
-        }
+        effect::check_rate(Reverb::places_needed(rate), places)
     }
 
     // Start: a clearing at the rate.
-    pub fn new(sample_rate: f64, mem: &mut [f64]) -> Cleared
+    pub fn new(sample_rate: f64, mem: &mut [f64]) -> Cleared<Reverb>
         ensures { Starts reverb sample_rate mem.old result.state mem.new (outcome_reply result.outcome) }
     {
-        let outcome = Reverb::rate_refusal(sample_rate, mem.len());
-        effect::clear(outcome, mem);
-        let rate = if let Outcome::Accepted = outcome {
-            sample_rate
-        } else {
-            0.0
-        };
+        let tested = Reverb::rate_refusal(sample_rate, mem.len());
+        effect::clear(tested, mem);
+        // one state: by `Cleared::settled`, which is handed two, a start took 400 bytes of stack in place of 64
+        let rate = if tested.is_ok() { sample_rate } else { 0.0 };
         Cleared {
             state: Reverb::fresh(rate),
-            outcome,
+            outcome: tested,
         }
     }
 
@@ -162,44 +131,50 @@ impl Reverb {
         requires { n ≡ lengths_for self.sample_rate }
         ensures { result ≡ state_fits self }
     {
-        let w0 = self.comb_pos_l;
-        let w1 = self.comb_pos_r;
-        let w2 = self.allpass_pos_l;
-        let w3 = self.allpass_pos_r;
-        tank::positions_fit(&w0, &w1, &w2, &w3, self.predelay_pos, n)
-    }
-
-    // Causes 4 and 3: a state that fails its test, and memory that is too short.
-    fn refusal(self, n: Lengths, places: usize) -> Outcome
-        requires { n ≡ lengths_for self.sample_rate }
-        ensures { number_of result ≡ number_in reverb reset places self }
-    {
-        effect::check_state(
-            self.state_fits(n),
-            effect::check_memory(Reverb::PLACES, places),
+        tank::positions_fit(
+            &self.comb_pos_l,
+            &self.comb_pos_r,
+            &self.allpass_pos_l,
+            &self.allpass_pos_r,
+            self.predelay_pos,
+            n,
         )
     }
 
+    // Every line's length, where state and memory pass their tests: causes 4 and 3. Called, and not put in line, it would copy state and lengths: a reset took
+    // 1,592 bytes of stack in place of 168.
+    #[inline(always)]
+    fn checked_lengths(self, places: usize) -> Result<Lengths, Refusal>
+        ensures number { number_of result ≡ number_in reverb reset places self }
+        ensures lengths { IfOk result (λ n. n ≡ lengths_at self.sample_rate) }
+    {
+        let n = tunings::scaled_lengths(self.sample_rate);
+        effect::check_state(
+            self.state_fits(n),
+            effect::check_memory(Reverb::PLACES, places),
+        )?;
+        Ok(n)
+    }
+
     // Retune: a clearing at another rate.
-    pub fn set_sample_rate(self, sample_rate: f64, mem: &mut [f64]) -> Cleared
+    pub fn set_sample_rate(self, sample_rate: f64, mem: &mut [f64]) -> Cleared<Reverb>
         ensures { Does reverb (retune sample_rate) self mem.old result.state mem.new
             (outcome_reply result.outcome) }
     {
         let n = tunings::scaled_lengths(self.sample_rate);
         let others = Reverb::rate_refusal(sample_rate, mem.len());
-        let outcome = effect::check_state(self.state_fits(n), others);
-        effect::clear(outcome, mem);
-        Reverb::settled(outcome, sample_rate, self)
+        let tested = effect::check_state(self.state_fits(n), others);
+        effect::clear(tested, mem);
+        Cleared::settled(tested, Reverb::fresh(sample_rate), self)
     }
 
     // Reset: a clearing at the rate in force.
-    pub fn reset(self, mem: &mut [f64]) -> Cleared
+    pub fn reset(self, mem: &mut [f64]) -> Cleared<Reverb>
         ensures { Does reverb reset self mem.old result.state mem.new (outcome_reply result.outcome) }
     {
-        let n = tunings::scaled_lengths(self.sample_rate);
-        let outcome = self.refusal(n, mem.len());
-        effect::clear(outcome, mem);
-        Reverb::settled(outcome, self.sample_rate, self)
+        let tested = self.checked_lengths(mem.len());
+        effect::clear(tested, mem);
+        Cleared::settled(tested, Reverb::fresh(self.sample_rate), self)
     }
 
     // Whether all sixteen damping stores are +0 or -0.
@@ -210,18 +185,10 @@ impl Reverb {
     }
 
     // Silent? Whether every damping store and every place in use is +0 or -0: a store alone would bring the sound back.
-    pub fn silent(self, mem: &[f64]) -> Silence
+    pub fn silent(self, mem: &[f64]) -> Result<bool, Refusal>
         ensures { Does reverb ask self mem.now self mem.now (silence_reply result) }
     {
-        let n = tunings::scaled_lengths(self.sample_rate);
-        let outcome = self.refusal(n, mem.len());
-        if let Outcome::Refused(cause) = outcome {
-            return Silence::Refused(cause);
-        }
-        if self.quiet() && tank::places_zero(n, mem) {
-            Silence::Silent
-        } else {
-            Silence::Sounding
-        }
+        let n = self.checked_lengths(mem.len())?;
+        Ok(self.quiet() && tank::places_zero(n, mem))
     }
 }

@@ -3,32 +3,21 @@ ghost use Rattle.std.specs.Prelude.{◌≡◌, ◌+◌, ◌*◌, ◌<◌, ◌≤
 ghost use Rattle.std.proofs.Math.ListN as ListN;
 ghost use Rattle.common.specs.Line.{all_zero};
 ghost use Rattle.effect.specs.Parts.{held_in};
-ghost use Rattle.reverb.specs.Tunings.{comb_most, allpass_most, Capped, Roomy, sided};
+ghost use Rattle.reverb.specs.Tunings.{comb_size, comb_most, allpass_size, allpass_most, Capped, Roomy};
 ghost use Rattle.reverb.specs.Tank.{tank_size, comb_lines, allpass_lines, all_below, positions_fit, InLines, CombsStep, AllpassesStep, lines_zero, parts};
 
 use crate::Reverb;
-use crate::filters::{allpass_at, comb_at};
+use crate::filters::{process_allpass, process_comb};
 use crate::tunings::Lengths;
 
-// A sample of each side.
-#[derive(Clone, Copy)]
-pub struct Sides {
-    pub left: f64,
-    pub right: f64,
-}
-
 // Whether each position is below its line's length. No branch at each: a tick asks this of 24 lines.
-fn all_below(positions: &[u64], lengths: &[u16]) -> bool
-    requires { ListN.length positions.now ≡ ListN.length lengths.now }
-    ensures { result ≡ all_below positions.now lengths.now }
+fn all_below<const N: usize>(positions: &[u64; N], lengths: [u16; N]) -> bool
+    ensures { result ≡ all_below positions.now lengths.entry }
 {
-    let mut below = true;
-    let mut i: usize = 0;
-    while i < positions.len() {
-        below = below & (positions[i] < lengths[i] as u64);
-        i += 1;
-    }
-    below
+    positions
+        .iter()
+        .zip(&lengths)
+        .fold(true, |below, (w, n)| below & (*w < *n as u64))
 }
 
 // Whether every position is in its line.
@@ -43,116 +32,83 @@ pub fn positions_fit(
     ensures { result ≡ positions_fit comb_l.now comb_r.now
         allpass_l.now allpass_r.now predelay n }
 {
-    let n0 = n.comb_l;
-    let n1 = n.comb_r;
-    let n2 = n.allpass_l;
-    let n3 = n.allpass_r;
-    let left = all_below(comb_l, &n0) & all_below(allpass_l, &n2);
-    let right = all_below(comb_r, &n1) & all_below(allpass_r, &n3);
+    let left = all_below(comb_l, n.comb_l) & all_below(allpass_l, n.allpass_l);
+    let right = all_below(comb_r, n.comb_r) & all_below(allpass_r, n.allpass_r);
     (predelay < Reverb::MAX_PREDELAY_SIZE as u64) & (left & right)
 }
 
-// The eight combs of each side, with the same input: they move the lent positions and stores, and answer their sums. The stores
-// are slices, since the prover learns how long a lent array is where it is lent on as a slice.
+// The eight combs of a side, the first from place o of the tank on, with the same input: they move the lent positions and stores, and answer their sum.
+// Called for two sides, it would not be put in line: a tick at 50,000 took 959 instructions in place of 901.
+#[inline(always)]
 pub fn combs(
-    pos_l: &mut [u64; 8],
-    pos_r: &mut [u64; 8],
-    filter_state_l: &mut [f64],
-    filter_state_r: &mut [f64],
-    n: Lengths,
+    pos: &mut [u64; 8],
+    filter_state: &mut [f64; 8],
+    lengths: [u16; 8],
     mem: &mut [f64],
+    o: usize,
     input: f64,
     feedback: f64,
     damping: f64,
-) -> Sides
-    requires in_lines { InLines 8 comb_most (comb_lines pos_l.old pos_r.old n) }
-    requires filter_state_l_len { ListN.length filter_state_l.old ≡ 8 }
-    requires filter_state_r_len { ListN.length filter_state_r.old ≡ 8 }
-    requires tank_size_bound { tank_size ≤ ListN.length mem.old }
-    ensures { CombsStep input damping feedback (comb_lines pos_l.old pos_r.old n)
-        (sided filter_state_l.old filter_state_r.old) mem.old
-        (sided pos_l.new pos_r.new) (sided filter_state_l.new filter_state_r.new)
-        mem.new result }
+) -> f64
+    requires in_lines { InLines 8 comb_most (comb_lines o pos.old lengths) }
+    requires room { o + 8 * comb_size ≤ ListN.length mem.old }
+    ensures { CombsStep input damping feedback (comb_lines o pos.old lengths) filter_state.old mem.old pos.new filter_state.new mem.new result }
 {
-    let mut sum_l = 0.0;
-    let mut sum_r = 0.0;
-    let mut i: usize = 0;
-    while i < 8 {
-        let o = i * Reverb::MAX_COMB_SIZE;
-        let w = pos_l[i];
-        let len = n.comb_l[i] as u64;
-        let l = comb_at(mem, o, w, filter_state_l[i], input, len, feedback, damping);
-        pos_l[i] = l.pos;
-        filter_state_l[i] = l.filter_state;
-        sum_l = sum_l + l.output;
-        let o = Reverb::COMBS_R + i * Reverb::MAX_COMB_SIZE;
-        let w = pos_r[i];
-        let len = n.comb_r[i] as u64;
-        let r = comb_at(mem, o, w, filter_state_r[i], input, len, feedback, damping);
-        pos_r[i] = r.pos;
-        filter_state_r[i] = r.filter_state;
-        sum_r = sum_r + r.output;
-        i += 1;
+    let mut sum = 0.0;
+    for i in 0..8 {
+        let start = o + i * Reverb::MAX_COMB_SIZE;
+        let line = &mut mem[start..start + Reverb::MAX_COMB_SIZE];
+        let c = process_comb(
+            line,
+            pos[i],
+            filter_state[i],
+            input,
+            lengths[i] as u64,
+            feedback,
+            damping,
+        );
+        pos[i] = c.pos;
+        filter_state[i] = c.filter_state;
+        sum = sum + c.output;
     }
-    Sides {
-        left: sum_l,
-        right: sum_r,
-    }
+    sum
 }
 
-// The four all-passes of each side, one after the other: they move the lent positions, and answer what comes out of the last.
+// The four all-passes of a side, the first from place o of the tank on, one after the other: they move the lent positions, and answer what comes out of the last.
+#[inline(always)]
 pub fn allpasses(
-    pos_l: &mut [u64; 4],
-    pos_r: &mut [u64; 4],
-    n: Lengths,
+    pos: &mut [u64; 4],
+    lengths: [u16; 4],
     mem: &mut [f64],
-    input_l: f64,
-    input_r: f64,
-) -> Sides
-    requires in_lines { InLines 4 allpass_most (allpass_lines pos_l.old pos_r.old n) }
-    requires tank_size_bound { tank_size ≤ ListN.length mem.old }
-    ensures { AllpassesStep (sided input_l input_r) (allpass_lines pos_l.old pos_r.old n)
-        mem.old (sided pos_l.new pos_r.new) mem.new result }
+    o: usize,
+    input: f64,
+) -> f64
+    requires in_lines { InLines 4 allpass_most (allpass_lines o pos.old lengths) }
+    requires room { o + 4 * allpass_size ≤ ListN.length mem.old }
+    ensures { AllpassesStep input (allpass_lines o pos.old lengths) mem.old pos.new mem.new result }
 {
-    let mut output_l = input_l;
-    let mut output_r = input_r;
-    let mut i: usize = 0;
-    while i < 4 {
-        let o = Reverb::ALLPASSES_L + i * Reverb::MAX_ALLPASS_SIZE;
-        let w = pos_l[i];
-        let l = allpass_at(mem, o, w, output_l, n.allpass_l[i] as u64);
-        pos_l[i] = l.pos;
-        output_l = l.output;
-        let o = Reverb::ALLPASSES_R + i * Reverb::MAX_ALLPASS_SIZE;
-        let w = pos_r[i];
-        let r = allpass_at(mem, o, w, output_r, n.allpass_r[i] as u64);
-        pos_r[i] = r.pos;
-        output_r = r.output;
-        i += 1;
+    let mut output = input;
+    for i in 0..4 {
+        let start = o + i * Reverb::MAX_ALLPASS_SIZE;
+        let line = &mut mem[start..start + Reverb::MAX_ALLPASS_SIZE];
+        let p = process_allpass(line, pos[i], output, lengths[i] as u64);
+        pos[i] = p.pos;
+        output = p.output;
     }
-    Sides {
-        left: output_l,
-        right: output_r,
-    }
+    output
 }
 
 // Whether the lines that lie `apart` places from each other, the first from place o on, are zeros up to their lengths.
 fn lines_zero(mem: &[f64], o: usize, apart: usize, lengths: &[u16]) -> bool
+    requires apart_some { 0 < apart }
     requires apart_bound { o + ListN.length lengths.now * apart ≤ ListN.length mem.now }
     requires capped { Capped apart lengths.now }
     ensures { result ≡ lines_zero o apart lengths.now mem.now }
 {
-    let mut at = o;
-    let mut i: usize = 0;
-    while i < lengths.len() {
-        let end = at + lengths[i] as usize;
-        if !common::all_zero(&mem[at..end]) {
-            return false;
-        }
-        at += apart;
-        i += 1;
-    }
-    true
+    mem[o..]
+        .chunks(apart)
+        .zip(lengths)
+        .all(|(line, n)| common::all_zero(&line[..*n as usize]))
 }
 
 // Whether every place in use is +0 or -0.
@@ -161,15 +117,19 @@ pub fn places_zero(n: Lengths, mem: &[f64]) -> bool
     requires tank_size_bound { tank_size ≤ ListN.length mem.now }
     ensures { result ≡ all_zero (held_in (parts n) mem.now) }
 {
-    let n0 = n.comb_l;
-    let n1 = n.comb_r;
-    let n2 = n.allpass_l;
-    let n3 = n.allpass_r;
-    let o = Reverb::PREDELAY;
-    let e = Reverb::END;
-    lines_zero(mem, 0, Reverb::MAX_COMB_SIZE, &n0)
-        && lines_zero(mem, Reverb::COMBS_R, Reverb::MAX_COMB_SIZE, &n1)
-        && lines_zero(mem, Reverb::ALLPASSES_L, Reverb::MAX_ALLPASS_SIZE, &n2)
-        && lines_zero(mem, Reverb::ALLPASSES_R, Reverb::MAX_ALLPASS_SIZE, &n3)
-        && common::all_zero(&mem[o..e])
+    lines_zero(mem, 0, Reverb::MAX_COMB_SIZE, &n.comb_l)
+        && lines_zero(mem, Reverb::COMBS_R, Reverb::MAX_COMB_SIZE, &n.comb_r)
+        && lines_zero(
+            mem,
+            Reverb::ALLPASSES_L,
+            Reverb::MAX_ALLPASS_SIZE,
+            &n.allpass_l,
+        )
+        && lines_zero(
+            mem,
+            Reverb::ALLPASSES_R,
+            Reverb::MAX_ALLPASS_SIZE,
+            &n.allpass_r,
+        )
+        && common::all_zero(&mem[Reverb::PREDELAY..Reverb::END])
 }

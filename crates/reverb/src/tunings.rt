@@ -5,6 +5,7 @@ ghost use Rattle.float64.specs.Number.{float_of, fraction, in_range};
 ghost use Rattle.reverb.specs.Tunings.{comb_most, least_tuning, most_tuning, scaled, spread, beside, lengths_for, tuned};
 
 use crate::Reverb;
+use common::Sides;
 
 // The longest all-pass, for the rows of `lengths_at`.
 const LONGEST: u16 = Reverb::MAX_ALLPASS_LENGTH;
@@ -25,7 +26,7 @@ fn scaled(base: u32, ratio: f64, most: u32) -> u32
     requires ratio_in_range { in_range ratio (fraction 1 8) (float_of 5) ≡ true }
     ensures { result ≡ scaled most ratio base }
 {
-    let n = float64::whole_part_small(float64::from_u32(base) * ratio) as u32;
+    let n = float64::whole_part_small(f64::from(base) * ratio) as u32;
     if n < most { n } else { most }
 }
 
@@ -56,60 +57,56 @@ fn beside(n: u32, wide: u32, most: u32) -> u32
 }
 
 // The left and right lengths of the lines with these tunings.
-fn scale(tunings: &[u32], ratio: f64, wide: u32, most: u16, left: &mut [u16], right: &mut [u16])
-    requires all_tuned { tuned tunings.now ≡ true }
+#[tactic(auto, unfolding(crate::specs::Tunings::scaled, crate::specs::Tunings::beside))]
+fn scale<const N: usize>(tunings: [u32; N], ratio: f64, wide: u32, most: u16) -> Sides<[u16; N]>
+    requires all_tuned { tuned tunings ≡ true }
     requires ratio_in_range { in_range ratio (fraction 1 8) (float_of 5) ≡ true }
     requires wide_le_comb_most { wide ≤ comb_most }
     requires most_le_comb_most { most ≤ comb_most }
-    requires left_len { ListN.length left.old ≡ ListN.length tunings.now }
-    requires right_len { ListN.length right.old ≡ ListN.length tunings.now }
-    ensures left_after { left.new ≡ map (scaled most ratio) tunings.now }
-    ensures right_after { right.new ≡ map (λ base. beside most wide (scaled most ratio base)) tunings.now }
+    ensures left { result.left ≡ map (scaled most ratio) tunings.entry }
+    ensures right { result.right ≡ map (λ base. beside most wide (scaled most ratio base)) tunings.entry }
 {
-    let mut i: usize = 0;
-    while i < tunings.len() {
-        let n = scaled(tunings[i], ratio, most as u32);
+    let mut left = [0; N];
+    let mut right = [0; N];
+    for (i, base) in tunings.iter().enumerate() {
+        let n = scaled(*base, ratio, most as u32);
         left[i] = n as u16;
         right[i] = beside(n, wide, most as u32) as u16;
-        i += 1;
     }
+    Sides { left, right }
 }
 
 // Every line's length, worked out. A refused rate gives 0 for each, so that no position fits.
 pub fn scaled_lengths(rate: f64) -> Lengths
     ensures { result ≡ lengths_for rate }
 {
-    let mut comb_l: [u16; 8] = [0; 8];
-    let mut comb_r: [u16; 8] = [0; 8];
-    let mut allpass_l: [u16; 4] = [0; 4];
-    let mut allpass_r: [u16; 4] = [0; 4];
     if !float64::rate_fits(rate) {
         return Lengths {
-            comb_l,
-            comb_r,
-            allpass_l,
-            allpass_r,
+            comb_l: [0; 8],
+            comb_r: [0; 8],
+            allpass_l: [0; 4],
+            allpass_r: [0; 4],
         };
     }
-    let combs = Reverb::COMB_TUNINGS_44100;
-    let allpasses = Reverb::ALLPASS_TUNINGS_44100;
     let ratio = rate / 44100.0;
     let wide = stereo_spread(ratio);
-    scale(
-        &combs,
+    let Sides {
+        left: comb_l,
+        right: comb_r,
+    } = scale(
+        Reverb::COMB_TUNINGS_44100,
         ratio,
         wide,
         Reverb::MAX_COMB_LENGTH,
-        &mut comb_l,
-        &mut comb_r,
     );
-    scale(
-        &allpasses,
+    let Sides {
+        left: allpass_l,
+        right: allpass_r,
+    } = scale(
+        Reverb::ALLPASS_TUNINGS_44100,
         ratio,
         wide,
         Reverb::MAX_ALLPASS_LENGTH,
-        &mut allpass_l,
-        &mut allpass_r,
     );
     Lengths {
         comb_l,

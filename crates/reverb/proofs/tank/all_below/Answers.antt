@@ -1,25 +1,15 @@
--- `tank::all_below` is `all_below`, one entry after the other. Assumes nothing.
-use Rattle.std.proofs.Common.{◌+◌, Bool, ◌&&◌, ltb, get_or, drop, sym, ap, ◌∙◌, arith, drop_of_length-le}
-use Rattle.reverb.specs.Tank.{all_below}
-use mathlib.Core.Bool.{and_assoc, and-true}
-use Rattle.reverb.proofs.Lists.{below_more}
+-- `tank::all_below` is `all_below`: a fold over the positions and lengths, side by side. Assumes nothing.
+use Rattle.std.proofs.Common.{rules, tests, ℕ, Bool, true, ◌&&◌, ltb, ◌∙◌}
+use Rattle.std.proofs.lemmas.Iterator.{YieldsList-from_slice, YieldsList-from_zip}
+use Rattle.std.proofs.lemmas.Iterator.Consumers.{fold_from_yields_List}
+use Rattle.reverb.proofs.Lists.{below-folded}
 use Rattle.reverb.proofs.tank.all_below.Goals as goal
 
-pub loop-i-preserved : goal.loop-i-preserved
-loop-i-preserved c =
-    let l = c.loop-i in
-    let ws = c.args.positions.now in
-    let ns = c.args.lengths.now in
-    let i = l.i in (
-      omega arith,
-      l.invariant.1
-          ∙ ap (λ (b : Bool). l.below && b) (below_more ws ns i (omega arith) (omega arith))
-          ∙ sym (and_assoc l.below (ltb (get_or ws i 0) (get_or ns i 0)) (all_below (drop (i + 1) ws) (drop (i + 1) ns))),
-    )
-
 pub returns : goal.returns
-unfolding all_below
-returns c =
-    let l = c.loop-i in
-    let a = c.args in
-    sym (l.invariant.1 ∙ rw (drop_of_length-le a.positions.now {i = l.i} (omega arith), drop_of_length-le a.lengths.now {i = l.i} (omega arith)) (and-true l.below))
+returns g c =
+    let ws = c.args.positions.now in
+    let ns = c.args.lengths in
+    fold_from_yields_List _ (λ (b : Bool) (p : ℕ × ℕ). b && ltb p.0 p.1) true c.fold.result c.fold.ensures.ran
+    (YieldsList-from_zip {s = c.zip.result} (YieldsList-from_slice ws cc) (YieldsList-from_slice ns cc))
+    (λ a x b q k. search (rules, tests))
+    ∙ below-folded true ws ns cc

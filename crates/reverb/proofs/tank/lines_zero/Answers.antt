@@ -1,42 +1,24 @@
--- `tank::lines_zero` is `lines_zero`, one line after the other. Assumes nothing.
-use Rattle.std.proofs.Common.{◌≡◌, ℕ, ◌+◌, ◌-◌, ◌<◌, Bool, ◌&&◌, List, length, get_or, take, drop, sym, ap, ◌∙◌, arith, drop_of_length-le}
+-- `tank::lines_zero` is `lines_zero`, line by line. Assumes nothing.
+use Rattle.std.proofs.Common.{rules, tests, ℕ, List, length, take, drop, refl, ap, ◌∙◌, arith, length-drop, length-take-le}
+use Rattle.std.specs.Slice.Iter.{chunks_rest, chunks_size}
+use Rattle.std.proofs.lemmas.Iterator.Adapters.{serves_from_places}
+use Rattle.std.proofs.lemmas.Iterator.Search.{all_from_yields_List}
 use lib.Ieee.{Float}
 use Rattle.common.specs.Line.{all_zero}
-use Rattle.effect.specs.Parts.{held_in}
-use Rattle.reverb.specs.Tank.{line_parts, lines_zero}
-use Rattle.reverb.proofs.Lists.{zero_more, room-more}
+use Rattle.reverb.proofs.Chunks.{YieldsList-from_chunks_zip, chunk-holds, zeros-chunked}
 use Rattle.reverb.proofs.tank.lines_zero.Goals as goal
 
--- one line on, which the code tests from place at to place at + n
-rest : (o apart at i : ℕ) (lengths : List ℕ) (m : List Float) (zero : Bool) → i < length lengths
-    → lines_zero o apart lengths m ≡ lines_zero at apart (drop i lengths) m
-    → zero ≡ all_zero (take (at + get_or lengths i 0 - at) (drop at m))
-    → lines_zero o apart lengths m ≡ zero && lines_zero (at + apart) apart (drop (i + 1) lengths) m
-rest o apart at i lengths m zero h before e =
-    let n = get_or lengths i 0 in
-    let k : at + n - at ≡ n = omega arith in
-    before
-    ∙ zero_more at apart lengths m i h
-    ∙ ap (λ (b : Bool). b && lines_zero (at + apart) apart (drop (i + 1) lengths) m) (sym (e ∙ ap (λ (j : ℕ). all_zero (take j (drop at m))) k))
-
-pub returns-then-not-all_zero : goal.returns-then-not-all_zero
-returns-then-not-all_zero c =
-    let l = c.loop-i in
+pub all-requires-clause-callable : goal.all-requires-clause-callable
+all-requires-clause-callable c =
     let a = c.args in
-    sym (rest a.o a.apart l.at l.i a.lengths.now a.mem.now _ (omega arith) l.invariant.2 c.all_zero.ensures ∙ rw c.if-not-all_zero.true)
-
-pub loop-i-preserved : goal.loop-i-preserved
-loop-i-preserved c =
-    let l = c.loop-i in
-    let a = c.args in (
-      omega arith,
-      room-more (length a.lengths.now) l.i l.at a.apart (length a.mem.now) (omega arith) l.invariant.1,
-      rest a.o a.apart l.at l.i a.lengths.now a.mem.now _ (omega arith) l.invariant.2 c.all_zero.ensures ∙ rw c.if-not-all_zero.false,
-    )
+    serves_from_places (YieldsList-from_chunks_zip {s = c.zip.result} a.o a.apart a.lengths.now a.mem.now c.requires.apart_some (ap chunks_rest c.zip.ensures.first ∙ c.chunks.ensures.rest) (ap chunks_size c.zip.ensures.first ∙ c.chunks.ensures.size) c.zip.ensures.second.0)
+    (λ x q h. refl)
+    (λ x k h e. let fits = chunk-holds a.o a.apart a.lengths.now a.mem.now k x.0.now x.1.now c.requires.apart_some c.requires.capped c.requires.apart_bound h e in search (rules, length-take-le))
 
 pub returns : goal.returns
-unfolding line_parts held_in all_zero
 returns c =
-    let l = c.loop-i in
     let a = c.args in
-    sym (l.invariant.2 ∙ rw (drop_of_length-le a.lengths.now {i = l.i} c.loop-i-test.false))
+    all_from_yields_List (λ (p : List Float × ℕ). all_zero (take p.1 p.0)) c.all.new.self _ c.all.result c.all.ensures.ran
+    (YieldsList-from_chunks_zip {s = c.zip.result} a.o a.apart a.lengths.now a.mem.now c.requires.apart_some (ap chunks_rest c.zip.ensures.first ∙ c.chunks.ensures.rest) (ap chunks_size c.zip.ensures.first ∙ c.chunks.ensures.size) c.zip.ensures.second.0)
+    (λ x b q k. search (rules, tests))
+    ∙ zeros-chunked a.o a.apart (length (drop a.o a.mem.now)) a.lengths.now a.mem.now c.requires.apart_some c.requires.capped c.requires.apart_bound (omega (arith, length-drop a.o a.mem.now))

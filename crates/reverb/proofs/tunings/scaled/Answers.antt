@@ -13,17 +13,17 @@ cut-is ratio base n x e c = c ∙ ap (λ (y : Float). whole_part (mul binary64 y
 pub whole_part_small-n-requires : goal.whole_part_small-n-requires
 whole_part_small-n-requires c =
     let r = c.requires in
-    rw c.from_u32.ensures (product_small c.args.ratio c.args.base r.least_tuning_le_base r.base_le_most_tuning r.ratio_in_range)
+    rw c.from.ensures (product_small c.args.ratio c.args.base r.least_tuning_le_base r.base_le_most_tuning r.ratio_in_range)
 
 pub overflow_cast-n : goal.overflow_cast-n
 overflow_cast-n c =
     let r = c.requires in
-    omega (arith, cut-is c.args.ratio c.args.base _ _ c.from_u32.ensures c.whole_part_small-n.ensures, product-cut c.args.ratio c.args.base r.least_tuning_le_base r.base_le_most_tuning r.ratio_in_range)
+    omega (arith, cut-is c.args.ratio c.args.base _ _ c.from.ensures c.whole_part_small-n.ensures, product-cut c.args.ratio c.args.base r.least_tuning_le_base r.base_le_most_tuning r.ratio_in_range)
 
 pub returns-then-n-most : goal.returns-then-n-most
 unfolding scaled
-returns-then-n-most c = omega (arith, cut-is c.args.ratio c.args.base _ _ c.from_u32.ensures c.whole_part_small-n.ensures)
+returns-then-n-most c = omega (arith, cut-is c.args.ratio c.args.base _ _ c.from.ensures c.whole_part_small-n.ensures)
 
 pub returns-else-n-most : goal.returns-else-n-most
 unfolding scaled
-returns-else-n-most c = omega (arith, cut-is c.args.ratio c.args.base _ _ c.from_u32.ensures c.whole_part_small-n.ensures)
+returns-else-n-most c = omega (arith, cut-is c.args.ratio c.args.base _ _ c.from.ensures c.whole_part_small-n.ensures)

@@ -6,21 +6,13 @@ use Rattle.reverb.specs.Tunings.{comb_most, allpass_most, comb_tunings, allpass_
 use Rattle.reverb.proofs.Scaling.{ratio-fits, beside-capped}
 use Rattle.reverb.proofs.tunings.scaled_lengths.Goals as goal
 
-pub scale-requires-clause-all_tuned : goal.scale-requires-clause-all_tuned
-unfolding tuned
-scale-requires-clause-all_tuned c = refl
+pub scale-requires : goal.scale-requires
+unfolding tuned ratio of_bits of_int
+scale-requires c = (omega arith, (omega arith, (refl, (ratio-fits c.args.rate (sym c.rate_fits.ensures ∙ c.if-not-rate_fits.false), (omega arith, omega arith)))))
 
-pub scale-requires-clause-ratio_in_range : goal.scale-requires-clause-ratio_in_range
-unfolding ratio of_bits of_int
-scale-requires-clause-ratio_in_range c = ratio-fits c.args.rate (sym c.rate_fits.ensures ∙ c.if-not-rate_fits.false)
-
-pub scale-requires-2-clause-all_tuned : goal.scale-requires-2-clause-all_tuned
-unfolding tuned
-scale-requires-2-clause-all_tuned c = refl
-
-pub scale-requires-2-clause-ratio_in_range : goal.scale-requires-2-clause-ratio_in_range
-unfolding ratio of_bits of_int
-scale-requires-2-clause-ratio_in_range c = ratio-fits c.args.rate (sym c.rate_fits.ensures ∙ c.if-not-rate_fits.false)
+pub scale-requires-2 : goal.scale-requires-2
+unfolding tuned ratio of_bits of_int
+scale-requires-2 c = (omega arith, (omega arith, (refl, (ratio-fits c.args.rate (sym c.rate_fits.ensures ∙ c.if-not-rate_fits.false), (omega arith, omega arith)))))
 
 -- the right lengths, which the code works out by the spread held to the longest comb
 right-are : (most wide : ℕ) (r : Float) (tunings lengths : List ℕ) → most ≤ comb_most → wide ≡ min (spread r) comb_most
@@ -40,8 +32,8 @@ returns c =
     let fits : rate_fits rate ≡ true = sym c.rate_fits.ensures ∙ c.if-not-rate_fits.false in
     rw fits (λ i.
     record {
-      comb_l = c.scale.ensures.left_after i;
-      comb_r = right-are comb_most _ r comb_tunings _ (omega arith) wide c.scale.ensures.right_after i;
-      allpass_l = c.scale-2.ensures.left_after i;
-      allpass_r = right-are allpass_most _ r allpass_tunings _ (omega arith) wide c.scale-2.ensures.right_after i;
+      comb_l = c.scale.ensures.left i;
+      comb_r = right-are comb_most _ r comb_tunings _ (omega arith) wide c.scale.ensures.right i;
+      allpass_l = c.scale-2.ensures.left i;
+      allpass_r = right-are allpass_most _ r allpass_tunings _ (omega arith) wide c.scale-2.ensures.right i;
     })

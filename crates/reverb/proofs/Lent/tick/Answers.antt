@@ -1,4 +1,4 @@
--- `Reverb::tick_in_place`: causes 4 and 3, then the ports' numbers, cause 5, then the tick. Assumes nothing.
+-- `Lent::tick`: causes 4 and 3, then the ports' numbers, cause 5, then the tick. Assumes nothing.
 use Rattle.std.proofs.Common.{◌≡◌, ℕ, Bool, true, false, not, ◌||◌, List, length, refl, sym, ap, ◌∙◌, arith}
 use lib.Ieee.{Float, round, is_nan}
 use lib.Ieee as Ieee
@@ -16,10 +16,10 @@ use Rattle.reverb.specs.declared.tick.Controls.{Controls}
 use Rattle.reverb.specs.declared.Reverb.{Reverb}
 use Rattle.reverb.specs.Tunings.{lengths_at, lengths_for}
 use Rattle.reverb.specs.Tank.{tank_size, positions_fit}
-use Rattle.reverb.specs.Reverb.{reverb, Tick, controls_of, state_of, state_fits, tick_number, next, writes, samples, Advances}
+use Rattle.reverb.specs.Reverb.{reverb, Tick, controls_of, lent_state, state_fits, tick_number, next, writes, samples, Advances}
 use Rattle.reverb.proofs.Scaling.{lengths-are}
 use Rattle.reverb.proofs.Laws.{fits_by, fits-parts}
-use Rattle.reverb.proofs.Reverb.tick_in_place.Goals as goal
+use Rattle.reverb.proofs.Lent.tick.Goals as goal
 
 -- the lengths n are those for the rate of the state s
 module _ (s : Reverb) {n : Lengths} (found : n ≡ lengths_for s.sample_rate) where
@@ -63,27 +63,24 @@ module _ (s : Reverb) (m : List Float) (t : Tick) {n : Lengths} (found : n ≡ l
         (w.memory ∙ (λ i. laid (writes (taken i) s m) m))
         (w.answer ∙ (λ i. played (samples (taken i) s m)))
 
-pub returns-then-not-fits : goal.returns-then-not-fits
-returns-then-not-fits c = unfit _ _ _ c.lengths_at-n.ensures c.if-not-fits.ensures
+pub returns-then-not-fits-clause-does : goal.returns-then-not-fits-clause-does
+returns-then-not-fits-clause-does c = unfit (lent_state c.args.self.now) _ _ c.lengths_at-n.ensures c.if-not-fits.ensures
 
-pub returns-in-Refused : goal.returns-in-Refused
-returns-in-Refused c = short _ _ _ c.lengths_at-n.ensures c.in-Refused.cause c.if-not-fits.ensures c.in-Refused.ensures
+pub returns-in-Err-clause-does : goal.returns-in-Err-clause-does
+returns-in-Err-clause-does c = short (lent_state c.args.self.now) _ _ c.lengths_at-n.ensures c.in-Err.cause c.if-not-fits.ensures c.in-Err.ensures
 
-pub returns-in-Refused-causes : goal.returns-in-Refused-causes
-returns-in-Refused-causes c =
-    unheard _ _ _ c.lengths_at-n.ensures c.if-not-fits.ensures c.in_default.ensures c.controls_of-c.ensures c.is_nan.ensures c.is_nan-2.ensures c.is_nan-3.ensures c.is_nan-4.ensures
-    c.in-Refused-causes.cause c.in-Refused-causes.ensures
+pub returns-in-Err-causes-clause-does : goal.returns-in-Err-causes-clause-does
+returns-in-Err-causes-clause-does c =
+    unheard (lent_state c.args.self.now) _ _ c.lengths_at-n.ensures c.if-not-fits.ensures c.in_default.ensures c.controls_of-c.ensures c.is_nan.ensures c.is_nan-2.ensures
+    c.is_nan-3.ensures c.is_nan-4.ensures c.in-Err-causes.cause c.in-Err-causes.ensures
 
 pub advance-requires-clause-n_value : goal.advance-requires-clause-n_value
-advance-requires-clause-n_value c =
-    let a = c.args in
-    let s = state_of a.comb_pos_l.now a.comb_pos_r.now a.comb_filter_state_l.now a.comb_filter_state_r.now a.allpass_pos_l.now a.allpass_pos_r.now a.predelay_pos.now a.rate in
-    long s c.lengths_at-n.ensures c.if-not-fits.ensures
+advance-requires-clause-n_value c = long (lent_state c.args.self.now) c.lengths_at-n.ensures c.if-not-fits.ensures
 
 pub advance-requires-clause-unit_fits : goal.advance-requires-clause-unit_fits
-advance-requires-clause-unit_fits c = passed _ c.lengths_at-n.ensures c.if-not-fits.ensures
+advance-requires-clause-unit_fits c = passed (lent_state c.args.self.now) c.lengths_at-n.ensures c.if-not-fits.ensures
 
-pub returns : goal.returns
-returns c =
-    ticks _ _ _ c.lengths_at-n.ensures c.if-not-fits.ensures c.in_default.ensures c.controls_of-c.ensures c.is_nan.ensures c.is_nan-2.ensures c.is_nan-3.ensures c.is_nan-4.ensures
-    c.in_default-causes.ensures c.advance.ensures
+pub returns-clause-does : goal.returns-clause-does
+returns-clause-does c =
+    ticks (lent_state c.args.self.now) _ _ c.lengths_at-n.ensures c.if-not-fits.ensures c.in_default.ensures c.controls_of-c.ensures c.is_nan.ensures c.is_nan-2.ensures
+    c.is_nan-3.ensures c.is_nan-4.ensures c.in_default-causes.ensures c.advance.ensures.advances
