@@ -2,9 +2,10 @@
 -- Assumes nothing.
 use Prim.Native.Nat.{ℕ}
 use mathlib.Core.Path.{◌≡◌, refl, sym, ap, ◌∙◌, subst}
-use mathlib.Core.Bool.{Bool, true, false, cond}
+use mathlib.Core.Bool.{Bool, true, false}
 use mathlib.Core.List.{List}
 use lib.Ieee.{Float}
+use Rattle.std.specs.Int.{from_bool}
 use Rattle.port.specs.Answer.{Reply, reply_number}
 use Rattle.effect.specs.Effect.{Effect}
 use Rattle.effect.specs.Run.{tick, CallOf, Device, number_at, step, reply}
@@ -14,14 +15,15 @@ use Rattle.effect.proofs.Table.{if_none-both}
 use Rattle.room_effects.specs.States.{is_on, FlagWritten}
 use Rattle.room_effects.specs.Lent.{samples_from, CallReturns, TickReturns}
 
--- ---- a flag that is written as 0 or 1 is on where it was
+-- ---- a flag that is written as its number, 0 or 1, is on where it was
 
-pub on-flag : {n : ℕ} (b : Bool) → n ≡ cond b 1 0 → is_on n ≡ b
+pub on-flag : {n : ℕ} (b : Bool) → n ≡ from_bool b → is_on n ≡ b
 on-flag true e = rw e
 on-flag false e = rw e
 
-pub written : {n : ℕ} (b : Bool) → n ≡ cond b 1 0 → FlagWritten n
-written {n} b e = e ∙ ap (λ (on : Bool). cond on 1 0) (sym (on-flag b e))
+pub written : {n : ℕ} (b : Bool) → n ≡ from_bool b → FlagWritten n
+written true e = rw e
+written false e = rw e
 
 -- ---- a call of the unit u, that returns r
 

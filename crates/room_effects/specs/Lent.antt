@@ -1,6 +1,6 @@
 -- What a call of the C interface leaves in the numbers and the memory lent to it and what it returns: the effect's own state, memory and answer, in
 -- plain numbers. For any effect: the state that the lent numbers make is `state_of` of its page, and of
--- chorus and delay in specs/States.antt. Definitions only. Assumes nothing.
+-- the delay in specs/States.antt. Definitions only. Assumes nothing.
 use Rattle.std.specs.Prelude.{ℕ, zero, suc, ◌≡◌, List, [], ◌∷◌, Float}
 use Rattle.port.specs.Answer.{Reply, reply_number, reply_sample, reply_silent}
 use Rattle.effect.specs.Effect.{Effect}

@@ -1,17 +1,9 @@
--- States in lent numbers where these are not just the state's fields: the chorus's, the delay's, and flags. The others' are `state_of` of each page.
+-- States in lent numbers where these are not just the state's fields: the delay's, and flags. The others' are `state_of` of each page.
 -- Definitions only. Assumes nothing.
-use Rattle.std.specs.Prelude.{ℕ, ◌≡◌, Bool, not, cond, List, eqb, get_or, Float}
-use Rattle.std.specs.Float.{nan}
+use Rattle.std.specs.Prelude.{ℕ, ◌≡◌, Bool, not, cond, eqb, Float}
 use Rattle.effect.specs.Run.{if_none}
 use Rattle.delay_line.specs.declared.DelayLine.{DelayLine}
 use Rattle.delay_line.specs.DelayLine as delay
-use Rattle.chorus.specs.declared.Chorus.{Chorus}
-use Rattle.chorus.specs.Chorus as chorus
-
--- the chorus, whose three phases are one array
-abbrev pub chorus_of : ℕ → List Float → Float → Chorus
-chorus_of pos phases rate =
-    chorus.state_of pos (record { phase0 = get_or phases 0 nan; phase1 = get_or phases 1 nan; phase2 = get_or phases 2 nan }) rate
 
 -- ---- a flag in a lent number: 0 is off, any other is on, and 1 is written for it
 

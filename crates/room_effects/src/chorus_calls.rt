@@ -1,34 +1,22 @@
 // The chorus's calls.
 ghost use Rattle.effect.specs.Run.{retune, reset, device_of};
 ghost use Rattle.effect.specs.Contract.{lent_at, from_to};
-ghost use Rattle.chorus.specs.Chorus.{chorus, tick_of};
+ghost use Rattle.chorus.specs.Chorus.{chorus, tick_of, state_of};
 ghost use Rattle.room_effects.specs.Lent.{StartReturns, CallReturns, TickReturns, AskReturns};
-ghost use Rattle.room_effects.specs.States.{chorus_of};
 ghost use Rattle.room_effects.specs.Ports.{port_at};
-ghost use Rattle.std.specs.Prelude.{◌≡◌};
+ghost use Rattle.std.specs.Prelude.{◌≡◌, [], ◌∷◌};
 
 use crate::shared::{port_at, put_samples};
 use chorus::Chorus;
-use port::Outcome;
+use port::{number_of, silent_flag};
 
-// A chorus's state from lent numbers, and back into them.
-fn chorus_of(write_pos: u64, lfo_phases: &[f64; 3], sample_rate: f64) -> Chorus
-    ensures { result ≡ chorus_of write_pos lfo_phases.now sample_rate }
-{
-    Chorus {
-        write_pos,
-        lfo_phase0: lfo_phases[0],
-        lfo_phase1: lfo_phases[1],
-        lfo_phase2: lfo_phases[2],
-        sample_rate,
-    }
-}
-
+// A chorus's position and phases into lent numbers; the rate is written, or kept, beside.
 fn put_chorus(state: Chorus, write_pos: &mut u64, lfo_phases: &mut [f64; 3])
-    ensures { chorus_of write_pos.new lfo_phases.new state.sample_rate ≡ state }
+    ensures { state_of write_pos.new lfo_phases.new state.sample_rate ≡ state }
 {
+    let phases = state.lfo_phases;
     *write_pos = state.write_pos;
-    *lfo_phases = [state.lfo_phase0, state.lfo_phase1, state.lfo_phase2];
+    *lfo_phases = phases;
 }
 
 // Start of a chorus. A refused one writes the state of zeros too, and leaves the memory as it was.
@@ -40,15 +28,13 @@ pub extern "C" fn room_raw_chorus_start(
     lfo_phases: &mut [f64; 3],
     sample_rate: &mut f64,
 ) -> u32
-    ensures { StartReturns chorus new_sample_rate memory.old (device_of (chorus_of write_pos.new
+    ensures { StartReturns chorus new_sample_rate memory.old (device_of (state_of write_pos.new
         lfo_phases.new sample_rate.new) memory.new) result }
 {
     let started = Chorus::new(new_sample_rate, memory);
-    let state = started.state;
-    put_chorus(state, write_pos, lfo_phases);
-    *sample_rate = state.sample_rate;
-    let outcome = started.outcome;
-    outcome.number()
+    put_chorus(started.state, write_pos, lfo_phases);
+    *sample_rate = started.state.sample_rate;
+    number_of(started.outcome)
 }
 
 #[unsafe(no_mangle)]
@@ -59,18 +45,21 @@ pub extern "C" fn room_raw_chorus_retune(
     lfo_phases: &mut [f64; 3],
     sample_rate: &mut f64,
 ) -> u32
-    ensures { from_to (λ k. device_of (chorus_of (lent_at write_pos k) (lent_at lfo_phases k) (lent_at sample_rate k))
+    ensures { from_to (λ k. device_of (state_of (lent_at write_pos k) (lent_at lfo_phases k) (lent_at sample_rate k))
         (lent_at memory k))
         (λ u u'. CallReturns chorus (retune new_sample_rate) u u' result) }
 {
-    let state = chorus_of(*write_pos, lfo_phases, *sample_rate);
+    let state = Chorus {
+        write_pos: *write_pos,
+        lfo_phases: *lfo_phases,
+        sample_rate: *sample_rate,
+    };
     let cleared = state.set_sample_rate(new_sample_rate, memory);
-    if let Outcome::Refused(cause) = cleared.outcome {
-        return cause.number();
+    if let Err(cause) = cleared.outcome {
+        return u32::from(cause);
     }
-    let next = cleared.state;
-    put_chorus(next, write_pos, lfo_phases);
-    *sample_rate = next.sample_rate;
+    put_chorus(cleared.state, write_pos, lfo_phases);
+    *sample_rate = cleared.state.sample_rate;
     0
 }
 
@@ -81,13 +70,17 @@ pub extern "C" fn room_raw_chorus_reset(
     lfo_phases: &mut [f64; 3],
     sample_rate: f64,
 ) -> u32
-    ensures { from_to (λ k. device_of (chorus_of (lent_at write_pos k) (lent_at lfo_phases k) sample_rate) (lent_at memory k))
+    ensures { from_to (λ k. device_of (state_of (lent_at write_pos k) (lent_at lfo_phases k) sample_rate) (lent_at memory k))
         (λ u u'. CallReturns chorus reset u u' result) }
 {
-    let state = chorus_of(*write_pos, lfo_phases, sample_rate);
+    let state = Chorus {
+        write_pos: *write_pos,
+        lfo_phases: *lfo_phases,
+        sample_rate,
+    };
     let cleared = state.reset(memory);
-    if let Outcome::Refused(cause) = cleared.outcome {
-        return cause.number();
+    if let Err(cause) = cleared.outcome {
+        return u32::from(cause);
     }
     put_chorus(cleared.state, write_pos, lfo_phases);
     0
@@ -110,20 +103,22 @@ pub extern "C" fn room_raw_chorus_tick(
     sine2: f64,
     out: &mut [f64; 3],
 ) -> u32
-    ensures { from_to (λ k. device_of (chorus_of (lent_at write_pos k) (lent_at lfo_phases k) sample_rate) (lent_at memory k))
-        (λ u u'. TickReturns chorus 3 (tick_of (port_at set 1 audio) (port_at set 2 depth) (port_at set 4 mix) frequency sine0 sine1
-        sine2) u u' out.new result) }
+    ensures { from_to (λ k. device_of (state_of (lent_at write_pos k) (lent_at lfo_phases k) sample_rate) (lent_at memory k))
+        (λ u u'. TickReturns chorus 3 (tick_of (port_at set 1 audio) (port_at set 2 depth) (port_at set 4 mix) frequency
+        (sine0 ∷ sine1 ∷ sine2 ∷ [])) u u' out.new result) }
 {
-    let state = chorus_of(*write_pos, lfo_phases, sample_rate);
+    let state = Chorus {
+        write_pos: *write_pos,
+        lfo_phases: *lfo_phases,
+        sample_rate,
+    };
     let ticked = state.tick(
         memory,
         port_at(set, 1, audio),
         port_at(set, 2, depth),
         port_at(set, 4, mix),
         frequency,
-        sine0,
-        sine1,
-        sine2,
+        [sine0, sine1, sine2],
     );
     let answer = ticked.answer;
     let number = answer.number();
@@ -143,12 +138,15 @@ pub extern "C" fn room_raw_chorus_silent(
     memory: &[f64],
     out: &mut u32,
 ) -> u32
-    ensures { AskReturns chorus (device_of (chorus_of write_pos lfo_phases.now sample_rate)
+    ensures { AskReturns chorus (device_of (state_of write_pos lfo_phases.now sample_rate)
         memory.now) out.new result }
 {
-    let state = chorus_of(write_pos, lfo_phases, sample_rate);
+    let state = Chorus {
+        write_pos,
+        lfo_phases: *lfo_phases,
+        sample_rate,
+    };
     let silence = state.silent(memory);
-    let yes = silence.flag();
-    *out = yes;
-    silence.number()
+    *out = silent_flag(silence);
+    number_of(silence)
 }

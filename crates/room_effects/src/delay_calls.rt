@@ -1,5 +1,5 @@
 // The delay's calls. A flag crosses as a number: 0 is off, any other is on, and what is written is 0 or 1.
-ghost use Rattle.std.specs.Prelude.{◌≡◌, cond, [], ◌∷◌};
+ghost use Rattle.std.specs.Prelude.{◌≡◌, [], ◌∷◌};
 ghost use Rattle.effect.specs.Run.{retune, reset, device_of};
 ghost use Rattle.effect.specs.Contract.{lent_at, from_to};
 ghost use Rattle.delay_line.specs.DelayLine.{delay_line, handing, retuning, tick_of};
@@ -9,13 +9,7 @@ ghost use Rattle.room_effects.specs.Ports.{port_at};
 
 use crate::shared::port_at;
 use delay_line::DelayLine;
-use port::Outcome;
-
-fn flag(on: bool) -> u32
-    ensures { result ≡ cond on 1 0 }
-{
-    if on { 1 } else { 0 }
-}
+use port::{number_of, silent_flag};
 
 // A delay's state from lent numbers.
 fn delay_of(
@@ -72,13 +66,12 @@ pub extern "C" fn room_raw_delay_start(
     );
     *write_pos = started.state.write_pos;
     *smoothed_delay = started.state.smoothed_delay;
-    *delay_primed = flag(started.state.delay_primed);
+    *delay_primed = u32::from(started.state.delay_primed);
     *sample_rate = started.state.sample_rate;
     *delay_smooth_coef = started.state.delay_smooth_coef;
     *max_delay_secs = started.state.max_delay_secs;
-    *linear_time = flag(started.state.linear_time);
-    let outcome = started.outcome;
-    outcome.number()
+    *linear_time = u32::from(started.state.linear_time);
+    number_of(started.outcome)
 }
 
 #[unsafe(no_mangle)]
@@ -109,12 +102,12 @@ pub extern "C" fn room_raw_delay_retune(
         linear_time,
     );
     let cleared = state.set_sample_rate(new_sample_rate, new_delay_smooth_coef, memory);
-    if let Outcome::Refused(cause) = cleared.outcome {
-        return cause.number();
+    if let Err(cause) = cleared.outcome {
+        return u32::from(cause);
     }
     *write_pos = cleared.state.write_pos;
     *smoothed_delay = cleared.state.smoothed_delay;
-    *delay_primed = flag(cleared.state.delay_primed);
+    *delay_primed = u32::from(cleared.state.delay_primed);
     *sample_rate = cleared.state.sample_rate;
     *delay_smooth_coef = cleared.state.delay_smooth_coef;
     0
@@ -146,12 +139,12 @@ pub extern "C" fn room_raw_delay_reset(
         linear_time,
     );
     let cleared = state.reset(memory);
-    if let Outcome::Refused(cause) = cleared.outcome {
-        return cause.number();
+    if let Err(cause) = cleared.outcome {
+        return u32::from(cause);
     }
     *write_pos = cleared.state.write_pos;
     *smoothed_delay = cleared.state.smoothed_delay;
-    *delay_primed = flag(cleared.state.delay_primed);
+    *delay_primed = u32::from(cleared.state.delay_primed);
     0
 }
 
@@ -204,7 +197,7 @@ pub extern "C" fn room_raw_delay_tick(
     }
     *write_pos = ticked.state.write_pos;
     *smoothed_delay = ticked.state.smoothed_delay;
-    *delay_primed = flag(ticked.state.delay_primed);
+    *delay_primed = u32::from(ticked.state.delay_primed);
     0
 }
 
@@ -233,6 +226,6 @@ pub extern "C" fn room_raw_delay_silent(
         linear_time,
     );
     let silence = state.silent(memory);
-    *out = silence.flag();
-    silence.number()
+    *out = silent_flag(silence);
+    number_of(silence)
 }

@@ -7,8 +7,8 @@ ghost use Rattle.room_effects.specs.Lent.{StartReturns, CallReturns, TickReturns
 ghost use Rattle.room_effects.specs.Ports.{port_at};
 
 use crate::shared::{port_at, put_samples};
-use phaser::Phaser;
-use port::Outcome;
+use phaser::{Chain, Chains, Lent, Phaser};
+use port::{number_of, silent_flag};
 
 // A phaser's state from lent numbers.
 fn phaser_of(
@@ -78,8 +78,7 @@ pub extern "C" fn room_raw_phaser_start(
         lfo_phase,
     );
     *sample_rate = started.state.sample_rate;
-    let outcome = started.outcome;
-    outcome.number()
+    number_of(started.outcome)
 }
 
 #[unsafe(no_mangle)]
@@ -104,8 +103,8 @@ pub extern "C" fn room_raw_phaser_reset(
         sample_rate,
     );
     let cleared = state.reset();
-    if let Outcome::Refused(cause) = cleared.outcome {
-        return cause.number();
+    if let Err(cause) = cleared.outcome {
+        return u32::from(cause);
     }
     put_phaser(
         cleared.state,
@@ -118,14 +117,14 @@ pub extern "C" fn room_raw_phaser_reset(
     0
 }
 
-// A tick, on the lent arrays themselves. The mask's bits say which ports are set: 1 audio, 2 feedback, 4 mix, 8 stages.
+// A tick, on the lent arrays themselves, which are one struct of one lifetime there. The mask's bits say which ports are set: 1 audio, 2 feedback, 4 mix, 8 stages.
 #[unsafe(no_mangle)]
-pub extern "C" fn room_raw_phaser_tick(
-    allpass_x1_l: &mut [f64; 6],
-    allpass_x1_r: &mut [f64; 6],
-    allpass_y1_l: &mut [f64; 6],
-    allpass_y1_r: &mut [f64; 6],
-    lfo_phase: &mut f64,
+pub extern "C" fn room_raw_phaser_tick<'a>(
+    allpass_x1_l: &'a mut [f64; 6],
+    allpass_x1_r: &'a mut [f64; 6],
+    allpass_y1_l: &'a mut [f64; 6],
+    allpass_y1_r: &'a mut [f64; 6],
+    lfo_phase: &'a mut f64,
     sample_rate: f64,
     set: u32,
     audio: f64,
@@ -142,13 +141,21 @@ pub extern "C" fn room_raw_phaser_tick(
         (λ u u'. TickReturns phaser 3 (tick_of (port_at set 1 audio) (port_at set 2 feedback) (port_at set 4 mix) (port_at set 8 stages)
         frequency coef_l coef_r) u u' out.new result) }
 {
-    let answer = Phaser::tick_in_place(
-        allpass_x1_l,
-        allpass_x1_r,
-        allpass_y1_l,
-        allpass_y1_r,
+    let mut lent = Lent {
+        chains: Chains {
+            left: Chain {
+                x1: allpass_x1_l,
+                y1: allpass_y1_l,
+            },
+            right: Chain {
+                x1: allpass_x1_r,
+                y1: allpass_y1_r,
+            },
+        },
         lfo_phase,
         sample_rate,
+    };
+    let answer = lent.tick(
         port_at(set, 1, audio),
         port_at(set, 2, feedback),
         port_at(set, 4, mix),
@@ -183,6 +190,6 @@ pub extern "C" fn room_raw_phaser_silent(
         sample_rate,
     );
     let silence = state.silent();
-    *out = silence.flag();
-    silence.number()
+    *out = silent_flag(silence);
+    number_of(silence)
 }

@@ -16,26 +16,15 @@ use vibrato::Vibrato;
 pub extern "C" fn room_places_needed(effect: u32, rate: f64, maximum: f64) -> u64
     ensures { result ≡ needed_by effect rate maximum }
 {
-    if effect == 1 {
-        return DelayLine::places_needed(rate, maximum);
-    }
-    if effect == 2 {
-        return Chorus::places_needed(rate);
-    }
-    if effect == 3 {
-        return Flanger::places_needed(rate);
-    }
-    if effect == 4 {
-        return Vibrato::places_needed(rate);
-    }
-    if effect == 5 {
-        return Tremolo::places_needed(rate);
-    }
-    if effect == 6 {
-        return Reverb::places_needed(rate);
-    }
-    if effect == 7 {
-        return Phaser::places_needed(rate);
-    }
-    0xffff_ffff_ffff_ffff
+    let needed = match effect {
+        1 => DelayLine::places_needed(rate, maximum),
+        2 => Chorus::places_needed(rate),
+        3 => Flanger::places_needed(rate),
+        4 => Vibrato::places_needed(rate),
+        5 => Tremolo::places_needed(rate),
+        6 => Reverb::places_needed(rate),
+        7 => Phaser::places_needed(rate),
+        _ => None,
+    };
+    needed.unwrap_or(u64::MAX)
 }

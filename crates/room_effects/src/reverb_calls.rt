@@ -7,8 +7,8 @@ ghost use Rattle.room_effects.specs.Lent.{StartReturns, CallReturns, TickReturns
 ghost use Rattle.room_effects.specs.Ports.{port_at};
 
 use crate::shared::port_at;
-use port::Outcome;
-use reverb::Reverb;
+use port::{number_of, silent_flag};
+use reverb::{Lent, Reverb};
 
 // A reverb's state into lent arrays; the rate is written, or kept, beside.
 fn put_reverb(
@@ -71,8 +71,7 @@ pub extern "C" fn room_raw_reverb_start(
         predelay_pos,
     );
     *sample_rate = started.state.sample_rate;
-    let outcome = started.outcome;
-    outcome.number()
+    number_of(started.outcome)
 }
 
 #[unsafe(no_mangle)]
@@ -104,8 +103,8 @@ pub extern "C" fn room_raw_reverb_retune(
         sample_rate: *sample_rate,
     };
     let cleared = state.set_sample_rate(new_sample_rate, memory);
-    if let Outcome::Refused(cause) = cleared.outcome {
-        return cause.number();
+    if let Err(cause) = cleared.outcome {
+        return u32::from(cause);
     }
     put_reverb(
         cleared.state,
@@ -149,8 +148,8 @@ pub extern "C" fn room_raw_reverb_reset(
         sample_rate,
     };
     let cleared = state.reset(memory);
-    if let Outcome::Refused(cause) = cleared.outcome {
-        return cause.number();
+    if let Err(cause) = cleared.outcome {
+        return u32::from(cause);
     }
     put_reverb(
         cleared.state,
@@ -165,17 +164,17 @@ pub extern "C" fn room_raw_reverb_reset(
     0
 }
 
-// A tick, on the lent arrays themselves: each of their 42 words is read where it is used, and written once. The mask's bits say which ports are set: 1 audio,
+// A tick, on the lent arrays themselves, which are one struct of one lifetime there: each of their 42 words is read where it is used, and written once. The mask's bits say which ports are set: 1 audio,
 // 2 size, 4 damping, 8 mix, 16 predelay.
 #[unsafe(no_mangle)]
-pub extern "C" fn room_raw_reverb_tick(
-    comb_pos_l: &mut [u64; 8],
-    comb_pos_r: &mut [u64; 8],
-    comb_filter_state_l: &mut [f64; 8],
-    comb_filter_state_r: &mut [f64; 8],
-    allpass_pos_l: &mut [u64; 4],
-    allpass_pos_r: &mut [u64; 4],
-    predelay_pos: &mut u64,
+pub extern "C" fn room_raw_reverb_tick<'a>(
+    comb_pos_l: &'a mut [u64; 8],
+    comb_pos_r: &'a mut [u64; 8],
+    comb_filter_state_l: &'a mut [f64; 8],
+    comb_filter_state_r: &'a mut [f64; 8],
+    allpass_pos_l: &'a mut [u64; 4],
+    allpass_pos_r: &'a mut [u64; 4],
+    predelay_pos: &'a mut u64,
     sample_rate: f64,
     memory: &mut [f64],
     set: u32,
@@ -192,7 +191,7 @@ pub extern "C" fn room_raw_reverb_tick(
         (λ u u'. TickReturns reverb 2 (tick_of (port_at set 1 audio) (port_at set 2 size) (port_at set 4 damping) (port_at set 8 mix)
         (port_at set 16 predelay)) u u' out.new result) }
 {
-    let answer = Reverb::tick_in_place(
+    let mut lent = Lent {
         comb_pos_l,
         comb_pos_r,
         comb_filter_state_l,
@@ -201,6 +200,8 @@ pub extern "C" fn room_raw_reverb_tick(
         allpass_pos_r,
         predelay_pos,
         sample_rate,
+    };
+    let answer = lent.tick(
         memory,
         port_at(set, 1, audio),
         port_at(set, 2, size),
@@ -240,6 +241,6 @@ pub extern "C" fn room_raw_reverb_silent(
         sample_rate,
     };
     let silence = state.silent(memory);
-    *out = silence.flag();
-    silence.number()
+    *out = silent_flag(silence);
+    number_of(silence)
 }

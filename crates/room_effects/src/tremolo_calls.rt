@@ -7,7 +7,7 @@ ghost use Rattle.room_effects.specs.Ports.{port_at};
 ghost use Rattle.std.specs.Prelude.{[], ◌∷◌};
 
 use crate::shared::port_at;
-use port::Outcome;
+use port::{number_of, silent_flag};
 use tremolo::Tremolo;
 
 // Start of a tremolo. A refused one writes the state of zeros too.
@@ -23,8 +23,7 @@ pub extern "C" fn room_raw_tremolo_start(
     let started = Tremolo::new(new_sample_rate);
     *lfo_phase = started.state.lfo_phase;
     *sample_rate = started.state.sample_rate;
-    let outcome = started.outcome;
-    outcome.number()
+    number_of(started.outcome)
 }
 
 #[unsafe(no_mangle)]
@@ -37,8 +36,8 @@ pub extern "C" fn room_raw_tremolo_reset(lfo_phase: &mut f64, sample_rate: f64) 
         sample_rate,
     };
     let cleared = state.reset();
-    if let Outcome::Refused(cause) = cleared.outcome {
-        return cause.number();
+    if let Err(cause) = cleared.outcome {
+        return u32::from(cause);
     }
     *lfo_phase = cleared.state.lfo_phase;
     0
@@ -91,6 +90,6 @@ pub extern "C" fn room_raw_tremolo_silent(lfo_phase: f64, sample_rate: f64, out:
         sample_rate,
     };
     let silence = state.silent();
-    *out = silence.flag();
-    silence.number()
+    *out = silent_flag(silence);
+    number_of(silence)
 }

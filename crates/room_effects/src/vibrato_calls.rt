@@ -7,7 +7,7 @@ ghost use Rattle.room_effects.specs.Ports.{port_at};
 ghost use Rattle.std.specs.Prelude.{[], ◌∷◌};
 
 use crate::shared::port_at;
-use port::Outcome;
+use port::{number_of, silent_flag};
 use vibrato::Vibrato;
 
 // Start of a vibrato. A refused one writes the state of zeros too, and leaves the memory as it was.
@@ -26,8 +26,7 @@ pub extern "C" fn room_raw_vibrato_start(
     *write_pos = started.state.write_pos;
     *lfo_phase = started.state.lfo_phase;
     *sample_rate = started.state.sample_rate;
-    let outcome = started.outcome;
-    outcome.number()
+    number_of(started.outcome)
 }
 
 #[unsafe(no_mangle)]
@@ -48,8 +47,8 @@ pub extern "C" fn room_raw_vibrato_retune(
         sample_rate: *sample_rate,
     };
     let cleared = state.set_sample_rate(new_sample_rate, memory);
-    if let Outcome::Refused(cause) = cleared.outcome {
-        return cause.number();
+    if let Err(cause) = cleared.outcome {
+        return u32::from(cause);
     }
     *write_pos = cleared.state.write_pos;
     *lfo_phase = cleared.state.lfo_phase;
@@ -73,8 +72,8 @@ pub extern "C" fn room_raw_vibrato_reset(
         sample_rate,
     };
     let cleared = state.reset(memory);
-    if let Outcome::Refused(cause) = cleared.outcome {
-        return cause.number();
+    if let Err(cause) = cleared.outcome {
+        return u32::from(cause);
     }
     *write_pos = cleared.state.write_pos;
     *lfo_phase = cleared.state.lfo_phase;
@@ -141,6 +140,6 @@ pub extern "C" fn room_raw_vibrato_silent(
         sample_rate,
     };
     let silence = state.silent(memory);
-    *out = silence.flag();
-    silence.number()
+    *out = silent_flag(silence);
+    number_of(silence)
 }

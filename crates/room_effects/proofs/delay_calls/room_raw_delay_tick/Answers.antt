@@ -23,11 +23,11 @@ returns c =
     of-tick delay_line unit.state {t₀ = t}
     (λ i. tick_of (c.port_at.ensures i) (c.port_at-2.ensures i) (c.port_at-3.ensures i) (c.port_at-4.ensures i) a.milliseconds)
     (of-state delay_line (tick _) c.delay_of-state.ensures c.tick-ticked.ensures) in
-    let primed = on-flag next.delay_primed c.flag.ensures in
+    let primed = on-flag next.delay_primed c.from.ensures in
     let settings = tick-settings delay_line laws does in (
       played delay_line 1 does
           (stored delay_line (tick t) unit does (sym c.if-number-ne0.false ∙ c.number-number.ensures)
           (λ i. delay_of next.write_pos next.smoothed_delay (primed i) (settings i).rate (settings i).coefficient (settings i).maximum (settings i).linear))
           (λ i. c.first.ensures i ∷ []),
-      written next.delay_primed c.flag.ensures,
+      written next.delay_primed c.from.ensures,
     )

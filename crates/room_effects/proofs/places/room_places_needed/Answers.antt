@@ -1,37 +1,20 @@
 -- `room_places_needed` is `needed_by`, effect by effect. Assumes nothing.
+use Rattle.std.proofs.Common.{arith}
 use borrow.Author.Tests.{ne_eqb}
 use Rattle.needed.specs.Needed.{needed_by}
+use Rattle.room_effects.proofs.places.room_places_needed.Goals.{in-1, in-2, in-3, in-4, in-5, in-6, in-7, in_default}
 use Rattle.room_effects.proofs.places.room_places_needed.Goals as goal
-
-pub returns-then-effect-eq1 : goal.returns-then-effect-eq1
-unfolding needed_by
-returns-then-effect-eq1 c = rw c.if-effect-eq1.true c.places_needed.ensures
-
-pub returns-then-effect-eq2 : goal.returns-then-effect-eq2
-unfolding needed_by
-returns-then-effect-eq2 c = rw c.if-effect-eq2.true c.places_needed-then-effect-eq2.ensures
-
-pub returns-then-effect-eq3 : goal.returns-then-effect-eq3
-unfolding needed_by
-returns-then-effect-eq3 c = rw c.if-effect-eq3.true c.places_needed-then-effect-eq3.ensures
-
-pub returns-then-effect-eq4 : goal.returns-then-effect-eq4
-unfolding needed_by
-returns-then-effect-eq4 c = rw c.if-effect-eq4.true c.places_needed-then-effect-eq4.ensures
-
-pub returns-then-effect-eq5 : goal.returns-then-effect-eq5
-unfolding needed_by
-returns-then-effect-eq5 c = rw c.if-effect-eq5.true c.places_needed-then-effect-eq5.ensures
-
-pub returns-then-effect-eq6 : goal.returns-then-effect-eq6
-unfolding needed_by
-returns-then-effect-eq6 c = rw c.if-effect-eq6.true c.places_needed-then-effect-eq6.ensures
-
-pub returns-then-effect-eq7 : goal.returns-then-effect-eq7
-unfolding needed_by
-returns-then-effect-eq7 c = rw c.if-effect-eq7.true c.places_needed-then-effect-eq7.ensures
 
 pub returns : goal.returns
 unfolding needed_by
 returns c =
-    rw (ne_eqb _ _ c.if-effect-eq1.false, ne_eqb _ _ c.if-effect-eq2.false, ne_eqb _ _ c.if-effect-eq3.false, ne_eqb _ _ c.if-effect-eq4.false, ne_eqb _ _ c.if-effect-eq5.false, ne_eqb _ _ c.if-effect-eq6.false, ne_eqb _ _ c.if-effect-eq7.false)
+    rw c.unwrap_or.ensures elim c.match-effect.branch [
+      | in-1 w ↦ rw (w.needed-is, w.places_needed-needed.ensures, w.in-1.is)
+      | in-2 w ↦ rw (w.needed-is, w.places_needed-needed-in-2.ensures, w.in-2.is)
+      | in-3 w ↦ rw (w.needed-is, w.places_needed-needed-in-3.ensures, w.in-3.is)
+      | in-4 w ↦ rw (w.needed-is, w.places_needed-needed-in-4.ensures, w.in-4.is)
+      | in-5 w ↦ rw (w.needed-is, w.places_needed-needed-in-5.ensures, w.in-5.is)
+      | in-6 w ↦ rw (w.needed-is, w.places_needed-needed-in-6.ensures, w.in-6.is)
+      | in-7 w ↦ rw (w.needed-is, w.places_needed-needed-in-7.ensures, w.in-7.is)
+      | in_default w ↦ rw (w.needed-is, ne_eqb c.args.effect 1 (omega arith), ne_eqb c.args.effect 2 (omega arith), ne_eqb c.args.effect 3 (omega arith), ne_eqb c.args.effect 4 (omega arith), ne_eqb c.args.effect 5 (omega arith), ne_eqb c.args.effect 6 (omega arith), ne_eqb c.args.effect 7 (omega arith))
+    ]
