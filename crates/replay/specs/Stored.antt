@@ -1,5 +1,6 @@
 -- What a call has to answer, and a unit to be after it, to be what a record says. Definitions only. Assumes nothing.
-use Rattle.std.specs.Prelude.{ℕ, ◌≡◌, ◌+◌, ◌/◌, ◌%◌, ◌==◌, ⊤, cond, List, [], ◌∷◌, ◌++◌, Float}
+use Rattle.std.specs.Prelude.{ℕ, ◌≡◌, ◌+◌, ◌/◌, ◌%◌, ◌==◌, ⊤, cond, List, [], ◌∷◌, ◌++◌, get_or, Float}
+use Rattle.std.specs.Float.{nan}
 use Rattle.port.specs.Answer.{Reply, reply_number, reply_sample}
 use Rattle.phaser.specs.declared.Phaser as phaser
 use Rattle.reverb.specs.declared.Reverb as reverb
@@ -47,7 +48,8 @@ abbrev pub IsStored : Unit → List ℕ → Type 0
 IsStored Tremolo b = ⊤
 IsStored (Vibrato v) b = (v.write_pos ≡ word_of b 8) × (v.lfo_phase ≡ float_at b 9)
 IsStored (Chorus c) b =
-    (c.write_pos ≡ word_of b 12) × (c.lfo_phase0 ≡ float_at b 13) × (c.lfo_phase1 ≡ float_at b 14) × (c.lfo_phase2 ≡ float_at b 15)
+    (c.write_pos ≡ word_of b 12) × (get_or c.lfo_phases 0 nan ≡ float_at b 13) × (get_or c.lfo_phases 1 nan ≡ float_at b 14)
+    × (get_or c.lfo_phases 2 nan ≡ float_at b 15)
 IsStored (Flanger f) b = (f.write_pos ≡ word_of b 12) × (f.lfo_phase ≡ float_at b 13)
 IsStored (Delay d) b =
     (d.write_pos ≡ word_of b 8) × (d.smoothed_delay ≡ float_at b 9) × (d.delay_primed ≡ (word_of b 10 == 1))

@@ -2,7 +2,6 @@
 use Rattle.std.specs.Prelude.{ℕ, ◌+◌, ◌*◌, ◌≡◌, Bool, true, cond, List, get_or, Float, EachIndex, slice_index_or}
 use Rattle.std.specs.Float.{binary64, float_zero}
 use Rattle.std.specs.Float.Ieee.{of_bits}
-use Rattle.replay.specs.declared.words.Tally.{Tally}
 
 -- four bytes from `at` on, the lowest first
 abbrev pub half_word : List ℕ → ℕ → ℕ
@@ -25,6 +24,6 @@ pub record Decides (r : Bool) (x y : Float) : Type 0 where
   pub yes : r ≡ true → x ≡ y
   pub only : x ≡ y → r ≡ true
 
--- one call more, and one more that differs unless it is equal
-abbrev pub counted_in : Tally → Bool → Tally
-counted_in tally equal = record { calls = tally.calls + 1; differ = cond equal tally.differ (tally.differ + 1) }
+-- of so many calls that differ: one more, unless the call is equal
+abbrev pub differ_in : ℕ → Bool → ℕ
+differ_in differ equal = cond equal differ (differ + 1)

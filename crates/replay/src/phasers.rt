@@ -8,11 +8,11 @@
 ghost use Rattle.std.specs.Prelude.{◌≡◌, ◌↔◌, IsTrue};
 ghost use Rattle.replay.specs.Stored.{IsPhaserStored, phaser_looked};
 
-use crate::units::{is_accepted, is_three_samples, port};
+use crate::units::{is_three_samples, port};
 use crate::words::Record;
-use phaser::{Cleared, Phaser};
+use phaser::Phaser;
 
-// The looks, as word 0 of a record has them.
+// The looks, as word 0 of a record has them. Numbers and no enum: they are the file's, and matched once, where they are read.
 const LEFT_INPUTS: u64 = 3;
 
 const RIGHT_INPUTS: u64 = 4;
@@ -58,10 +58,4 @@ pub fn tick_or_look(p: &mut Phaser, stored: &Record) -> bool {
     );
     *p = ticked.state;
     is_three_samples(ticked.answer, stored, 9)
-}
-
-// What a reset leaves, and whether it was accepted.
-pub fn clear(p: &mut Phaser, cleared: Cleared) -> bool {
-    *p = cleared.state;
-    is_accepted(cleared.outcome)
 }

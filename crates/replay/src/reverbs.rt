@@ -7,11 +7,11 @@
 ghost use Rattle.std.specs.Prelude.{◌≡◌, ◌<◌, ◌↔◌, IsTrue};
 ghost use Rattle.replay.specs.Stored.{IsReverbStored, eight_from, reverb_looked, unpacked};
 
-use crate::units::{is_accepted, is_one_sample, port};
+use crate::units::{is_one_sample, port};
 use crate::words::Record;
-use reverb::{Cleared, Reverb};
+use reverb::Reverb;
 
-// The looks, as word 0 of a record has them.
+// The looks, as word 0 of a record has them. Numbers and no enum: they are the file's, and matched once, where they are read.
 const LEFT_STORES: u64 = 3;
 
 const RIGHT_STORES: u64 = 4;
@@ -82,10 +82,4 @@ pub fn tick_or_look(r: &mut Reverb, mem: &mut [f64], stored: &Record) -> bool {
     );
     *r = ticked.state;
     is_one_sample(ticked.answer, stored, 7) && stored.holds(8, ticked.answer.second())
-}
-
-// What a clearing leaves, and whether it was accepted.
-pub fn clear(r: &mut Reverb, cleared: Cleared) -> bool {
-    *r = cleared.state;
-    is_accepted(cleared.outcome)
 }

@@ -8,9 +8,9 @@
 // The call is 0 tick, 1 retune (the new rate stands for the mix, the delay's new coefficient for the milliseconds) or 2 reset. A tremolo's record has
 // its own state before the tick; the others are calls of one unit from its start on, which stands before them: 1 delay, 2 chorus, 3 flanger, 4 vibrato,
 // 6 reverb or 7 phaser; the rate; the places needed; of a delay also the maximum, the glide coefficient, and 1 for linear mode, else 0.
-ghost use Rattle.std.specs.Prelude.{◌≡◌, ◌≤◌, ◌<◌, ◌/◌, ◌%◌, ◌==◌, ◌↔◌, IsTrue};
+ghost use Rattle.std.specs.Prelude.{◌≡◌, ◌≤◌, ◌<◌, ◌/◌, ◌%◌, ◌==◌, ◌↔◌, IsTrue, is_ok};
 ghost use Rattle.port.specs.Port.{port_if};
-ghost use Rattle.port.specs.Answer.{answer_reply, outcome_reply, reply_number};
+ghost use Rattle.port.specs.Answer.{answer_reply};
 ghost use Rattle.replay.specs.Files.{start_size, record_size};
 ghost use Rattle.replay.specs.Stored.{IsOneSample, IsStored, IsThreeSamples};
 ghost use Rattle.replay.specs.Words.{float_at};
@@ -19,14 +19,15 @@ use crate::words::Record;
 use crate::{phasers, reverbs};
 use chorus::Chorus;
 use delay_line::DelayLine;
+use effect::Cleared;
 use flanger::Flanger;
 use phaser::Phaser;
-use port::{Answer, Outcome, Port, port_if};
+use port::{Answer, Port, port_if};
 use reverb::Reverb;
 use tremolo::Tremolo;
 use vibrato::Vibrato;
 
-// The calls that are no tick, as word 0 of a record has them.
+// The calls that are no tick, as word 0 of a record has them. Numbers and no enum: they are the file's, and matched once, where they are read.
 const RETUNE: u64 = 1;
 
 const RESET: u64 = 2;
@@ -119,10 +120,15 @@ pub fn is_three_samples(answer: Answer, stored: &Record, i: usize) -> bool
         && stored.holds(i + 2, answer.third())
 }
 
-pub fn is_accepted(outcome: Outcome) -> bool
-    ensures { IsTrue result ↔ (reply_number (outcome_reply outcome) ≡ 0) }
+// Keeps the state that a start, a retune or a reset left, and says whether it was accepted.
+fn keep<S>(state: &mut S, cleared: Cleared<S>) -> bool
+where
+    S: Copy,
+    ensures state { state.new ≡ cleared.state }
+    ensures accepted { result ≡ is_ok cleared.outcome }
 {
-    outcome.number() == 0
+    *state = cleared.state;
+    cleared.outcome.is_ok()
 }
 
 // Whether a tremolo's tick gives the stored phase and sample.
@@ -164,9 +170,7 @@ fn tick_chorus(state: &mut Chorus, mem: &mut [f64], stored: &Record) -> bool {
         port(stored, mask, 2, 3),
         port(stored, mask, 4, 4),
         stored.float(5),
-        stored.float(6),
-        stored.float(7),
-        stored.float(8),
+        [stored.float(6), stored.float(7), stored.float(8)],
     );
     *state = ticked.state;
     is_three_samples(ticked.answer, stored, 9)
@@ -200,27 +204,6 @@ fn tick_delay(state: &mut DelayLine, mem: &mut [f64], stored: &Record) -> bool {
     );
     *state = ticked.state;
     is_one_sample(ticked.answer, stored, 7)
-}
-
-// What a start, a retune or a reset leaves, and whether it was accepted.
-fn clear_vibrato(state: &mut Vibrato, cleared: vibrato::Cleared) -> bool {
-    *state = cleared.state;
-    is_accepted(cleared.outcome)
-}
-
-fn clear_chorus(state: &mut Chorus, cleared: chorus::Cleared) -> bool {
-    *state = cleared.state;
-    is_accepted(cleared.outcome)
-}
-
-fn clear_flanger(state: &mut Flanger, cleared: flanger::Cleared) -> bool {
-    *state = cleared.state;
-    is_accepted(cleared.outcome)
-}
-
-fn clear_delay(state: &mut DelayLine, cleared: delay_line::Cleared) -> bool {
-    *state = cleared.state;
-    is_accepted(cleared.outcome)
 }
 
 impl Unit {
@@ -272,13 +255,11 @@ impl Unit {
     fn retune(&mut self, mem: &mut [f64], stored: &Record) -> bool {
         match self {
             Unit::Tremolo => false,
-            Unit::Vibrato(v) => clear_vibrato(v, v.set_sample_rate(stored.float(4), mem)),
-            Unit::Chorus(c) => clear_chorus(c, c.set_sample_rate(stored.float(4), mem)),
-            Unit::Flanger(f) => clear_flanger(f, f.set_sample_rate(stored.float(5), mem)),
-            Unit::Delay(d) => {
-                clear_delay(d, d.set_sample_rate(stored.float(5), stored.float(6), mem))
-            }
-            Unit::Reverb(r) => reverbs::clear(r, r.set_sample_rate(stored.float(6), mem)),
+            Unit::Vibrato(v) => keep(v, v.set_sample_rate(stored.float(4), mem)),
+            Unit::Chorus(c) => keep(c, c.set_sample_rate(stored.float(4), mem)),
+            Unit::Flanger(f) => keep(f, f.set_sample_rate(stored.float(5), mem)),
+            Unit::Delay(d) => keep(d, d.set_sample_rate(stored.float(5), stored.float(6), mem)),
+            Unit::Reverb(r) => keep(r, r.set_sample_rate(stored.float(6), mem)),
             Unit::Phaser(_) => false,
         }
     }
@@ -286,12 +267,12 @@ impl Unit {
     fn reset(&mut self, mem: &mut [f64]) -> bool {
         match self {
             Unit::Tremolo => false,
-            Unit::Vibrato(v) => clear_vibrato(v, v.reset(mem)),
-            Unit::Chorus(c) => clear_chorus(c, c.reset(mem)),
-            Unit::Flanger(f) => clear_flanger(f, f.reset(mem)),
-            Unit::Delay(d) => clear_delay(d, d.reset(mem)),
-            Unit::Reverb(r) => reverbs::clear(r, r.reset(mem)),
-            Unit::Phaser(p) => phasers::clear(p, p.reset()),
+            Unit::Vibrato(v) => keep(v, v.reset(mem)),
+            Unit::Chorus(c) => keep(c, c.reset(mem)),
+            Unit::Flanger(f) => keep(f, f.reset(mem)),
+            Unit::Delay(d) => keep(d, d.reset(mem)),
+            Unit::Reverb(r) => keep(r, r.reset(mem)),
+            Unit::Phaser(p) => keep(p, p.reset()),
         }
     }
 
@@ -304,9 +285,9 @@ impl Unit {
             Unit::Vibrato(v) => v.write_pos == stored.word(8) && stored.holds(9, v.lfo_phase),
             Unit::Chorus(c) => {
                 c.write_pos == stored.word(12)
-                    && stored.holds(13, c.lfo_phase0)
-                    && stored.holds(14, c.lfo_phase1)
-                    && stored.holds(15, c.lfo_phase2)
+                    && stored.holds(13, c.lfo_phases[0])
+                    && stored.holds(14, c.lfo_phases[1])
+                    && stored.holds(15, c.lfo_phases[2])
             }
             Unit::Flanger(f) => f.write_pos == stored.word(12) && stored.holds(13, f.lfo_phase),
             Unit::Delay(d) => {

@@ -1,6 +1,6 @@
 // Words of a stored record, as integers and as floats, when two floats are equal, and the tally of the calls.
 ghost use Rattle.std.specs.Prelude.{◌≡◌, ◌+◌, ◌-◌, ◌≤◌, ◌<◌, ◌++◌, ◌↔◌, IsTrue, length, replicate};
-ghost use Rattle.replay.specs.Words.{half_word, word_of, float_at, AreHeld, Decides, counted_in};
+ghost use Rattle.replay.specs.Words.{half_word, word_of, float_at, AreHeld, Decides, differ_in};
 
 // The sign bit, and the bits of infinity: a NaN's are above these, its sign aside.
 const SIGN: u64 = 0x8000_0000_0000_0000;
@@ -86,19 +86,30 @@ pub fn same(x: f64, y: f64) -> bool
 }
 
 // How many calls were replayed, and how many of them differ.
-#[derive(Clone, Copy, Default)]
+#[derive(Clone, Copy)]
 pub struct Tally {
     pub calls: u64,
     pub differ: u64,
+    ghost within: { differ ≤ calls },
 }
 
 impl Tally {
+    // Before the first call.
+    pub fn new() -> Tally
+        ensures calls { result.calls ≡ 0 }
+        ensures differ { result.differ ≡ 0 }
+    {
+        Tally {
+            calls: 0,
+            differ: 0,
+        }
+    }
+
     // One call more, and one more that differs unless it is equal.
     pub fn counted(self, equal: bool) -> Tally
-        requires room { self.calls < u64.MAX }
-        requires differ { self.differ ≤ self.calls }
-        ensures value { result ≡ counted_in self equal }
-        ensures differ { result.differ ≤ result.calls }
+        requires { self.calls < u64.MAX }
+        ensures calls { result.calls ≡ self.calls + 1 }
+        ensures differ { result.differ ≡ differ_in self.differ equal }
     {
         Tally {
             calls: self.calls + 1,
