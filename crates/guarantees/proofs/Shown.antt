@@ -1,14 +1,12 @@
 -- The statements of specs/, each by what its effects show. Assumes nothing.
-use Rattle.std.proofs.Common.{◌≡◌, ◌↔◌, ℕ, zero, suc, ◌≤◌, Bool, true, refl, sym, ◌∙◌}
+use Rattle.std.proofs.Common.{◌≡◌, ℕ, zero, suc, ◌≤◌, refl, sym}
 use mathlib.Core.Bool.{or-false}
 use lib.Ieee.{nan, inf, fin, eq}
-use Rattle.float64.specs.Number.{plus_zero, is_zero}
+use Rattle.float64.specs.Number.{is_zero}
 use Rattle.float64.proofs.Ranges.{yes, finite-parts}
 use Rattle.float64.proofs.Fields as fields
 use Rattle.port.specs.declared.Port.{Port}
 use Rattle.port.specs.declared.Port.TheVariants.{Set, Unset}
-use Rattle.port.specs.Port.{value_or}
-use Rattle.common.specs.Signal.{sanitized}
 use Rattle.effect.specs.Run.{tick, Device, if_none, number_at, changed}
 use Rattle.effect.proofs.Covers.{covers}
 use Rattle.delay_line.proofs.Demand1 as delay1
