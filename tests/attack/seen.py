@@ -8,14 +8,13 @@ COMMON = """// Made by tests/attack/seen.py.
 #![tactic(auto)]
 
 use chorus::Chorus;
+use common::Line;
 use delay_line::DelayLine;
 use flanger::Flanger;
 use phaser::Phaser;
 use port::Answer;
-use port::Outcome;
 use port::Port;
 use port::Refusal;
-use port::Silence;
 use reverb::Reverb;
 use std::io;
 use tremolo::Tremolo;
@@ -84,19 +83,15 @@ fn audio(k: u64) -> Port {
 
 fn places(h: u64, mem: &[f64]) -> u64 {
     let mut sum = h;
-    let mut i: usize = 0;
-    while i < mem.len() {
-        sum = float(sum, mem[i]);
-        i += 1;
+    for x in mem {
+        sum = float(sum, *x);
     }
     sum
 }
 
 fn dirty(mem: &mut [f64]) {
-    let mut i: usize = 0;
-    while i < mem.len() {
-        mem[i] = special(i as u64);
-        i += 1;
+    for (i, place) in mem.iter_mut().enumerate() {
+        *place = special(i as u64);
     }
 }
 
@@ -104,14 +99,22 @@ fn answered(h: u64, a: Answer) -> u64 {
     float(float(float(mix(h, a.number() as u64), a.first()), a.second()), a.third())
 }
 
-fn asked(h: u64, q: Silence) -> u64 {
-    mix(mix(h, q.number() as u64), q.flag() as u64)
+fn asked(h: u64, q: Result<bool, Refusal>) -> u64 {
+    mix(mix(h, port::number_of(q) as u64), port::silent_flag(q) as u64)
+}
+
+fn cleared(h: u64, o: Result<(), Refusal>) -> u64 {
+    mix(h, port::number_of(o) as u64)
+}
+
+// the places needed, 2^64 - 1 for a rate that is refused
+fn needed(h: u64, n: Option<u64>) -> u64 {
+    mix(h, n.unwrap_or(u64::MAX))
 }
 
 fn float64_calls() -> u64 {
     let mut h: u64 = 0;
-    let mut i: u64 = 0;
-    while i < 40 {
+    for i in 0..40 {
         let x = special(i);
         h = flag(flag(flag(flag(h, float64::is_nan(x)), float64::is_finite(x)), float64::is_plus_zero(x)), float64::in_unit(x));
         h = flag(flag(flag(h, float64::rate_fits(x)), float64::coefficient_fits(x)), float64::phase_fits(x));
@@ -120,74 +123,56 @@ fn float64_calls() -> u64 {
         if x >= 1.0 && x < 4503599627370496.0 {
             h = mix(h, float64::whole_part_small(x));
         }
-        h = float(h, float64::from_u32((i * 110127366) as u32));
-        let mut j: u64 = 0;
-        while j < 40 {
+        h = float(h, f64::from((i * 110127366) as u32));
+        for j in 0..40 {
             let y = special(j);
             h = float(float(h, float64::at_least(x, y)), float64::at_most(x, y));
-            let mut k: u64 = 0;
-            while k < 40 {
+            for k in 0..40 {
                 let z = special(k);
                 h = float(flag(h, float64::in_range(x, y, z)), float64::clamp(x, y, z));
-                k += 1;
             }
-            j += 1;
         }
-        i += 1;
     }
     h
 }
 
 fn refusals(h: u64, r: Refusal) -> u64 {
-    let n = r.number() as u64;
-    let o = Outcome::Refused(r);
-    let a = Answer::Refused(r);
-    let s = Silence::Refused(r);
-    asked(answered(mix(mix(h, n), o.number() as u64), a), s)
+    let n = u32::from(r) as u64;
+    asked(answered(cleared(mix(h, n), Err(r)), Answer::Refused(r)), Err(r))
 }
 
 fn port_calls() -> u64 {
     let mut h = refusals(refusals(refusals(0, Refusal::SampleRate), Refusal::GlideCoefficient), Refusal::Memory);
     h = refusals(refusals(refusals(h, Refusal::State), Refusal::Control), Refusal::Curve);
-    let o = Outcome::Accepted;
-    h = asked(asked(mix(h, o.number() as u64), Silence::Silent), Silence::Sounding);
+    h = asked(asked(cleared(h, Ok(())), Ok(true)), Ok(false));
     h = answered(answered(answered(h, Answer::One(2.0)), Answer::Two(2.0, 3.0)), Answer::Three(2.0, 3.0, 4.0));
-    let mut i: u64 = 0;
-    while i < 40 {
+    for i in 0..40 {
         let p = port::port_if(i % 2 == 0, special(i / 2));
         let x = if let Port::Set(x) = p { x } else { 77.0 };
         h = float(h, x);
-        i += 1;
     }
     h
 }
 
 fn common_calls() -> u64 {
     let mut h: u64 = 0;
-    let mut i: u64 = 0;
-    while i < 40 {
+    for i in 0..40 {
         let x = special(i);
-        h = mix(float(h, common::sanitize_audio(x)), effect::places_or_none(i / 2));
-        let o = common::tick_causes(i % 2 == 0, i % 3 == 0);
-        h = mix(h, o.number() as u64);
-        let mut j: u64 = 0;
-        while j < 40 {
+        h = needed(float(h, common::sanitize_audio(x)), effect::places_or_none(i / 2));
+        h = cleared(h, common::tick_causes(i % 2 == 0, i % 3 == 0));
+        for j in 0..40 {
             h = float(float(h, common::blend(x, fraction(j), special(j))), common::advance_phase(x, special(j)));
             if j < i {
                 h = mix(h, common::next_place(i, j));
             }
-            let m = effect::check_memory(i, j as usize);
-            h = mix(h, m.number() as u64);
             let r = effect::check_rate(i, j as usize);
-            let s = effect::check_state(i % 2 == 0, r);
-            h = mix(mix(h, r.number() as u64), s.number() as u64);
+            h = cleared(cleared(h, effect::check_memory(i, j as usize)), r);
+            h = cleared(h, effect::check_state(i % 2 == 0, r));
             h = float(mix(h, common::line_length(x, special(j))), common::held_to_line(x, j as u32));
             h = mix(h, common::line_length(8000.0 + x, fraction(j) * 120.0));
             h = mix(h, common::line_length_whole(x, (j * 3) as u32));
             h = mix(h, common::line_length_whole(8000.0 + x, (j * 3 + 1) as u32));
-            j += 1;
         }
-        i += 1;
     }
     h
 }
@@ -196,31 +181,27 @@ fn line_calls() -> u64 {
     let mut h: u64 = 0;
     let mut mem = [0.0f64; 1300];
     dirty(&mut mem);
-    let mut w: usize = 0;
-    while w < 9 {
-        let mut d: u64 = 0;
-        while d < 57 {
+    for w in 0..9 {
+        for d in 0..57 {
             let distance = 1.0 + d as f64 * 0.125;
-            h = float(h, common::read_interpolated(&mem[3..12], w, distance));
-            d += 1;
+            let line = Line { places: &mem[3..12], write_pos: w };
+            h = float(h, line.read(distance));
         }
-        w += 1;
     }
     common::clear(&mut mem[5..1100]);
     h = places(h, &mem);
-    effect::clear(Outcome::Refused(Refusal::State), &mut mem);
+    let refused: Result<(), Refusal> = Err(Refusal::State);
+    effect::clear(refused, &mut mem);
     h = places(h, &mem);
-    effect::clear(Outcome::Accepted, &mut mem[7..900]);
+    effect::clear(Ok(900), &mut mem[7..900]);
     h = places(h, &mem);
     common::clear(&mut mem);
-    let mut at: usize = 0;
-    while at < 1300 {
+    for at in 0..1300 {
         mem[at] = special(at as u64);
         h = flag(flag(flag(h, common::all_zero(&mem)), common::all_zero(&mem[..512])), common::all_zero(&mem[1..1025]));
-        h = asked(asked(h, effect::silence(Outcome::Accepted, at + 1, &mem)), effect::silence(Outcome::Accepted, at, &mem));
-        h = asked(h, effect::silence(Outcome::Refused(Refusal::Memory), 2 * at, &mem[..at]));
+        h = asked(asked(h, effect::silence(Ok(at as u64 + 1), &mem)), effect::silence(Ok(at as u64), &mem));
+        h = asked(h, effect::silence(Err(Refusal::Memory), &mem[..at]));
         mem[at] = -0.0;
-        at += 1;
     }
     h
 }
@@ -234,8 +215,8 @@ EFFECTS = [
     ("tremolo", "Tremolo", "lfo_phase sample_rate", "new(R)", "", 0, "audio(k), port(k + 1), port(k + 2), frequency(k), sine(k)"),
     ("vibrato", "Vibrato", "write_pos lfo_phase sample_rate", "new(R, mem)", "set_sample_rate(R, mem)", 170,
      "mem, audio(k), port(k + 1), port(k + 2), frequency(k), sine(k)"),
-    ("chorus", "Chorus", "write_pos lfo_phase0 lfo_phase1 lfo_phase2 sample_rate", "new(R, mem)", "set_sample_rate(R, mem)", 266,
-     "mem, audio(k), port(k + 1), port(k + 2), frequency(k), sine(k), sine(k + 1), sine(k + 2)"),
+    ("chorus", "Chorus", "write_pos lfo_phases[0] lfo_phases[1] lfo_phases[2] sample_rate", "new(R, mem)", "set_sample_rate(R, mem)", 266,
+     "mem, audio(k), port(k + 1), port(k + 2), frequency(k), [sine(k), sine(k + 1), sine(k + 2)]"),
     ("flanger", "Flanger", "write_pos lfo_phase sample_rate", "new(R, mem)", "set_sample_rate(R, mem)", 180,
      "mem, audio(k), port(k + 1), port(k + 2), port(k + 3), frequency(k), sine(k), sine(k + 1)"),
     ("delay_line", "DelayLine", "write_pos sample_rate max_delay_secs linear_time smoothed_delay delay_smooth_coef delay_primed",
@@ -269,9 +250,8 @@ fn NAME_each(h: u64, s: TYPE, mem: &mut [f64], k: u64) -> u64 {
     sum = NAME_left(answered(sum, a), next);
     sum = places(asked(sum, next.silent(READ)), mem);
     let c = s.reset(WRITE);
-    let o = c.outcome;
     let left = c.state;
-    sum = places(NAME_left(mix(sum, o.number() as u64), left), mem);
+    sum = places(NAME_left(cleared(sum, c.outcome), left), mem);
 RETUNE
     sum
 }
@@ -279,49 +259,36 @@ RETUNE
 fn NAME_calls() -> u64 {
     let mut lent = [0.0f64; 1300];
     let mut h: u64 = 0;
-    let mut k: u64 = 0;
-    while k < 40 {
-        let mut short: usize = 0;
-        while short < 3 {
+    for k in 0..40 {
+        for short in 0..3 {
             let end = SIZE;
             dirty(&mut lent);
             let mem = &mut lent[..end];
             let c = TYPE::STARTSPECIAL;
-            let o = c.outcome;
             let left = c.state;
-            h = places(NAME_left(mix(h, o.number() as u64), left), mem);
+            h = places(NAME_left(cleared(h, c.outcome), left), mem);
             h = NAME_each(h, left, mem, k);
-            short += 1;
         }
-        h = mix(h, TYPE::NEEDED);
-        k += 1;
+        h = needed(h, TYPE::NEEDED);
     }
     let mem = &mut lent[..N];
-    let mut part: u64 = 0;
-    while part < 2 {
+    for part in 0..2 {
         let k = part;
         let c = TYPE::STARTRUN;
         let mut s = c.state;
-        let mut k: u64 = 1;
-        while k < 900 {
+        for k in 1..900 {
             let t = s.tick(TICK);
             let a = t.answer;
             s = t.state;
             h = NAME_left(answered(h, a), s);
-            k += 1;
         }
         h = places(asked(h, s.silent(READ)), mem);
 AGAIN
-        let mut i: u64 = 0;
-        while i < FIELDS {
-            let mut v: u64 = 0;
-            while v < 40 {
+        for i in 0..FIELDS {
+            for v in 0..40 {
                 h = NAME_each(h, NAME_with(s, i, special(v), v), mem, v * 7 + i + 1);
-                v += 1;
             }
-            i += 1;
         }
-        part += 1;
     }
     h
 }
@@ -329,14 +296,12 @@ AGAIN
 
 # an accepted retune of a state that has moved on
 AGAIN = """        let moved = s.CALL;
-        let outcome = moved.outcome;
-        h = places(NAME_left(mix(h, outcome.number() as u64), moved.state), mem);"""
+        h = places(NAME_left(cleared(h, moved.outcome), moved.state), mem);"""
 
 RETUNE = """    dirty(mem);
     let r = s.CALL;
-    let o = r.outcome;
     let left = r.state;
-    sum = places(NAME_left(mix(sum, o.number() as u64), left), mem);"""
+    sum = places(NAME_left(cleared(sum, r.outcome), left), mem);"""
 
 MILLISECONDS = """
 fn milliseconds(k: u64) -> f64 {
@@ -354,25 +319,20 @@ fn nan_if(x: f64, nan: bool) -> f64 {
 fn settings_calls() -> u64 {
     let mut lent = [0.0f64; 401];
     let mut h: u64 = 0;
-    let mut k: u64 = 0;
-    while k < 40 {
+    for k in 0..40 {
         dirty(&mut lent);
         let mem = &mut lent[..];
         let c = DelayLine::with_max_delay(special(k), 0.05, special(k + 19), false, mem);
-        let o = c.outcome;
-        h = places(delay_line_left(mix(h, o.number() as u64), c.state), mem);
+        h = places(delay_line_left(cleared(h, c.outcome), c.state), mem);
         let d = DelayLine::with_max_delay(8000.0, 0.05, special(k), false, mem);
-        let p = d.outcome;
-        h = places(delay_line_left(mix(h, p.number() as u64), d.state), mem);
+        h = places(delay_line_left(cleared(h, d.outcome), d.state), mem);
         let e = DelayLine::with_max_delay(8000.0, 0.05, 0.5, k >= 16, mem);
         let s = e.state;
         let t = s.tick(mem, Port::Set(1.0), Port::Set(nan_if(0.01, k % 2 == 0)), Port::Set(nan_if(0.5, k / 2 % 2 == 0)), Port::Set(nan_if(0.5, k / 4 % 2 == 0)), nan_if(10.0, k / 8 % 2 == 0));
         h = places(delay_line_left(answered(h, t.answer), t.state), mem);
         let r = s.set_sample_rate(8000.0, special(k), mem);
-        let q = r.outcome;
-        h = places(delay_line_left(mix(h, q.number() as u64), r.state), mem);
-        h = mix(h, DelayLine::places_needed(8000.0, special(k)));
-        k += 1;
+        h = places(delay_line_left(cleared(h, r.outcome), r.state), mem);
+        h = needed(h, DelayLine::places_needed(8000.0, special(k)));
     }
     h
 }
@@ -382,10 +342,8 @@ fn settings_calls() -> u64 {
 REVERB = """
 fn words(h: u64, a: &[u64]) -> u64 {
     let mut sum = h;
-    let mut i: usize = 0;
-    while i < a.len() {
-        sum = mix(sum, a[i]);
-        i += 1;
+    for x in a {
+        sum = mix(sum, *x);
     }
     sum
 }
@@ -454,31 +412,24 @@ fn reverb_each(h: u64, s: Reverb, mem: &mut [f64], k: u64) -> u64 {
     let a = t.answer;
     sum = tank(reverb_left(answered(sum, a), t.state), mem);
     let c = s.reset(mem);
-    let o = c.outcome;
-    sum = tank(reverb_left(mix(sum, o.number() as u64), c.state), mem);
+    sum = tank(reverb_left(cleared(sum, c.outcome), c.state), mem);
     dirty(mem);
     let r = s.set_sample_rate(special(k), mem);
-    let q = r.outcome;
-    tank(reverb_left(mix(sum, q.number() as u64), r.state), mem)
+    tank(reverb_left(cleared(sum, r.outcome), r.state), mem)
 }
 
 // starts at unusual rates, in memory that is one place short, just enough and one place more
 fn reverb_starts(lent: &mut [f64]) -> u64 {
     let mut h: u64 = 0;
-    let mut k: u64 = 0;
-    while k < 40 {
-        let mut short: usize = 0;
-        while short < 3 {
+    for k in 0..40 {
+        for short in 0..3 {
             dirty(lent);
             let mem = &mut lent[..87135 + short];
             let c = Reverb::new(special(k), mem);
-            let o = c.outcome;
-            h = tank(reverb_left(mix(h, o.number() as u64), c.state), mem);
+            h = tank(reverb_left(cleared(h, c.outcome), c.state), mem);
             h = reverb_each(h, c.state, mem, k);
-            short += 1;
         }
-        h = mix(h, Reverb::places_needed(special(k)));
-        k += 1;
+        h = needed(h, Reverb::places_needed(special(k)));
     }
     h
 }
@@ -495,10 +446,8 @@ fn reverb_questions(h: u64, mem: &mut [f64]) -> u64 {
         mem[i] = -0.0;
         i += 101;
     }
-    let mut k: u64 = 0;
-    while k < 16 {
+    for k in 0..16 {
         sum = asked(sum, reverb_with(s, 16 + k, 0, 1.0).silent(mem));
-        k += 1;
     }
     sum
 }
@@ -509,24 +458,18 @@ fn reverb_calls() -> u64 {
     let mem = &mut lent[..87136];
     let c = Reverb::new(8000.0, mem);
     let mut s = c.state;
-    let mut k: u64 = 1;
-    while k < 700 {
+    for k in 1..700 {
         let t = s.tick(mem, audio(k), port(k + 1), port(k + 2), port(k + 3), port(k + 4));
         let a = t.answer;
         s = t.state;
         h = reverb_left(answered(h, a), s);
-        k += 1;
     }
     h = tank(h, mem);
     let at: [u64; 6] = [0, 50, 202, 300, 5000, 1099511627776];
-    let mut i: u64 = 0;
-    while i < 42 {
-        let mut v: usize = 0;
-        while v < 6 {
+    for i in 0..42 {
+        for v in 0..6 {
             h = reverb_each(h, reverb_with(s, i, at[v], special(v as u64 * 7 + i)), mem, v as u64 * 9 + i + 1);
-            v += 1;
         }
-        i += 1;
     }
     let r = s.set_sample_rate(44100.0, mem);
     h = tank(reverb_left(h, r.state), mem);
