@@ -158,20 +158,20 @@ fn common_calls() -> u64 {
     let mut h: u64 = 0;
     for i in 0..40 {
         let x = special(i);
-        h = needed(float(h, common::sanitize_audio(x)), effect::places_or_none(i / 2));
+        h = float(h, common::sanitize_audio(x));
         h = cleared(h, common::tick_causes(i % 2 == 0, i % 3 == 0));
         for j in 0..40 {
             h = float(float(h, common::blend(x, fraction(j), special(j))), common::advance_phase(x, special(j)));
             if j < i {
                 h = mix(h, common::next_place(i, j));
             }
-            let r = effect::check_rate(i, j as usize);
+            let r = effect::check_rate((i != 0).then_some(i), j as usize);
             h = cleared(cleared(h, effect::check_memory(i, j as usize)), r);
             h = cleared(h, effect::check_state(i % 2 == 0, r));
-            h = float(mix(h, common::line_length(x, special(j))), common::held_to_line(x, j as u32));
-            h = mix(h, common::line_length(8000.0 + x, fraction(j) * 120.0));
-            h = mix(h, common::line_length_whole(x, (j * 3) as u32));
-            h = mix(h, common::line_length_whole(8000.0 + x, (j * 3 + 1) as u32));
+            h = float(needed(h, common::line_length(x, special(j))), common::held_to_line(x, j as u32));
+            h = needed(h, common::line_length(8000.0 + x, fraction(j) * 120.0));
+            h = needed(h, common::line_length_whole(x, (j * 3) as u32));
+            h = needed(h, common::line_length_whole(8000.0 + x, (j * 3 + 1) as u32));
         }
     }
     h
