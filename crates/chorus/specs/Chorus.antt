@@ -8,7 +8,7 @@ use Rattle.port.specs.Port.{value_or, is_nan_set}
 use Rattle.common.specs.Signal.{sanitized, blended, advanced, cause_number}
 use Rattle.common.specs.Line.{swept_length, line_at, read_at, next_place}
 use Rattle.effect.specs.Parts.{first_places}
-use Rattle.effect.specs.Effect.{Effect, Write}
+use Rattle.effect.specs.Effect.{Effect, Page, effect_of, Write}
 use Rattle.effect.specs.Lines.{Lines, in_each}
 use Rattle.chorus.specs.declared.Chorus.{Chorus}
 
@@ -156,14 +156,9 @@ writes t s = in_each 1 0 (line_length s.sample_rate) s.write_pos (input t)
 
 -- ---- the effect
 
-abbrev pub chorus : Effect
-chorus =
+abbrev pub page : Page Chorus Float Float Float Tick
+page =
     record {
-      State = Chorus;
-      Settings = Float;
-      Start = Float;
-      Retune = Float;
-      Tick = Tick;
       state_fits = state_fits;
       settings = λ s. s.sample_rate;
       start_settings = λ rate. rate;
@@ -181,6 +176,9 @@ chorus =
       input = input;
       quiet = λ s. true;
     }
+
+abbrev pub chorus : Effect
+chorus = effect_of page
 
 -- ---- its line, for the recent pasts
 

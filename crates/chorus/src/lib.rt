@@ -1,19 +1,19 @@
 // The chorus: one line in lent memory, read by three voices. The state goes in and out by value.
 #![tactic(auto)]
 
-ghost use Rattle.std.specs.Prelude.{◌≡◌, true, ◌<◌, length, IfOk};
+ghost use Rattle.std.specs.Prelude.{◌≡◌, true, ◌<◌, length, Float, refl};
 ghost use Rattle.std.specs.Bool.{then_some};
 ghost use Rattle.float64.specs.Number.{float_of, in_range, rate_fits, sine_fits};
 ghost use Rattle.port.specs.declared.Port.TheVariants.{Set};
-ghost use Rattle.port.specs.Answer.{number_of, outcome_reply, answer_reply, silence_reply, played};
+ghost use Rattle.port.specs.Answer.{answer_reply, played};
 ghost use Rattle.common.specs.Line.{line_at, read_at, next_place};
-ghost use Rattle.effect.specs.Run.{tick, retune, reset, ask, start_number, number_in};
-ghost use Rattle.effect.specs.Contract.{Does, Starts};
+ghost use Rattle.effect.specs.Run.{tick, number_in};
+ghost use Rattle.effect.specs.Contract.{Does};
 ghost use Rattle.effect.specs.Needed.{places_if_accepted};
-ghost use Rattle.chorus.specs.Chorus.{chorus, tick_of, line_length, phases_of, next_phases, cleared, fresh, state_fits, distance, mixed};
+ghost use Rattle.chorus.specs.Chorus.{Tick, page, chorus, tick_of, line_length, phases_of, next_phases, cleared, fresh, distance, mixed};
 
 use common::Line;
-use effect::{Cleared, Ticked};
+use effect::{InMemory, InOnePart, Ticked, Unit};
 use port::{Answer, Port, Refusal};
 
 #[derive(Clone, Copy)]
@@ -21,6 +21,59 @@ pub struct Chorus {
     pub write_pos: u64,
     pub lfo_phases: [f64; 3],
     pub sample_rate: f64,
+}
+
+impl Unit for Chorus {
+    type Start = f64;
+
+    type Retune = f64;
+
+    ghost InForce = { Float };
+
+    ghost Tick = { Tick };
+
+    ghost page = { page };
+
+    fn blank() -> Chorus {
+        Chorus::cleared([0.0; 3], 0.0)
+    }
+
+    fn started(rate: f64) -> Chorus {
+        Chorus::fresh(rate)
+    }
+
+    fn restarted(self) -> Chorus {
+        Chorus::fresh(self.sample_rate)
+    }
+
+    fn start_refusal(rate: f64, places: usize) -> Result<(), Refusal> {
+        effect::check_rate(Chorus::line_length(rate), places)
+    }
+
+    #[tactic(auto, unfolding(crate::specs::Chorus::state_fits))]
+    fn fitting_places(self) -> Option<u64> {
+        let n = Chorus::line_length(self.sample_rate)?;
+        let phases = self.lfo_phases;
+        let fits = self.write_pos < n && phases.iter().all(|phase| float64::phase_fits(*phase));
+        fits.then_some(n)
+    }
+}
+
+impl InMemory for Chorus {
+    // The phases are kept.
+    fn retuned(self, rate: f64) -> Chorus {
+        Chorus::cleared(self.lfo_phases, rate)
+    }
+
+    fn retune_refusal(self, rate: f64, places: usize) -> Result<(), Refusal> {
+        Chorus::start_refusal(rate, places)
+    }
+}
+
+impl InOnePart for Chorus {
+    ghost keeps_nothing = { λ s. refl };
+
+    ghost one_part = { λ s. refl };
 }
 
 impl Chorus {
@@ -63,75 +116,6 @@ impl Chorus {
         ensures { result ≡ fresh rate }
     {
         Chorus::cleared([0.0, 0.33, 0.67], rate)
-    }
-
-    // Causes 1 and 3: a rate that is refused, and memory that is too short for it.
-    fn rate_refusal(rate: f64, places: usize) -> Result<(), Refusal>
-        ensures { number_of result ≡ start_number chorus rate places }
-    {
-        effect::check_rate(Chorus::line_length(rate), places)
-    }
-
-    // Start: the start phases, at the rate.
-    pub fn new(sample_rate: f64, mem: &mut [f64]) -> Cleared<Chorus>
-        ensures { Starts chorus sample_rate mem.old result.state mem.new (outcome_reply result.outcome) }
-    {
-        let tested = Chorus::rate_refusal(sample_rate, mem.len());
-        effect::clear(tested, mem);
-        Cleared::settled(
-            tested,
-            Chorus::fresh(sample_rate),
-            Chorus::cleared([0.0; 3], 0.0),
-        )
-    }
-
-    // The state test: the places of the line, where it passes.
-    #[tactic(auto, unfolding(crate::specs::Chorus::state_fits))]
-    fn fitting_length(self) -> Option<u64>
-        ensures { result ≡ then_some (state_fits self) (line_length self.sample_rate) }
-    {
-        let n = Chorus::line_length(self.sample_rate)?;
-        let phases = self.lfo_phases;
-        let fits = self.write_pos < n && phases.iter().all(|phase| float64::phase_fits(*phase));
-        fits.then_some(n)
-    }
-
-    // The same, where the memory passes its test too: causes 4 and 3.
-    #[tactic(auto, unfolding(crate::specs::Chorus::state_fits))]
-    fn checked_length(self, places: usize) -> Result<u64, Refusal>
-        ensures number { number_of result ≡ number_in chorus reset places self }
-        ensures length { IfOk result (λ n. n ≡ line_length self.sample_rate) }
-    {
-        let n = self.fitting_length().ok_or(Refusal::State)?;
-        effect::check_memory(n, places)?;
-        Ok(n)
-    }
-
-    // Retune: a clearing at another rate, which keeps the phases.
-    pub fn set_sample_rate(self, sample_rate: f64, mem: &mut [f64]) -> Cleared<Chorus>
-        ensures { Does chorus (retune sample_rate) self mem.old result.state mem.new (outcome_reply result.outcome) }
-    {
-        let others = Chorus::rate_refusal(sample_rate, mem.len());
-        let tested = effect::check_state(self.fitting_length().is_some(), others);
-        effect::clear(tested, mem);
-        let next = Chorus::cleared(self.lfo_phases, sample_rate);
-        Cleared::settled(tested, next, self)
-    }
-
-    // Reset: a clearing at the rate in force, with the start phases again.
-    pub fn reset(self, mem: &mut [f64]) -> Cleared<Chorus>
-        ensures { Does chorus reset self mem.old result.state mem.new (outcome_reply result.outcome) }
-    {
-        let tested = self.checked_length(mem.len());
-        effect::clear(tested, mem);
-        Cleared::settled(tested, Chorus::fresh(self.sample_rate), self)
-    }
-
-    // Silent? Whether every place of the line is +0 or -0.
-    pub fn silent(self, mem: &[f64]) -> Result<bool, Refusal>
-        ensures { Does chorus ask self mem.now self mem.now (silence_reply result) }
-    {
-        effect::silence(self.checked_length(mem.len()), mem)
     }
 
     // 7 x rate / 1000 + (sine x 0.5 + 0.5) x (depth x 25 x rate / 1000), clamped to 1 to n - 1, n the length of the line.
@@ -240,7 +224,7 @@ impl Chorus {
         ensures { Does chorus (tick (tick_of audio depth mix frequency sines)) self mem.old result.state mem.new
             (answer_reply result.answer) }
     {
-        let n = match self.checked_length(mem.len()) {
+        let n = match self.checked(mem.len()) {
             Ok(n) => n,
             Err(cause) => return Ticked::refused(self, cause),
         };

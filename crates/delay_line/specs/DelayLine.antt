@@ -8,15 +8,12 @@ use Rattle.port.specs.Port.{value_or, is_nan_set}
 use Rattle.common.specs.Signal.{sanitized, blended, cause_number}
 use Rattle.common.specs.Line.{line_at, read_at, next_place}
 use Rattle.effect.specs.Parts.{first_places}
-use Rattle.effect.specs.Effect.{Effect, Write}
+use Rattle.effect.specs.Effect.{Effect, Page, effect_of, Write}
 use Rattle.delay_line.specs.declared.DelayLine.{DelayLine}
 use Rattle.delay_line.specs.declared.Settings.{Settings}
+use Rattle.delay_line.specs.declared.Retune.{Retune}
 
 -- what a retune is handed; it keeps the maximum and the mode
-pub record Retune : Type 0 where
-  pub rate : Float
-  pub coefficient : Float
-
 abbrev pub retuning : Float → Float → Retune
 retuning rate coefficient = record { rate = rate; coefficient = coefficient }
 
@@ -160,14 +157,9 @@ samples t s m = blended (input t) (delayed t s m) (mix t) ∷ []
 abbrev pub places : Settings → ℕ
 places k = line_length k.rate k.maximum
 
-abbrev pub delay_line : Effect
-delay_line =
+abbrev pub page : Page DelayLine Settings Settings Retune Tick
+page =
     record {
-      State = DelayLine;
-      Settings = Settings;
-      Start = Settings;
-      Retune = Retune;
-      Tick = Tick;
       state_fits = state_fits;
       settings = settings;
       start_settings = start_settings;
@@ -185,3 +177,6 @@ delay_line =
       input = input;
       quiet = λ s. true;
     }
+
+abbrev pub delay_line : Effect
+delay_line = effect_of page

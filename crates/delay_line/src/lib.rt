@@ -1,21 +1,21 @@
 // The delay line: one line in lent memory, fed back into itself, read at a distance that glides to the delay time. The state goes in and out by value.
 #![tactic(auto)]
 
-ghost use Rattle.std.specs.Prelude.{◌≡◌, true, false, cond, ◌&&◌, ◌-◌, ◌≤◌, ◌<◌, [], ◌∷◌, length, set, IfOk};
+ghost use Rattle.std.specs.Prelude.{◌≡◌, true, false, cond, ◌&&◌, ◌-◌, ◌≤◌, ◌<◌, [], ◌∷◌, length, set, refl};
 ghost use Rattle.std.specs.Bool.{then_some};
 ghost use Rattle.std.specs.Float.{binary64};
 ghost use Rattle.std.specs.Float.Ieee.{add, mul};
 ghost use Rattle.float64.specs.Number.{plus_zero, float_of, fraction, is_number, rate_fits, coefficient_fits, clamp_of};
 ghost use Rattle.port.specs.declared.Port.TheVariants.{Set, Unset};
-ghost use Rattle.port.specs.Answer.{played, number_of, outcome_reply, answer_reply, silence_reply};
+ghost use Rattle.port.specs.Answer.{played, number_of, answer_reply};
 ghost use Rattle.common.specs.Signal.{sanitized, blended};
-ghost use Rattle.effect.specs.Run.{tick, retune, reset, ask, memory_number, number_in};
-ghost use Rattle.effect.specs.Contract.{Does, Starts};
+ghost use Rattle.effect.specs.Run.{tick, memory_number, number_in};
+ghost use Rattle.effect.specs.Contract.{Does};
 ghost use Rattle.effect.specs.Needed.{places_if_accepted};
-ghost use Rattle.delay_line.specs.DelayLine.{delay_line, handing, start_settings, settings, retuning, tick_of, held_maximum, maximum_fits, line_length, cleared, glide_fits, state_fits, samples_of, glided, reads_at, delayed_by, next_state};
+ghost use Rattle.delay_line.specs.DelayLine.{Tick, page, delay_line, handing, start_settings, retune_settings, settings, tick_of, held_maximum, maximum_fits, line_length, cleared, glide_fits, state_fits, samples_of, glided, reads_at, delayed_by, next_state};
 
 use common::Line;
-use effect::{Cleared, Ticked};
+use effect::{InMemory, InOnePart, Ticked, Unit};
 use port::{Answer, Port, Refusal};
 
 #[derive(Clone, Copy)]
@@ -30,13 +30,20 @@ pub struct DelayLine {
     pub delay_primed: bool,
 }
 
-// What is in force from one clearing to the next.
+// What is in force from one clearing to the next; also what a start is handed, with a maximum still to be held. `linear` is the Rust's `with_linear_time`.
 #[derive(Clone, Copy)]
-struct Settings {
-    rate: f64,
-    coefficient: f64,
-    maximum: f64,
-    linear: bool,
+pub struct Settings {
+    pub rate: f64,
+    pub coefficient: f64,
+    pub maximum: f64,
+    pub linear: bool,
+}
+
+// What a retune is handed: it keeps the maximum and the mode.
+#[derive(Clone, Copy)]
+pub struct Retune {
+    pub rate: f64,
+    pub coefficient: f64,
 }
 
 impl Settings {
@@ -71,6 +78,27 @@ impl Settings {
         effect::check_memory(n, places)
     }
 
+    // With the maximum held.
+    fn held(self) -> Settings
+        ensures { result ≡ start_settings self }
+    {
+        Settings {
+            maximum: DelayLine::held_maximum(self.maximum),
+            ..self
+        }
+    }
+
+    // With what a retune is handed.
+    fn retuned(self, handed: Retune) -> Settings
+        ensures { result ≡ retune_settings handed self }
+    {
+        Settings {
+            rate: handed.rate,
+            coefficient: handed.coefficient,
+            ..self
+        }
+    }
+
     // Position 0 and the glide unprimed, with these settings.
     fn cleared(self) -> DelayLine
         ensures { result ≡ cleared self }
@@ -85,6 +113,63 @@ impl Settings {
             delay_primed: false,
         }
     }
+}
+
+impl Unit for DelayLine {
+    ghost use Rattle.delay_line.specs.declared.Settings.{Settings};
+
+    type Start = Settings;
+
+    type Retune = Retune;
+
+    ghost InForce = { Settings };
+
+    ghost Tick = { Tick };
+
+    ghost page = { page };
+
+    fn blank() -> DelayLine {
+        Settings::NONE.cleared()
+    }
+
+    fn started(handed: Settings) -> DelayLine {
+        handed.held().cleared()
+    }
+
+    fn restarted(self) -> DelayLine {
+        self.settings().cleared()
+    }
+
+    fn start_refusal(handed: Settings, places: usize) -> Result<(), Refusal> {
+        handed.held().refusal(places)
+    }
+
+    fn fitting_places(self) -> Option<u64> {
+        let n = self.settings().line_length()?;
+        if self.write_pos >= n {
+            return None;
+        }
+        if !float64::coefficient_fits(self.delay_smooth_coef) {
+            return None;
+        }
+        self.glide_fits(n).then_some(n)
+    }
+}
+
+impl InMemory for DelayLine {
+    fn retuned(self, handed: Retune) -> DelayLine {
+        self.settings().retuned(handed).cleared()
+    }
+
+    fn retune_refusal(self, handed: Retune, places: usize) -> Result<(), Refusal> {
+        self.settings().retuned(handed).refusal(places)
+    }
+}
+
+impl InOnePart for DelayLine {
+    ghost keeps_nothing = { λ s. refl };
+
+    ghost one_part = { λ s. refl };
 }
 
 impl DelayLine {
@@ -127,28 +212,6 @@ impl DelayLine {
         settings.line_length()
     }
 
-    // Start, with the glide coefficient from the host; `linear` is the Rust's `with_linear_time`.
-    pub fn with_max_delay(
-        sample_rate: f64,
-        max_delay_secs: f64,
-        coefficient: f64,
-        linear: bool,
-        mem: &mut [f64],
-    ) -> Cleared<DelayLine>
-        ensures { Starts delay_line (handing sample_rate coefficient max_delay_secs linear) mem.old result.state
-            mem.new (outcome_reply result.outcome) }
-    {
-        let settings = Settings {
-            rate: sample_rate,
-            coefficient,
-            maximum: DelayLine::held_maximum(max_delay_secs),
-            linear,
-        };
-        let tested = settings.refusal(mem.len());
-        effect::clear(tested, mem);
-        Cleared::settled(tested, settings.cleared(), Settings::NONE.cleared())
-    }
-
     fn settings(self) -> Settings
         ensures { result ≡ settings self }
     {
@@ -170,67 +233,6 @@ impl DelayLine {
             return float64::in_range(self.smoothed_delay, 1.0, f64::from((n - 1) as u32));
         }
         float64::is_plus_zero(self.smoothed_delay)
-    }
-
-    // The length of the line, where the state passes its test.
-    fn fitting_length(self) -> Option<u64>
-        ensures { result ≡ then_some (state_fits self) (line_length self.sample_rate self.max_delay_secs) }
-    {
-        let n = self.settings().line_length()?;
-        if self.write_pos >= n {
-            return None;
-        }
-        if !float64::coefficient_fits(self.delay_smooth_coef) {
-            return None;
-        }
-        self.glide_fits(n).then_some(n)
-    }
-
-    // The places of the line, where the state and the memory pass their tests: causes 4 and 3.
-    fn checked_length(self, places: usize) -> Result<u64, Refusal>
-        ensures number { number_of result ≡ number_in delay_line reset places self }
-        ensures length { IfOk result (λ n. n ≡ line_length self.sample_rate self.max_delay_secs) }
-    {
-        let n = self.fitting_length().ok_or(Refusal::State)?;
-        effect::check_memory(n, places)?;
-        Ok(n)
-    }
-
-    // Retune: a clearing at another rate and coefficient, which keeps the maximum and the mode.
-    pub fn set_sample_rate(
-        self,
-        sample_rate: f64,
-        coefficient: f64,
-        mem: &mut [f64],
-    ) -> Cleared<DelayLine>
-        ensures { Does delay_line (retune (retuning sample_rate coefficient)) self mem.old result.state mem.new
-            (outcome_reply result.outcome) }
-    {
-        let settings = Settings {
-            rate: sample_rate,
-            coefficient,
-            ..self.settings()
-        };
-        let fits = self.fitting_length().is_some();
-        let tested = effect::check_state(fits, settings.refusal(mem.len()));
-        effect::clear(tested, mem);
-        Cleared::settled(tested, settings.cleared(), self)
-    }
-
-    // Reset: a clearing with the settings in force.
-    pub fn reset(self, mem: &mut [f64]) -> Cleared<DelayLine>
-        ensures { Does delay_line reset self mem.old result.state mem.new (outcome_reply result.outcome) }
-    {
-        let tested = self.checked_length(mem.len());
-        effect::clear(tested, mem);
-        Cleared::settled(tested, self.settings().cleared(), self)
-    }
-
-    // Silent? Whether every place of the line is +0 or -0.
-    pub fn silent(self, mem: &[f64]) -> Result<bool, Refusal>
-        ensures { Does delay_line ask self mem.now self mem.now (silence_reply result) }
-    {
-        effect::silence(self.checked_length(mem.len()), mem)
     }
 
     // Where the glide goes to: the samples held to 1 to n - 1.
@@ -279,7 +281,7 @@ impl DelayLine {
     ) -> Result<(), Refusal>
         ensures { number_of result ≡ number_in delay_line (tick (tick_of Unset (Set time) (Set feedback) (Set mix) milliseconds)) places self }
     {
-        self.checked_length(places)?;
+        self.checked(places)?;
         let linear = self.linear_time;
         common::tick_causes(
             (linear & float64::is_nan(time)) | (float64::is_nan(feedback) | float64::is_nan(mix)),
@@ -364,7 +366,7 @@ impl DelayLine {
             let met = self.nan_refusal(mem.len(), time, feedback, mix, milliseconds);
             return Ticked::refused(self, met.unwrap_err());
         }
-        let n = match self.checked_length(mem.len()) {
+        let n = match self.checked(mem.len()) {
             Ok(n) => n,
             Err(cause) => return Ticked::refused(self, cause),
         };

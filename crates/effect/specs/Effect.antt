@@ -57,6 +57,52 @@ pub record Effect : Type 1 where
   -- what the state itself keeps of the sound is +0 or −0: the reverb's damping stores, the numbers of the phaser's chains; true where it keeps nothing
   pub quiet : State → Bool
 
+-- What an effect's page gives: the fields of `Effect` behind its types, over states S, settings K, and what a start (A), a retune (R) and a tick (T) are handed.
+-- It is a record of its own since code can say of it, and not of an `Effect`, that the states are a type of the code's.
+pub record Page (S K A R T : Type 0) : Type 0 where
+  pub state_fits : S → Bool
+  pub settings : S → K
+  pub start_settings : A → K
+  pub retune_settings : R → K → K
+  pub settings_number : K → ℕ
+  pub places : K → ℕ
+  pub parts : K → List Part
+  pub tick_number : T → K → ℕ
+  pub blank : S
+  pub fresh : K → S
+  pub retuned : K → S → S
+  pub next : T → S → List Float → S
+  pub writes : T → S → List Float → List Write
+  pub samples : T → S → List Float → List Float
+  pub input : T → Float
+  pub quiet : S → Bool
+
+abbrev pub effect_of : {S K A R T : Type 0} → Page S K A R T → Effect
+effect_of {S} {K} {A} {R} {T} p =
+    record {
+      State = S;
+      Settings = K;
+      Start = A;
+      Retune = R;
+      Tick = T;
+      state_fits = p.state_fits;
+      settings = p.settings;
+      start_settings = p.start_settings;
+      retune_settings = p.retune_settings;
+      settings_number = p.settings_number;
+      places = p.places;
+      parts = p.parts;
+      tick_number = p.tick_number;
+      blank = p.blank;
+      fresh = p.fresh;
+      retuned = p.retuned;
+      next = p.next;
+      writes = p.writes;
+      samples = p.samples;
+      input = p.input;
+      quiet = p.quiet;
+    }
+
 -- the place p is in use
 abbrev pub InUse : (E : Effect) → E.Settings → ℕ → Type 0
 InUse E k p = InPart p (E.parts k)

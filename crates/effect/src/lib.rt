@@ -10,7 +10,10 @@ ghost use Rattle.effect.specs.Run.{if_none, memory_number};
 ghost use Rattle.effect.specs.Contract.{silence_of};
 ghost use Rattle.effect.specs.Needed.{rate_number};
 
+mod unit;
+
 use port::{Answer, Refusal};
+pub use unit::{InMemory, InOnePart, Unit, WithoutMemory};
 
 // What a start, a retune or a reset returns: the state beside its outcome.
 #[derive(Clone, Copy)]

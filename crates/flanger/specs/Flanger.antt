@@ -8,7 +8,7 @@ use Rattle.port.specs.Port.{value_or, is_nan_set}
 use Rattle.common.specs.Signal.{sanitized, blended, advanced, cause_number}
 use Rattle.common.specs.Line.{swept_length, line_at, read_at, next_place}
 use Rattle.effect.specs.Parts.{first_places}
-use Rattle.effect.specs.Effect.{Effect, Write}
+use Rattle.effect.specs.Effect.{Effect, Page, effect_of, Write}
 use Rattle.flanger.specs.declared.Flanger.{Flanger}
 
 -- what a tick is handed: its ports, and the curve numbers frequency and two sines, the second at the phase plus half the spread
@@ -117,14 +117,9 @@ samples t s m =
 
 -- ---- the effect
 
-abbrev pub flanger : Effect
-flanger =
+abbrev pub page : Page Flanger Float Float Float Tick
+page =
     record {
-      State = Flanger;
-      Settings = Float;
-      Start = Float;
-      Retune = Float;
-      Tick = Tick;
       state_fits = state_fits;
       settings = λ s. s.sample_rate;
       start_settings = λ rate. rate;
@@ -142,3 +137,6 @@ flanger =
       input = input;
       quiet = λ s. true;
     }
+
+abbrev pub flanger : Effect
+flanger = effect_of page

@@ -1,22 +1,22 @@
 // The flanger: two lines in lent memory, swept by one phase, each fed back into itself. The state goes in and out by value.
 #![tactic(auto)]
 
-ghost use Rattle.std.specs.Prelude.{◌≡◌, true, ◌<◌, length, IfOk};
+ghost use Rattle.std.specs.Prelude.{◌≡◌, true, ◌<◌, length, Float, refl};
 ghost use Rattle.std.specs.Bool.{then_some};
 ghost use Rattle.std.specs.Float.{binary64};
 ghost use Rattle.std.specs.Float.Ieee.{div};
 ghost use Rattle.float64.specs.Number.{rate_fits};
 ghost use Rattle.port.specs.declared.Port.TheVariants.{Set};
-ghost use Rattle.port.specs.Answer.{number_of, outcome_reply, answer_reply, silence_reply};
+ghost use Rattle.port.specs.Answer.{answer_reply};
 ghost use Rattle.common.specs.Signal.{advanced};
 ghost use Rattle.common.specs.Line.{next_place};
-ghost use Rattle.effect.specs.Run.{tick, retune, reset, ask, start_number, number_in};
-ghost use Rattle.effect.specs.Contract.{Does, Starts};
+ghost use Rattle.effect.specs.Run.{tick, number_in};
+ghost use Rattle.effect.specs.Contract.{Does};
 ghost use Rattle.effect.specs.Needed.{places_if_accepted};
-ghost use Rattle.flanger.specs.Flanger.{flanger, tick_of, line_length, cleared, state_fits, distance};
+ghost use Rattle.flanger.specs.Flanger.{Tick, page, flanger, tick_of, line_length, cleared, distance};
 
 use common::Line;
-use effect::{Cleared, Ticked};
+use effect::{InMemory, InOnePart, Ticked, Unit};
 use port::{Answer, Port, Refusal};
 
 #[derive(Clone, Copy)]
@@ -24,6 +24,57 @@ pub struct Flanger {
     pub write_pos: u64,
     pub lfo_phase: f64,
     pub sample_rate: f64,
+}
+
+impl Unit for Flanger {
+    type Start = f64;
+
+    type Retune = f64;
+
+    ghost InForce = { Float };
+
+    ghost Tick = { Tick };
+
+    ghost page = { page };
+
+    fn blank() -> Flanger {
+        Flanger::cleared(0.0, 0.0)
+    }
+
+    fn started(rate: f64) -> Flanger {
+        Flanger::cleared(0.0, rate)
+    }
+
+    fn restarted(self) -> Flanger {
+        Flanger::cleared(0.0, self.sample_rate)
+    }
+
+    fn start_refusal(rate: f64, places: usize) -> Result<(), Refusal> {
+        effect::check_rate(Flanger::places_needed(rate), places)
+    }
+
+    #[tactic(auto, using(crate::proofs::Laws::length_fits), unfolding(crate::specs::Flanger::state_fits))]
+    fn fitting_places(self) -> Option<u64> {
+        let n = Flanger::line_length(self.sample_rate)?;
+        (self.write_pos < n && float64::phase_fits(self.lfo_phase)).then_some(2 * n)
+    }
+}
+
+impl InMemory for Flanger {
+    // The phase is kept.
+    fn retuned(self, rate: f64) -> Flanger {
+        Flanger::cleared(self.lfo_phase, rate)
+    }
+
+    fn retune_refusal(self, rate: f64, places: usize) -> Result<(), Refusal> {
+        Flanger::start_refusal(rate, places)
+    }
+}
+
+impl InOnePart for Flanger {
+    ghost keeps_nothing = { λ s. refl };
+
+    ghost one_part = { λ s. refl };
 }
 
 impl Flanger {
@@ -56,73 +107,6 @@ impl Flanger {
             lfo_phase: phase,
             sample_rate: rate,
         }
-    }
-
-    // Causes 1 and 3: a rate that is refused, and memory that is too short for it.
-    fn rate_refusal(rate: f64, places: usize) -> Result<(), Refusal>
-        ensures { number_of result ≡ start_number flanger rate places }
-    {
-        effect::check_rate(Flanger::places_needed(rate), places)
-    }
-
-    // Start: phase 0, at the rate.
-    pub fn new(sample_rate: f64, mem: &mut [f64]) -> Cleared<Flanger>
-        ensures { Starts flanger sample_rate mem.old result.state mem.new (outcome_reply result.outcome) }
-    {
-        let tested = Flanger::rate_refusal(sample_rate, mem.len());
-        effect::clear(tested, mem);
-        Cleared::settled(
-            tested,
-            Flanger::cleared(0.0, sample_rate),
-            Flanger::cleared(0.0, 0.0),
-        )
-    }
-
-    // The state test: the places of a line, where it passes.
-    #[tactic(auto, unfolding(crate::specs::Flanger::state_fits))]
-    fn fitting_length(self) -> Option<u64>
-        ensures { result ≡ then_some (state_fits self) (line_length self.sample_rate) }
-    {
-        let n = Flanger::line_length(self.sample_rate)?;
-        (self.write_pos < n && float64::phase_fits(self.lfo_phase)).then_some(n)
-    }
-
-    // The same, where the memory passes its test too: causes 4 and 3.
-    #[tactic(auto, using(crate::proofs::Laws::length_fits), unfolding(crate::specs::Flanger::state_fits))]
-    fn checked_length(self, places: usize) -> Result<u64, Refusal>
-        ensures number { number_of result ≡ number_in flanger reset places self }
-        ensures length { IfOk result (λ n. n ≡ line_length self.sample_rate) }
-    {
-        let n = self.fitting_length().ok_or(Refusal::State)?;
-        effect::check_memory(2 * n, places)?;
-        Ok(n)
-    }
-
-    // Retune: a clearing at another rate, which keeps the phase.
-    pub fn set_sample_rate(self, sample_rate: f64, mem: &mut [f64]) -> Cleared<Flanger>
-        ensures { Does flanger (retune sample_rate) self mem.old result.state mem.new
-            (outcome_reply result.outcome) }
-    {
-        let others = Flanger::rate_refusal(sample_rate, mem.len());
-        let tested = effect::check_state(self.fitting_length().is_some(), others);
-        effect::clear(tested, mem);
-        Cleared::settled(tested, Flanger::cleared(self.lfo_phase, sample_rate), self)
-    }
-
-    // Reset: a clearing at the rate in force, with phase 0 again.
-    pub fn reset(self, mem: &mut [f64]) -> Cleared<Flanger>
-        ensures { Does flanger reset self mem.old result.state mem.new (outcome_reply result.outcome) }
-    {
-        let tested = self.checked_length(mem.len());
-        effect::clear(tested, mem);
-        Cleared::settled(tested, Flanger::cleared(0.0, self.sample_rate), self)
-    }
-
-    // Silent? Whether every place of the two lines is +0 or -0.
-    pub fn silent(self, mem: &[f64]) -> Result<bool, Refusal>
-        ensures { Does flanger ask self mem.now self mem.now (silence_reply result) }
-    {
-        effect::silence(self.checked_length(mem.len()).map(|n| 2 * n), mem)
     }
 
     // (1 + (sine + 1) x 0.5 x (depth x 9)) x rate / 1000, clamped to 1 to n - 1, n the length of a line.
@@ -219,8 +203,8 @@ impl Flanger {
         ensures { Does flanger (tick (tick_of audio depth feedback mix frequency sine0 sine1)) self mem.old result.state
             mem.new (answer_reply result.answer) }
     {
-        let n = match self.checked_length(mem.len()) {
-            Ok(n) => n,
+        let n = match self.checked(mem.len()) {
+            Ok(places) => places / 2,
             Err(cause) => return Ticked::refused(self, cause),
         };
         let audio = if let Port::Set(x) = audio { x } else { 0.0 };

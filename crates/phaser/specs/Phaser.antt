@@ -1,6 +1,7 @@
 -- The phaser: on each side a chain of six all-passes, of which a tick runs the first 2, 4 or 6, fed back from the last of these. It has no line and is lent no
 -- memory, so cause 3 never applies, and it has no retune: a new rate means a new start. Definitions only. Assumes nothing.
 use Rattle.std.specs.Prelude.{◌≡◌, ℕ, ◌-◌, Bool, ◌&&◌, ◌||◌, cond, List, [], ◌∷◌, get_or, Float}
+use Rattle.std.specs.declared.convert.Infallible.{Infallible}
 use Rattle.std.specs.Float.{nan, binary64}
 use Rattle.std.specs.Float.Ieee.{add, mul, div, neg, lt}
 use Rattle.float64.specs.Number.{plus_zero, float_of, fraction, half, rate_fits, phase_fits, frequency_fits, allpass_fits, clamp_of}
@@ -9,7 +10,7 @@ use Rattle.port.specs.Port.{value_or, is_nan_set}
 use Rattle.port.specs.Answer.{Reply, played}
 use Rattle.common.specs.Signal.{sanitized, blended, advanced, cause_number}
 use Rattle.common.specs.Line.{zeros, are_zeros}
-use Rattle.effect.specs.Effect.{Effect}
+use Rattle.effect.specs.Effect.{Effect, Page, effect_of}
 use Rattle.phaser.specs.declared.Phaser.{Phaser}
 use Rattle.phaser.specs.declared.Lent.{Lent}
 use Rattle.phaser.specs.declared.allpass.Chain as lent
@@ -143,14 +144,9 @@ pub record Advances (t : Tick) (s s' : Phaser) (a : Reply) : Type 0 where
 
 -- ---- the effect
 
-abbrev pub phaser : Effect
-phaser =
+abbrev pub page : Page Phaser Float Float Infallible Tick
+page =
     record {
-      State = Phaser;
-      Settings = Float;
-      Start = Float;
-      Retune = ⊥;
-      Tick = Tick;
       state_fits = state_fits;
       settings = λ s. s.sample_rate;
       start_settings = λ rate. rate;
@@ -168,3 +164,6 @@ phaser =
       input = input;
       quiet = quiet;
     }
+
+abbrev pub phaser : Effect
+phaser = effect_of page

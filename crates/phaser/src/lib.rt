@@ -2,21 +2,19 @@
 // is lent to a tick in its parts; no memory is lent.
 #![tactic(auto)]
 
-ghost use Rattle.std.specs.Prelude.{◌≡◌, [], ◌&&◌};
+ghost use Rattle.std.specs.Prelude.{◌≡◌, ◌&&◌, Float, refl};
 ghost use Rattle.float64.specs.Number.{rate_fits, phase_fits};
-ghost use Rattle.port.specs.Answer.{number_of, outcome_reply, silence_reply};
-ghost use Rattle.effect.specs.Run.{reset, ask, number_in};
-ghost use Rattle.effect.specs.Contract.{Does, Starts};
 ghost use Rattle.effect.specs.Needed.{places_if_accepted};
-ghost use Rattle.phaser.specs.Phaser.{phaser, fresh, state_fits, quiet};
+ghost use Rattle.phaser.specs.Phaser.{Tick, page, phaser, fresh};
 
 mod allpass;
 mod stages;
 mod tick;
 
 pub use allpass::{Chain, Chains};
-use effect::Cleared;
+use effect::{Unit, WithoutMemory};
 use port::Refusal;
+use std::convert::Infallible;
 
 // Of each all-pass its last input x1 and its last output y1, a side at a time; the phase, and the rate.
 #[derive(Clone, Copy)]
@@ -62,52 +60,56 @@ impl Phaser {
         }
     }
 
-    // Start: chains of +0 and phase 0 at the rate.
-    pub fn new(sample_rate: f64) -> Cleared<Phaser>
-        ensures { Starts phaser sample_rate [] result.state [] (outcome_reply result.outcome) }
-    {
-        let tested = Phaser::places_needed(sample_rate).ok_or(Refusal::SampleRate);
-        Cleared::settled(tested, Phaser::fresh(sample_rate), Phaser::fresh(0.0))
-    }
-
     // The state test, by what it reads: the chains may hold any floats.
     fn fits(rate: f64, phase: f64) -> bool
         ensures { result ≡ (rate_fits rate && phase_fits phase) }
     {
         float64::rate_fits(rate) && float64::phase_fits(phase)
     }
+}
 
-    // Cause 4: a state that fails its test.
+impl Unit for Phaser {
+    type Start = f64;
+
+    // It has no retune.
+    type Retune = Infallible;
+
+    ghost InForce = { Float };
+
+    ghost Tick = { Tick };
+
+    ghost page = { page };
+
+    fn blank() -> Phaser {
+        Phaser::fresh(0.0)
+    }
+
+    fn started(rate: f64) -> Phaser {
+        Phaser::fresh(rate)
+    }
+
+    fn restarted(self) -> Phaser {
+        Phaser::fresh(self.sample_rate)
+    }
+
+    fn start_refusal(rate: f64, places: usize) -> Result<(), Refusal> {
+        effect::check_rate(Phaser::places_needed(rate), places)
+    }
+
     #[tactic(auto, unfolding(crate::specs::Phaser::state_fits))]
-    fn checked(self) -> Result<(), Refusal>
-        ensures { number_of result ≡ number_in phaser reset 0 self }
-    {
-        effect::check_state(Phaser::fits(self.sample_rate, self.lfo_phase), Ok(()))
+    fn fitting_places(self) -> Option<u64> {
+        Phaser::fits(self.sample_rate, self.lfo_phase).then_some(0)
     }
+}
 
-    // Reset: chains of +0 and phase 0 again.
-    pub fn reset(self) -> Cleared<Phaser>
-        ensures { Does phaser reset self [] result.state [] (outcome_reply result.outcome) }
-    {
-        Cleared::settled(self.checked(), Phaser::fresh(self.sample_rate), self)
-    }
-
-    // Whether all 24 numbers of the chains are +0 or -0.
+impl WithoutMemory for Phaser {
+    // Whether all 24 numbers of the chains are +0 or -0, idle stages too.
     #[tactic(auto, unfolding(crate::specs::Phaser::quiet))]
-    fn quiet(self) -> bool
-        ensures { result ≡ quiet self }
-    {
+    fn quiet(self) -> bool {
         let inputs = common::all_zero(&self.allpass_x1_l) & common::all_zero(&self.allpass_x1_r);
         let outputs = common::all_zero(&self.allpass_y1_l) & common::all_zero(&self.allpass_y1_r);
         inputs & outputs
     }
 
-    // Silent? Whether the chains are, idle stages too.
-    #[tactic(auto, unfolding(common::specs::Line::all_zero, effect::specs::Parts::held_in))]
-    pub fn silent(self) -> Result<bool, Refusal>
-        ensures { Does phaser ask self [] self [] (silence_reply result) }
-    {
-        self.checked()?;
-        Ok(self.quiet())
-    }
+    ghost no_part = { λ s. refl };
 }

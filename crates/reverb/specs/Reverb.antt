@@ -8,7 +8,7 @@ use Rattle.port.specs.Port.{value_or, is_nan_set}
 use Rattle.port.specs.Answer.{Reply, played}
 use Rattle.common.specs.Signal.{sanitized, blended}
 use Rattle.common.specs.Line.{zeros, are_zeros, next_place, table}
-use Rattle.effect.specs.Effect.{Effect, Write, laid}
+use Rattle.effect.specs.Effect.{Effect, Page, effect_of, Write, laid}
 use Rattle.reverb.specs.declared.tick.Controls.{Controls}
 use Rattle.reverb.specs.declared.Reverb.{Reverb}
 use Rattle.reverb.specs.declared.Lent.{Lent}
@@ -174,14 +174,9 @@ pub record Advances (c : Controls) (s : Reverb) (m : List Float) (s' : Reverb) (
 
 -- ---- the effect
 
-abbrev pub reverb : Effect
-reverb =
+abbrev pub page : Page Reverb Float Float Float Tick
+page =
     record {
-      State = Reverb;
-      Settings = Float;
-      Start = Float;
-      Retune = Float;
-      Tick = Tick;
       state_fits = state_fits;
       settings = λ s. s.sample_rate;
       start_settings = λ rate. rate;
@@ -199,3 +194,6 @@ reverb =
       input = λ t. input (controls_of t);
       quiet = quiet;
     }
+
+abbrev pub reverb : Effect
+reverb = effect_of page

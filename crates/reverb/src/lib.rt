@@ -2,15 +2,15 @@
 // by value, but for `tick_in_place` of tick.rt.
 #![tactic(auto)]
 
-ghost use Rattle.std.specs.Prelude.{◌≡◌, if◌then◌else◌, IfOk};
+ghost use Rattle.std.specs.Prelude.{◌≡◌, if◌then◌else◌, IfOk, Float};
 ghost use Rattle.float64.specs.Number.{rate_fits};
-ghost use Rattle.port.specs.Answer.{number_of, outcome_reply, silence_reply};
-ghost use Rattle.effect.specs.Run.{retune, reset, ask, start_number, number_in};
-ghost use Rattle.effect.specs.Contract.{Does, Starts};
+ghost use Rattle.port.specs.Answer.{number_of, silence_reply};
+ghost use Rattle.effect.specs.Run.{reset, ask, number_in};
+ghost use Rattle.effect.specs.Contract.{Does};
 ghost use Rattle.effect.specs.Needed.{places_if_accepted};
 ghost use Rattle.reverb.specs.Tunings.{lengths_at, lengths_for};
 ghost use Rattle.reverb.specs.Tank.{tank_size};
-ghost use Rattle.reverb.specs.Reverb.{reverb, fresh, state_fits, quiet};
+ghost use Rattle.reverb.specs.Reverb.{Tick, page, reverb, fresh, state_fits, quiet};
 
 mod filters;
 mod tank;
@@ -18,7 +18,7 @@ mod tick;
 mod tunings;
 
 use crate::tunings::Lengths;
-use effect::Cleared;
+use effect::{InMemory, Unit};
 use port::Refusal;
 
 // Positions and damping stores, a side at a time, and the rate.
@@ -105,27 +105,6 @@ impl Reverb {
         }
     }
 
-    // Causes 1 and 3: a rate that is refused, and memory that is too short.
-    fn rate_refusal(rate: f64, places: usize) -> Result<(), Refusal>
-        ensures { number_of result ≡ start_number reverb rate places }
-    {
-        effect::check_rate(Reverb::places_needed(rate), places)
-    }
-
-    // Start: a clearing at the rate.
-    pub fn new(sample_rate: f64, mem: &mut [f64]) -> Cleared<Reverb>
-        ensures { Starts reverb sample_rate mem.old result.state mem.new (outcome_reply result.outcome) }
-    {
-        let tested = Reverb::rate_refusal(sample_rate, mem.len());
-        effect::clear(tested, mem);
-        // one state: by `Cleared::settled`, which is handed two, a start took 400 bytes of stack in place of 64
-        let rate = if tested.is_ok() { sample_rate } else { 0.0 };
-        Cleared {
-            state: Reverb::fresh(rate),
-            outcome: tested,
-        }
-    }
-
     // The state test, by every line's length. The stores may hold any float.
     fn state_fits(self, n: Lengths) -> bool
         requires { n ≡ lengths_for self.sample_rate }
@@ -141,8 +120,7 @@ impl Reverb {
         )
     }
 
-    // Every line's length, where state and memory pass their tests: causes 4 and 3. Called, and not put in line, it would copy state and lengths: a reset took
-    // 1,592 bytes of stack in place of 168.
+    // Every line's length, where state and memory pass their tests: causes 4 and 3. It is `checked` for the question, which goes on with the lengths.
     #[inline(always)]
     fn checked_lengths(self, places: usize) -> Result<Lengths, Refusal>
         ensures number { number_of result ≡ number_in reverb reset places self }
@@ -154,27 +132,6 @@ impl Reverb {
             effect::check_memory(Reverb::PLACES, places),
         )?;
         Ok(n)
-    }
-
-    // Retune: a clearing at another rate.
-    pub fn set_sample_rate(self, sample_rate: f64, mem: &mut [f64]) -> Cleared<Reverb>
-        ensures { Does reverb (retune sample_rate) self mem.old result.state mem.new
-            (outcome_reply result.outcome) }
-    {
-        let n = tunings::scaled_lengths(self.sample_rate);
-        let others = Reverb::rate_refusal(sample_rate, mem.len());
-        let tested = effect::check_state(self.state_fits(n), others);
-        effect::clear(tested, mem);
-        Cleared::settled(tested, Reverb::fresh(sample_rate), self)
-    }
-
-    // Reset: a clearing at the rate in force.
-    pub fn reset(self, mem: &mut [f64]) -> Cleared<Reverb>
-        ensures { Does reverb reset self mem.old result.state mem.new (outcome_reply result.outcome) }
-    {
-        let tested = self.checked_lengths(mem.len());
-        effect::clear(tested, mem);
-        Cleared::settled(tested, Reverb::fresh(self.sample_rate), self)
     }
 
     // Whether all sixteen damping stores are +0 or -0.
@@ -190,5 +147,48 @@ impl Reverb {
     {
         let n = self.checked_lengths(mem.len())?;
         Ok(self.quiet() && tank::places_zero(n, mem))
+    }
+}
+
+impl Unit for Reverb {
+    type Start = f64;
+
+    type Retune = f64;
+
+    ghost InForce = { Float };
+
+    ghost Tick = { Tick };
+
+    ghost page = { page };
+
+    fn blank() -> Reverb {
+        Reverb::fresh(0.0)
+    }
+
+    fn started(rate: f64) -> Reverb {
+        Reverb::fresh(rate)
+    }
+
+    fn restarted(self) -> Reverb {
+        Reverb::fresh(self.sample_rate)
+    }
+
+    fn start_refusal(rate: f64, places: usize) -> Result<(), Refusal> {
+        effect::check_rate(Reverb::places_needed(rate), places)
+    }
+
+    fn fitting_places(self) -> Option<u64> {
+        let n = tunings::scaled_lengths(self.sample_rate);
+        self.state_fits(n).then_some(Reverb::PLACES)
+    }
+}
+
+impl InMemory for Reverb {
+    fn retuned(self, rate: f64) -> Reverb {
+        Reverb::fresh(rate)
+    }
+
+    fn retune_refusal(self, rate: f64, places: usize) -> Result<(), Refusal> {
+        Reverb::start_refusal(rate, places)
     }
 }

@@ -1,13 +1,14 @@
 -- The tremolo: it has no line and is lent no memory, so cause 3 never applies, and it has no retune: a new rate means a new start.
 -- Definitions only. Assumes nothing.
 use Rattle.std.specs.Prelude.{ℕ, Bool, true, ◌&&◌, ◌||◌, cond, List, [], ◌∷◌, Float}
+use Rattle.std.specs.declared.convert.Infallible.{Infallible}
 use Rattle.std.specs.Float.{binary64}
 use Rattle.std.specs.Float.Ieee.{add, sub, mul, div}
 use Rattle.float64.specs.Number.{plus_zero, float_of, half, rate_fits, phase_fits, frequency_fits, sine_fits, clamp_of, absolute}
 use Rattle.port.specs.declared.Port.{Port}
 use Rattle.port.specs.Port.{value_or, is_nan_set}
 use Rattle.common.specs.Signal.{advanced, cause_number}
-use Rattle.effect.specs.Effect.{Effect}
+use Rattle.effect.specs.Effect.{Effect, Page, effect_of}
 use Rattle.tremolo.specs.declared.Tremolo.{Tremolo}
 
 -- what a tick is handed: its ports, and the curve numbers frequency and sine
@@ -72,14 +73,9 @@ samples t s = modulated (input t) (depth t) (lfo s.lfo_phase (shape t) t.sine) �
 
 -- ---- the effect
 
-abbrev pub tremolo : Effect
-tremolo =
+abbrev pub page : Page Tremolo Float Float Infallible Tick
+page =
     record {
-      State = Tremolo;
-      Settings = Float;
-      Start = Float;
-      Retune = ⊥;
-      Tick = Tick;
       state_fits = state_fits;
       settings = λ s. s.sample_rate;
       start_settings = λ rate. rate;
@@ -97,3 +93,6 @@ tremolo =
       input = input;
       quiet = λ s. true;
     }
+
+abbrev pub tremolo : Effect
+tremolo = effect_of page

@@ -1,20 +1,63 @@
 // The tremolo: the audio's amplitude swept by a sine or a triangle. The state goes in and out by value; no memory is lent.
 #![tactic(auto)]
 
-ghost use Rattle.std.specs.Prelude.{◌≡◌, []};
-ghost use Rattle.port.specs.Answer.{number_of, outcome_reply, answer_reply, silence_reply};
-ghost use Rattle.effect.specs.Run.{tick, reset, ask, number_in};
-ghost use Rattle.effect.specs.Contract.{Does, Starts};
+ghost use Rattle.std.specs.Prelude.{◌≡◌, [], Float, refl};
+ghost use Rattle.port.specs.Answer.{answer_reply};
+ghost use Rattle.effect.specs.Run.{tick};
+ghost use Rattle.effect.specs.Contract.{Does};
 ghost use Rattle.effect.specs.Needed.{places_if_accepted};
-ghost use Rattle.tremolo.specs.Tremolo.{tremolo, tick_of, fresh, state_fits, triangle, lfo, modulated};
+ghost use Rattle.tremolo.specs.Tremolo.{Tick, page, tremolo, tick_of, fresh, triangle, lfo, modulated};
 
-use effect::{Cleared, Ticked};
+use effect::{Ticked, Unit, WithoutMemory};
 use port::{Answer, Port, Refusal};
+use std::convert::Infallible;
 
 #[derive(Clone, Copy)]
 pub struct Tremolo {
     pub lfo_phase: f64,
     pub sample_rate: f64,
+}
+
+impl Unit for Tremolo {
+    type Start = f64;
+
+    // It has no retune.
+    type Retune = Infallible;
+
+    ghost InForce = { Float };
+
+    ghost Tick = { Tick };
+
+    ghost page = { page };
+
+    fn blank() -> Tremolo {
+        Tremolo::fresh(0.0)
+    }
+
+    fn started(rate: f64) -> Tremolo {
+        Tremolo::fresh(rate)
+    }
+
+    fn restarted(self) -> Tremolo {
+        Tremolo::fresh(self.sample_rate)
+    }
+
+    fn start_refusal(rate: f64, places: usize) -> Result<(), Refusal> {
+        effect::check_rate(Tremolo::places_needed(rate), places)
+    }
+
+    #[tactic(auto, unfolding(crate::specs::Tremolo::state_fits))]
+    fn fitting_places(self) -> Option<u64> {
+        (float64::rate_fits(self.sample_rate) && float64::phase_fits(self.lfo_phase)).then_some(0)
+    }
+}
+
+impl WithoutMemory for Tremolo {
+    fn quiet(self) -> bool {
+        true
+    }
+
+    ghost no_part = { λ s. refl };
 }
 
 impl Tremolo {
@@ -33,45 +76,6 @@ impl Tremolo {
             lfo_phase: 0.0,
             sample_rate: rate,
         }
-    }
-
-    // Start: phase 0 at the rate.
-    pub fn new(sample_rate: f64) -> Cleared<Tremolo>
-        ensures { Starts tremolo sample_rate [] result.state [] (outcome_reply result.outcome) }
-    {
-        let tested = Tremolo::places_needed(sample_rate).ok_or(Refusal::SampleRate);
-        Cleared::settled(tested, Tremolo::fresh(sample_rate), Tremolo::fresh(0.0))
-    }
-
-    // The state test.
-    #[tactic(auto, unfolding(crate::specs::Tremolo::state_fits))]
-    fn state_fits(self) -> bool
-        ensures { result ≡ state_fits self }
-    {
-        float64::rate_fits(self.sample_rate) && float64::phase_fits(self.lfo_phase)
-    }
-
-    // Cause 4: a state that fails its test.
-    fn checked(self) -> Result<(), Refusal>
-        ensures { number_of result ≡ number_in tremolo reset 0 self }
-    {
-        effect::check_state(self.state_fits(), Ok(()))
-    }
-
-    // Reset: phase 0 again.
-    pub fn reset(self) -> Cleared<Tremolo>
-        ensures { Does tremolo reset self [] result.state [] (outcome_reply result.outcome) }
-    {
-        Cleared::settled(self.checked(), Tremolo::fresh(self.sample_rate), self)
-    }
-
-    // Silent? Always, as it has no line.
-    #[tactic(auto, unfolding(common::specs::Line::all_zero, effect::specs::Parts::held_in))]
-    pub fn silent(self) -> Result<bool, Refusal>
-        ensures { Does tremolo ask self [] self [] (silence_reply result) }
-    {
-        self.checked()?;
-        Ok(true)
     }
 
     // 1 - 4 x |phase - 0.5|.
@@ -106,7 +110,7 @@ impl Tremolo {
     ) -> Ticked<Tremolo>
         ensures { Does tremolo (tick (tick_of audio depth shape frequency sine)) self [] result.state [] (answer_reply result.answer) }
     {
-        if let Err(cause) = self.checked() {
+        if let Err(cause) = self.checked(0) {
             return Ticked::refused(self, cause);
         }
         let input = if let Port::Set(x) = audio { x } else { 0.0 };

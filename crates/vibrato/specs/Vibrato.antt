@@ -8,7 +8,7 @@ use Rattle.port.specs.Port.{value_or, is_nan_set}
 use Rattle.common.specs.Signal.{blended, advanced, cause_number}
 use Rattle.common.specs.Line.{swept_length, line_at, read_at, next_place}
 use Rattle.effect.specs.Parts.{first_places}
-use Rattle.effect.specs.Effect.{Effect, Write}
+use Rattle.effect.specs.Effect.{Effect, Page, effect_of, Write}
 use Rattle.effect.specs.Lines.{Lines, in_each}
 use Rattle.vibrato.specs.declared.Vibrato.{Vibrato}
 
@@ -86,14 +86,9 @@ samples t s m = blended (input t) (delayed t s m) (mix t) ∷ []
 
 -- ---- the effect
 
-abbrev pub vibrato : Effect
-vibrato =
+abbrev pub page : Page Vibrato Float Float Float Tick
+page =
     record {
-      State = Vibrato;
-      Settings = Float;
-      Start = Float;
-      Retune = Float;
-      Tick = Tick;
       state_fits = state_fits;
       settings = λ s. s.sample_rate;
       start_settings = λ rate. rate;
@@ -111,6 +106,9 @@ vibrato =
       input = input;
       quiet = λ s. true;
     }
+
+abbrev pub vibrato : Effect
+vibrato = effect_of page
 
 -- ---- its line, for the recent pasts
 

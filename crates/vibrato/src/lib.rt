@@ -1,22 +1,22 @@
 // The vibrato: one line in lent memory, read at a swept distance. The state goes in and out by value.
 #![tactic(auto)]
 
-ghost use Rattle.std.specs.Prelude.{◌≡◌, true, ◌<◌, length, IfOk};
+ghost use Rattle.std.specs.Prelude.{◌≡◌, true, ◌<◌, length, Float, refl};
 ghost use Rattle.std.specs.Bool.{then_some};
 ghost use Rattle.std.specs.Float.{binary64};
 ghost use Rattle.std.specs.Float.Ieee.{div};
 ghost use Rattle.float64.specs.Number.{rate_fits};
 ghost use Rattle.port.specs.declared.Port.TheVariants.{Set};
-ghost use Rattle.port.specs.Answer.{number_of, outcome_reply, answer_reply, silence_reply};
+ghost use Rattle.port.specs.Answer.{answer_reply};
 ghost use Rattle.common.specs.Signal.{advanced};
 ghost use Rattle.common.specs.Line.{next_place};
-ghost use Rattle.effect.specs.Run.{tick, retune, reset, ask, start_number, number_in};
-ghost use Rattle.effect.specs.Contract.{Does, Starts};
+ghost use Rattle.effect.specs.Run.{tick, number_in};
+ghost use Rattle.effect.specs.Contract.{Does};
 ghost use Rattle.effect.specs.Needed.{places_if_accepted};
-ghost use Rattle.vibrato.specs.Vibrato.{vibrato, tick_of, line_length, fresh, state_fits, distance};
+ghost use Rattle.vibrato.specs.Vibrato.{Tick, page, vibrato, tick_of, line_length, fresh, distance};
 
 use common::Line;
-use effect::{Cleared, Ticked};
+use effect::{InMemory, InOnePart, Ticked, Unit};
 use port::{Answer, Port, Refusal};
 
 #[derive(Clone, Copy)]
@@ -24,6 +24,57 @@ pub struct Vibrato {
     pub write_pos: u64,
     pub lfo_phase: f64,
     pub sample_rate: f64,
+}
+
+impl Unit for Vibrato {
+    type Start = f64;
+
+    type Retune = f64;
+
+    ghost InForce = { Float };
+
+    ghost Tick = { Tick };
+
+    ghost page = { page };
+
+    fn blank() -> Vibrato {
+        Vibrato::fresh(0.0)
+    }
+
+    fn started(rate: f64) -> Vibrato {
+        Vibrato::fresh(rate)
+    }
+
+    fn restarted(self) -> Vibrato {
+        Vibrato::fresh(self.sample_rate)
+    }
+
+    fn start_refusal(rate: f64, places: usize) -> Result<(), Refusal> {
+        effect::check_rate(Vibrato::line_length(rate), places)
+    }
+
+    #[tactic(auto, unfolding(crate::specs::Vibrato::state_fits))]
+    fn fitting_places(self) -> Option<u64> {
+        let n = Vibrato::line_length(self.sample_rate)?;
+        (self.write_pos < n && float64::phase_fits(self.lfo_phase)).then_some(n)
+    }
+}
+
+impl InMemory for Vibrato {
+    // The phase goes to 0 too.
+    fn retuned(self, rate: f64) -> Vibrato {
+        Vibrato::fresh(rate)
+    }
+
+    fn retune_refusal(self, rate: f64, places: usize) -> Result<(), Refusal> {
+        Vibrato::start_refusal(rate, places)
+    }
+}
+
+impl InOnePart for Vibrato {
+    ghost keeps_nothing = { λ s. refl };
+
+    ghost one_part = { λ s. refl };
 }
 
 impl Vibrato {
@@ -55,69 +106,6 @@ impl Vibrato {
             lfo_phase: 0.0,
             sample_rate: rate,
         }
-    }
-
-    // Causes 1 and 3: a rate that is refused, and memory that is too short for it.
-    fn rate_refusal(rate: f64, places: usize) -> Result<(), Refusal>
-        ensures { number_of result ≡ start_number vibrato rate places }
-    {
-        effect::check_rate(Vibrato::line_length(rate), places)
-    }
-
-    // Start: phase 0, at the rate.
-    pub fn new(sample_rate: f64, mem: &mut [f64]) -> Cleared<Vibrato>
-        ensures { Starts vibrato sample_rate mem.old result.state mem.new (outcome_reply result.outcome) }
-    {
-        let tested = Vibrato::rate_refusal(sample_rate, mem.len());
-        effect::clear(tested, mem);
-        Cleared::settled(tested, Vibrato::fresh(sample_rate), Vibrato::fresh(0.0))
-    }
-
-    // The state test: the places of the line, where it passes.
-    #[tactic(auto, unfolding(crate::specs::Vibrato::state_fits))]
-    fn fitting_length(self) -> Option<u64>
-        ensures { result ≡ then_some (state_fits self) (line_length self.sample_rate) }
-    {
-        let n = Vibrato::line_length(self.sample_rate)?;
-        (self.write_pos < n && float64::phase_fits(self.lfo_phase)).then_some(n)
-    }
-
-    // The same, where the memory passes its test too: causes 4 and 3.
-    #[tactic(auto, unfolding(crate::specs::Vibrato::state_fits))]
-    fn checked_length(self, places: usize) -> Result<u64, Refusal>
-        ensures number { number_of result ≡ number_in vibrato reset places self }
-        ensures length { IfOk result (λ n. n ≡ line_length self.sample_rate) }
-    {
-        let n = self.fitting_length().ok_or(Refusal::State)?;
-        effect::check_memory(n, places)?;
-        Ok(n)
-    }
-
-    // Retune: a clearing at another rate. The phase goes to 0 too.
-    pub fn set_sample_rate(self, sample_rate: f64, mem: &mut [f64]) -> Cleared<Vibrato>
-        ensures { Does vibrato (retune sample_rate) self mem.old result.state mem.new
-            (outcome_reply result.outcome) }
-    {
-        let others = Vibrato::rate_refusal(sample_rate, mem.len());
-        let tested = effect::check_state(self.fitting_length().is_some(), others);
-        effect::clear(tested, mem);
-        Cleared::settled(tested, Vibrato::fresh(sample_rate), self)
-    }
-
-    // Reset: a clearing at the rate in force, with phase 0 again.
-    pub fn reset(self, mem: &mut [f64]) -> Cleared<Vibrato>
-        ensures { Does vibrato reset self mem.old result.state mem.new (outcome_reply result.outcome) }
-    {
-        let tested = self.checked_length(mem.len());
-        effect::clear(tested, mem);
-        Cleared::settled(tested, Vibrato::fresh(self.sample_rate), self)
-    }
-
-    // Silent? Whether every place of the line is +0 or -0.
-    pub fn silent(self, mem: &[f64]) -> Result<bool, Refusal>
-        ensures { Does vibrato ask self mem.now self mem.now (silence_reply result) }
-    {
-        effect::silence(self.checked_length(mem.len()), mem)
     }
 
     // (10 + sine x (depth x 10 x 0.9)) x rate / 1000, clamped to 1 to n - 1, n the length of the line.
@@ -195,7 +183,7 @@ impl Vibrato {
         ensures { Does vibrato (tick (tick_of audio depth mix frequency sine)) self mem.old result.state mem.new
             (answer_reply result.answer) }
     {
-        let n = match self.checked_length(mem.len()) {
+        let n = match self.checked(mem.len()) {
             Ok(n) => n,
             Err(cause) => return Ticked::refused(self, cause),
         };

@@ -15,7 +15,7 @@ unfolding tick_number
 returns c =
     let a = c.args in
     let linear = a.self.linear_time in
-    let u = accepted delay_line a.places reset a.self (sym c.in_ok-checked_length.ensures.number) in
+    let u = accepted delay_line a.places reset a.self (sym c.in_ok-checked.ensures.number) in
     let ms = ap not c.is_nan-4.ensures ∙ not-not (is_number a.milliseconds) in
     tick-number delay_line a.places a.self (tick_of Unset (Set a.time) (Set a.feedback) (Set a.mix) a.milliseconds) u.state_fits (sym u.number)
     (c.tick_causes.ensures ∙ (λ i. cause_number (linear && c.is_nan.ensures i || (c.is_nan-2.ensures i || c.is_nan-3.ensures i)) (linear || ms i)))

@@ -57,6 +57,6 @@ returns c =
     let does = c.advance.ensures in
     accepts delay_line (tick t) s m
     (sym (tick_row delay_line t s m c.in-Ok.ensures.number (sym none ∙ set-row t s.linear_time time back wet)))
-    (next-is t s m audio time back wet read c.in-Ok.ensures.length does.state_value)
+    (next-is t s m audio time back wet read c.in-Ok.ensures.needed does.state_value)
     (stored_is t s m audio time back wet read does.mem_after)
     (played-is t s m audio time back wet read does.answer_value)

@@ -22,7 +22,7 @@ returns-in-Err-causes c =
     let blend : c.match-shape.blend ≡ value_or a.shape plus_zero = search rules in
     let causes = number-is t amount blend c.is_nan.ensures c.is_nan-2.ensures c.frequency_fits.ensures c.sine_fits.ensures in
     rw (c.refused-in-Err-causes.ensures.state, c.refused-in-Err-causes.ensures.answer)
-    (refuses tremolo (tick t) a.self [] (number cause) (tick_row tremolo t a.self [] c.in_default.ensures (c.in-Err-causes.ensures ∙ causes)) (number-some cause))
+    (refuses tremolo (tick t) a.self [] (number cause) (tick_row tremolo t a.self [] c.in_default.ensures.number (c.in-Err-causes.ensures ∙ causes)) (number-some cause))
 
 pub returns : goal.returns
 unfolding next of_bits of_int round
@@ -34,7 +34,7 @@ returns c =
     let blend : c.match-shape.blend ≡ value_or a.shape plus_zero = search rules in
     let causes = number-is t amount blend c.is_nan.ensures c.is_nan-2.ensures c.frequency_fits.ensures c.sine_fits.ensures in
     accepts tremolo (tick t) a.self []
-    (sym (tick_row tremolo t a.self [] c.in_default.ensures (c.in_default-causes.ensures ∙ causes)))
+    (sym (tick_row tremolo t a.self [] c.in_default.ensures.number (c.in_default-causes.ensures ∙ causes)))
     (rw c.advance_phase-next.ensures)
     refl
     (ap played (samples-are t a.self input amount blend c.clamp.ensures c.lfo-lfo.ensures c.clamp-2.ensures c.modulated-y.ensures))

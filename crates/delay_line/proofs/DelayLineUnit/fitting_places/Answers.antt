@@ -1,4 +1,4 @@
--- `DelayLine::fitting_length`: the state test, by the length of the line where there is one. Assumes nothing.
+-- `The state test of a delay`: the state test, by the length of the line where there is one. Assumes nothing.
 use Rattle.std.proofs.Common.{◌≡◌, ℕ, Bool, true, false, ◌&&◌, Some, None, refl, sym, ◌∙◌, lt-ltb, le-ltb, arith}
 use Rattle.std.proofs.lemmas.Option.{none-some, same_Some}
 use Rattle.std.specs.Bool.{then_some}
@@ -7,7 +7,7 @@ use Rattle.float64.specs.Number.{coefficient_fits}
 use Rattle.delay_line.specs.declared.DelayLine.{DelayLine}
 use Rattle.delay_line.specs.DelayLine.{settings, glide_fits, state_fits}
 use Rattle.delay_line.proofs.Laws.{size_fits, size, length-fits}
-use Rattle.delay_line.proofs.DelayLine.fitting_length.Goals as goal
+use Rattle.delay_line.proofs.DelayLineUnit.fitting_places.Goals as goal
 
 none_is : (b : Bool) (x : ℕ) → None ≡ then_some b x → b ≡ false
 none_is true x e = absurd (none-some x e)
