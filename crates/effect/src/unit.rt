@@ -67,8 +67,9 @@ pub trait InMemory: Unit {
         ensures { Starts (effect_of Self.page) handed mem.old result.state mem.new (outcome_reply result.outcome) }
     {
         let tested = Self::start_refusal(handed, mem.len());
+        let cleared = Cleared::settled(tested, Self::started(handed), Self::blank());
         clear(tested, mem);
-        Cleared::settled(tested, Self::started(handed), Self::blank())
+        cleared
     }
 
     // Retune: a clearing with other settings.
@@ -78,8 +79,9 @@ pub trait InMemory: Unit {
     {
         let others = self.retune_refusal(handed, mem.len());
         let tested = check_state(self.fitting_places().is_some(), others);
+        let cleared = Cleared::settled(tested, self.retuned(handed), self);
         clear(tested, mem);
-        Cleared::settled(tested, self.retuned(handed), self)
+        cleared
     }
 
     // Reset: a clearing with the settings in force.
@@ -87,23 +89,24 @@ pub trait InMemory: Unit {
         ensures { Does (effect_of Self.page) reset self mem.old result.state mem.new (outcome_reply result.outcome) }
     {
         let tested = self.checked(mem.len());
+        let cleared = Cleared::settled(tested, self.restarted(), self);
         clear(tested, mem);
-        Cleared::settled(tested, self.restarted(), self)
+        cleared
     }
 }
 
-// An effect that keeps its sound in the first places of its memory alone, as many as it needs.
+// An effect whose places in use are the first of its memory, as many as it needs, and whose state keeps nothing of the sound.
 pub trait InOnePart: Unit {
-    ghost keeps_nothing: { (s : Self) → Self.page.quiet s ≡ true };
-
-    ghost one_part: { (s : Self) → Self.page.parts (Self.page.settings s) ≡ first_places (Self.page.places (Self.page.settings s)) };
-
     // Silent? Whether every place in use is +0 or -0.
-    final fn silent(self, mem: &[f64]) -> Result<bool, Refusal>
+    fn silent(self, mem: &[f64]) -> Result<bool, Refusal>
         ensures { Does (effect_of Self.page) ask self mem.now self mem.now (silence_reply result) }
     {
         silence(self.checked(mem.len()), mem)
     }
+
+    ghost keeps_nothing: { (s : Self) → Self.page.quiet s ≡ true };
+
+    ghost one_part: { (s : Self) → Self.page.parts (Self.page.settings s) ≡ first_places (Self.page.places (Self.page.settings s)) };
 }
 
 // An effect that is lent no memory.

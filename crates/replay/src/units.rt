@@ -18,8 +18,8 @@ ghost use Rattle.replay.specs.Words.{float_at};
 use crate::words::Record;
 use crate::{phasers, reverbs};
 use chorus::Chorus;
-use delay_line::DelayLine;
-use effect::Cleared;
+use delay_line::{DelayLine, Retune, Settings};
+use effect::{Cleared, InMemory, WithoutMemory};
 use flanger::Flanger;
 use phaser::Phaser;
 use port::{Answer, Port, port_if};
@@ -216,12 +216,13 @@ impl Unit {
             Effect::Chorus => Unit::Chorus(Chorus::new(rate, mem).state),
             Effect::Flanger => Unit::Flanger(Flanger::new(rate, mem).state),
             Effect::Delay => {
-                let linear = start.word(5) == 1;
-                let maximum = start.float(3);
-                let coefficient = start.float(4);
-                Unit::Delay(
-                    DelayLine::with_max_delay(rate, maximum, coefficient, linear, mem).state,
-                )
+                let handed = Settings {
+                    rate,
+                    coefficient: start.float(4),
+                    maximum: start.float(3),
+                    linear: start.word(5) == 1,
+                };
+                Unit::Delay(DelayLine::new(handed, mem).state)
             }
             Effect::Reverb => Unit::Reverb(Reverb::new(rate, mem).state),
             Effect::Phaser => Unit::Phaser(Phaser::new(rate).state),
@@ -258,7 +259,13 @@ impl Unit {
             Unit::Vibrato(v) => keep(v, v.set_sample_rate(stored.float(4), mem)),
             Unit::Chorus(c) => keep(c, c.set_sample_rate(stored.float(4), mem)),
             Unit::Flanger(f) => keep(f, f.set_sample_rate(stored.float(5), mem)),
-            Unit::Delay(d) => keep(d, d.set_sample_rate(stored.float(5), stored.float(6), mem)),
+            Unit::Delay(d) => {
+                let handed = Retune {
+                    rate: stored.float(5),
+                    coefficient: stored.float(6),
+                };
+                keep(d, d.set_sample_rate(handed, mem))
+            }
             Unit::Reverb(r) => keep(r, r.set_sample_rate(stored.float(6), mem)),
             Unit::Phaser(_) => false,
         }

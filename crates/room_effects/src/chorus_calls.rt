@@ -8,6 +8,7 @@ ghost use Rattle.std.specs.Prelude.{◌≡◌, [], ◌∷◌};
 
 use crate::shared::{port_at, put_samples};
 use chorus::Chorus;
+use effect::{InMemory, InOnePart};
 use port::{number_of, silent_flag};
 
 // A chorus's position and phases into lent numbers; the rate is written, or kept, beside.

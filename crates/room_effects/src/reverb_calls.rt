@@ -7,6 +7,7 @@ ghost use Rattle.room_effects.specs.Lent.{StartReturns, CallReturns, TickReturns
 ghost use Rattle.room_effects.specs.Ports.{port_at};
 
 use crate::shared::port_at;
+use effect::InMemory;
 use port::{number_of, silent_flag};
 use reverb::{Lent, Reverb};
 

@@ -7,6 +7,7 @@ ghost use Rattle.room_effects.specs.Ports.{port_at};
 ghost use Rattle.std.specs.Prelude.{[], ◌∷◌};
 
 use crate::shared::port_at;
+use effect::{InMemory, InOnePart};
 use port::{number_of, silent_flag};
 use vibrato::Vibrato;
 

@@ -1,5 +1,4 @@
 -- The tests of a delay's retune: causes 1, 2 and 3 at the new rate and coefficient; a state that passes its test has its maximum in range. Assumes nothing.
-use Rattle.std.proofs.Common.{rules}
 use Rattle.delay_line.specs.DelayLine.{settings, retune_settings}
 use Rattle.delay_line.proofs.Laws.{fits-parts, settings-row}
 use Rattle.delay_line.proofs.DelayLineInMemory.retune_refusal.Goals as goal

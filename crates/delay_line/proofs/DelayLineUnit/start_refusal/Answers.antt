@@ -1,5 +1,4 @@
 -- The tests of a delay's start: causes 1, 2 and 3 of what it is handed, with the maximum held to its range. Assumes nothing.
-use Rattle.std.proofs.Common.{rules}
 use Rattle.delay_line.specs.DelayLine.{start_settings}
 use Rattle.delay_line.proofs.Laws.{held_fits, settings-row}
 use Rattle.delay_line.proofs.DelayLineUnit.start_refusal.Goals as goal
