@@ -82,8 +82,12 @@ def skip_generics(src, at):
 
 
 def owners(src):
-    """(first, last, name) of each impl: its braces, and its type; before a trait's and its arguments, as rattle names them: `U32FromRefusal`."""
+    """(first, last, name) of each impl and trait: its braces, and its type or its name; a type before a trait's and its arguments, as rattle names them:
+    `U32FromRefusal`."""
     for i, t in enumerate(src.tokens):
+        if t.text == "trait":
+            opening = next(k for k in range(i, len(src.tokens)) if src.tokens[k].text == "{")
+            yield opening, src.match[opening], src.tokens[i + 1].text
         if t.text == "impl" and (i == 0 or src.tokens[i - 1].text in ("}", ";", "]")):
             at = skip_generics(src, i + 1)
             opening = at
@@ -103,7 +107,9 @@ def regions(src):
         owner = next((name + "::" for first, last, name in impls if first < i < last), "")
         name = owner + src.tokens[min(i + 1, len(src.tokens) - 1)].text
         if t.text == "fn" and src.tokens[i + 1].kind == "name":
-            yield function(src, name, i)
+            region = function(src, name, i)
+            if region:
+                yield region
         elif t.text == "const" and src.tokens[i + 2].text == ":" and src.tokens[i - 1].text not in ("<", ","):
             at = next(k for k in range(i, len(src.tokens)) if src.tokens[k].text == "=")
             end = next(k for k in range(at, len(src.tokens)) if src.tokens[k].text == ";" and not inside_brackets(src, at, k))
@@ -115,15 +121,18 @@ def regions(src):
 
 
 def function(src, name, at):
+    """Its region; none where a trait's function has no body."""
     opening = skip_generics(src, at + 2)
     arrow = at = src.match[opening] + 1
-    while src.tokens[at].text != "{" and src.tokens[at].text not in ("requires", "ensures"):
-        at += 1
+    while src.tokens[at].text not in ("{", ";", "requires", "ensures"):
+        at = src.match.get(at, at) + 1
     answers = [t.text for t in src.tokens[arrow + 1:at]]
-    while src.tokens[at].text != "{":
+    while src.tokens[at].text not in ("{", ";"):
         if src.tokens[at].text in ("requires", "ensures"):
             at = src.match[clause(src, at)]
         at += 1
+    if src.tokens[at].text == ";":
+        return None
     return Region(name, at, src.match[at], lent(src, opening), answers)
 
 
