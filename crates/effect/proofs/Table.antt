@@ -43,11 +43,6 @@ pub none_5 : (applies : Bool) → ◌≡◌ {A = ℕ} (cond applies 5 0) 0 → a
 none_5 true e = absurd (omega arith)
 none_5 false e = refl
 
-pub none-5-6 : (applies passes : Bool) → ◌≡◌ {A = ℕ} (cond applies 5 (cond passes 0 6)) 0 → passes ≡ true
-none-5-6 true passes e = absurd (omega arith)
-none-5-6 false true e = refl
-none-5-6 false false e = absurd (omega arith)
-
 -- ---- cause 3
 
 pub memory-enough : {needed n : ℕ} → needed ≤ n → ◌≡◌ {A = ℕ} 0 (memory_number needed n)
