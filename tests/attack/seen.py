@@ -11,7 +11,6 @@ use chorus::Chorus;
 use common::Line;
 use delay_line::DelayLine;
 use delay_line::Retune;
-use delay_line::Settings;
 use effect::InMemory;
 use effect::InOnePart;
 use effect::WithoutMemory;
@@ -225,7 +224,7 @@ EFFECTS = [
     ("flanger", "Flanger", "write_pos lfo_phase sample_rate", "new(R, mem)", "set_sample_rate(R, mem)", 180,
      "mem, audio(k), port(k + 1), port(k + 2), port(k + 3), frequency(k), sine(k), sine(k + 1)"),
     ("delay_line", "DelayLine", "write_pos sample_rate max_delay_secs linear_time smoothed_delay delay_smooth_coef delay_primed",
-     "new(handing(R, X, fraction(k + 5), k % 2 == 0), mem)", "set_sample_rate(retuning(R, X), mem)", 401,
+     "with_max_delay(R, X, fraction(k + 5), k % 2 == 0, mem)", "set_sample_rate(retuning(R, X), mem)", 401,
      "mem, audio(k), port(k + 1), port(k + 2), port(k + 3), milliseconds(k)"),
     ("phaser", "Phaser", f"{CHAINS} lfo_phase sample_rate", "new(R)", "", 0,
      "audio(k), port(k + 1), port(k + 2), port(k + 3), frequency(k), sine(k), sine(k + 1)"),
@@ -309,10 +308,6 @@ RETUNE = """    dirty(mem);
     sum = places(NAME_left(cleared(sum, r.outcome), left), mem);"""
 
 MILLISECONDS = """
-fn handing(rate: f64, maximum: f64, coefficient: f64, linear: bool) -> Settings {
-    Settings { rate, coefficient, maximum, linear }
-}
-
 fn retuning(rate: f64, coefficient: f64) -> Retune {
     Retune { rate, coefficient }
 }
@@ -335,11 +330,11 @@ fn settings_calls() -> u64 {
     for k in 0..40 {
         dirty(&mut lent);
         let mem = &mut lent[..];
-        let c = DelayLine::new(handing(special(k), 0.05, special(k + 19), false), mem);
+        let c = DelayLine::with_max_delay(special(k), 0.05, special(k + 19), false, mem);
         h = places(delay_line_left(cleared(h, c.outcome), c.state), mem);
-        let d = DelayLine::new(handing(8000.0, 0.05, special(k), false), mem);
+        let d = DelayLine::with_max_delay(8000.0, 0.05, special(k), false, mem);
         h = places(delay_line_left(cleared(h, d.outcome), d.state), mem);
-        let e = DelayLine::new(handing(8000.0, 0.05, 0.5, k >= 16), mem);
+        let e = DelayLine::with_max_delay(8000.0, 0.05, 0.5, k >= 16, mem);
         let s = e.state;
         let t = s.tick(mem, Port::Set(1.0), Port::Set(nan_if(0.01, k % 2 == 0)), Port::Set(nan_if(0.5, k / 2 % 2 == 0)), Port::Set(nan_if(0.5, k / 4 % 2 == 0)), nan_if(10.0, k / 8 % 2 == 0));
         h = places(delay_line_left(answered(h, t.answer), t.state), mem);

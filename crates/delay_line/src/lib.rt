@@ -7,15 +7,15 @@ ghost use Rattle.std.specs.Float.{binary64};
 ghost use Rattle.std.specs.Float.Ieee.{add, mul};
 ghost use Rattle.float64.specs.Number.{plus_zero, float_of, fraction, is_number, rate_fits, coefficient_fits, clamp_of};
 ghost use Rattle.port.specs.declared.Port.TheVariants.{Set, Unset};
-ghost use Rattle.port.specs.Answer.{played, number_of, answer_reply};
+ghost use Rattle.port.specs.Answer.{played, number_of, outcome_reply, answer_reply};
 ghost use Rattle.common.specs.Signal.{sanitized, blended};
 ghost use Rattle.effect.specs.Run.{tick, memory_number, number_in};
-ghost use Rattle.effect.specs.Contract.{Does};
+ghost use Rattle.effect.specs.Contract.{Does, Starts};
 ghost use Rattle.effect.specs.Needed.{places_if_accepted};
 ghost use Rattle.delay_line.specs.DelayLine.{Tick, page, delay_line, handing, start_settings, retune_settings, settings, tick_of, held_maximum, maximum_fits, line_length, cleared, glide_fits, state_fits, samples_of, glided, reads_at, delayed_by, next_state};
 
 use common::Line;
-use effect::{InMemory, InOnePart, Ticked, Unit};
+use effect::{Cleared, InMemory, InOnePart, Ticked, Unit};
 use port::{Answer, Port, Refusal};
 
 #[derive(Clone, Copy)]
@@ -30,7 +30,7 @@ pub struct DelayLine {
     pub delay_primed: bool,
 }
 
-// What is in force from one clearing to the next; also what a start is handed, with a maximum still to be held. `linear` is the Rust's `with_linear_time`.
+// What is in force from one clearing to the next; also what a start is handed, with a maximum still to be held.
 #[derive(Clone, Copy)]
 pub struct Settings {
     pub rate: f64,
@@ -210,6 +210,26 @@ impl DelayLine {
             ..Settings::NONE
         };
         settings.line_length()
+    }
+
+    // Start, by the Rust's name, with the glide coefficient from the host; `linear` is the Rust's `with_linear_time`.
+    pub fn with_max_delay(
+        sample_rate: f64,
+        max_delay_secs: f64,
+        coefficient: f64,
+        linear: bool,
+        mem: &mut [f64],
+    ) -> Cleared<DelayLine>
+        ensures { Starts delay_line (handing sample_rate coefficient max_delay_secs linear) mem.old result.state
+            mem.new (outcome_reply result.outcome) }
+    {
+        let handed = Settings {
+            rate: sample_rate,
+            coefficient,
+            maximum: max_delay_secs,
+            linear,
+        };
+        DelayLine::new(handed, mem)
     }
 
     fn settings(self) -> Settings

@@ -18,7 +18,7 @@ ghost use Rattle.replay.specs.Words.{float_at};
 use crate::words::Record;
 use crate::{phasers, reverbs};
 use chorus::Chorus;
-use delay_line::{DelayLine, Retune, Settings};
+use delay_line::{DelayLine, Retune};
 use effect::{Cleared, InMemory, WithoutMemory};
 use flanger::Flanger;
 use phaser::Phaser;
@@ -216,13 +216,12 @@ impl Unit {
             Effect::Chorus => Unit::Chorus(Chorus::new(rate, mem).state),
             Effect::Flanger => Unit::Flanger(Flanger::new(rate, mem).state),
             Effect::Delay => {
-                let handed = Settings {
-                    rate,
-                    coefficient: start.float(4),
-                    maximum: start.float(3),
-                    linear: start.word(5) == 1,
-                };
-                Unit::Delay(DelayLine::new(handed, mem).state)
+                let linear = start.word(5) == 1;
+                let maximum = start.float(3);
+                let coefficient = start.float(4);
+                Unit::Delay(
+                    DelayLine::with_max_delay(rate, maximum, coefficient, linear, mem).state,
+                )
             }
             Effect::Reverb => Unit::Reverb(Reverb::new(rate, mem).state),
             Effect::Phaser => Unit::Phaser(Phaser::new(rate).state),

@@ -8,7 +8,7 @@ ghost use Rattle.room_effects.specs.States.{is_on, FlagWritten, FlagLeft, delay_
 ghost use Rattle.room_effects.specs.Ports.{port_at};
 
 use crate::shared::port_at;
-use delay_line::{DelayLine, Retune, Settings};
+use delay_line::{DelayLine, Retune};
 use effect::{InMemory, InOnePart};
 use port::{number_of, silent_flag};
 
@@ -58,13 +58,13 @@ pub extern "C" fn room_raw_delay_start(
         delay_smooth_coef.new max_delay_secs.new (is_on linear_time.new))
         memory.new) result × FlagWritten delay_primed.new × FlagWritten linear_time.new }
 {
-    let handed = Settings {
-        rate: new_sample_rate,
-        coefficient: new_delay_smooth_coef,
-        maximum: new_max_delay_secs,
-        linear: new_linear_time != 0,
-    };
-    let started = DelayLine::new(handed, memory);
+    let started = DelayLine::with_max_delay(
+        new_sample_rate,
+        new_max_delay_secs,
+        new_delay_smooth_coef,
+        new_linear_time != 0,
+        memory,
+    );
     *write_pos = started.state.write_pos;
     *smoothed_delay = started.state.smoothed_delay;
     *delay_primed = u32::from(started.state.delay_primed);
