@@ -4,7 +4,7 @@
 //   2 to 6  audio, size, damping, mix, predelay; of a retune, 6 is the new rate
 //   7, 8    left and right
 //   9 to 15 the positions after, four in a word, 16 bits each, the first lowest: left combs, right combs, left all-passes, right ones; the predelay's
-ghost use Rattle.std.specs.Prelude.{◌≡◌, ◌<◌, ◌↔◌, IsTrue};
+ghost use Rattle.std.specs.Prelude.{◌≡◌, ◌↔◌, IsTrue};
 ghost use Rattle.replay.specs.Stored.{IsReverbStored, eight_from, reverb_looked, unpacked};
 
 use crate::units::{is_one_sample, port};
@@ -34,13 +34,13 @@ fn are_four_stored(positions: &[u64], packed: u64) -> bool
     positions == unpacked(packed).as_slice()
 }
 
-// Whether eight positions are those packed from word i on.
-fn are_eight_stored(positions: &[u64; 8], stored: &Record, i: usize) -> bool
-    requires { i < 15 }
+// Whether eight positions are those packed from word i on; i is a byte, so that i + 1 is a number of a word too.
+fn are_eight_stored(positions: &[u64; 8], stored: &Record, i: u8) -> bool
     ensures { IsTrue result ↔ (positions.now ≡ eight_from stored.now.bytes i) }
 {
-    are_four_stored(&positions[..4], stored.word(i))
-        && are_four_stored(&positions[4..], stored.word(i + 1))
+    let at = usize::from(i);
+    are_four_stored(&positions[..4], stored.word(at))
+        && are_four_stored(&positions[4..], stored.word(at + 1))
 }
 
 // The numbers that a record is a look at; none, where it is of a call.

@@ -96,28 +96,27 @@ pub enum Unit {
 
 // The port of the weight 1, 2, 4, .. in the mask, with the number in word i.
 pub fn port(stored: &Record, mask: u64, weight: u64, i: usize) -> Port
-    requires weight { 1 ≤ weight }
-    requires word { i < 16 }
+    requires { 1 ≤ weight }
     ensures { result ≡ port_if (mask / weight % 2 == 1) (float_at stored.now.bytes i) }
 {
     port_if(mask / weight % 2 == 1, stored.float(i))
 }
 
-// Whether a tick was accepted with the samples stored from word i on.
+// Whether a tick was accepted with the sample stored in word i.
 pub fn is_one_sample(answer: Answer, stored: &Record, i: usize) -> bool
-    requires { i < 16 }
     ensures { IsTrue result ↔ IsOneSample (answer_reply answer) stored.now.bytes i }
 {
     answer.number() == 0 && stored.holds(i, answer.first())
 }
 
-pub fn is_three_samples(answer: Answer, stored: &Record, i: usize) -> bool
-    requires { i < 14 }
+// Whether a tick was accepted with the three samples stored from word i on; i is a byte, so that i + 2 is a number of a word too.
+pub fn is_three_samples(answer: Answer, stored: &Record, i: u8) -> bool
     ensures { IsTrue result ↔ IsThreeSamples (answer_reply answer) stored.now.bytes i }
 {
-    is_one_sample(answer, stored, i)
-        && stored.holds(i + 1, answer.second())
-        && stored.holds(i + 2, answer.third())
+    let at = usize::from(i);
+    is_one_sample(answer, stored, at)
+        && stored.holds(at + 1, answer.second())
+        && stored.holds(at + 2, answer.third())
 }
 
 // Keeps the state that a start, a retune or a reset left, and says whether it was accepted.

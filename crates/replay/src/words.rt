@@ -1,6 +1,6 @@
 // Words of a stored record, as integers and as floats, when two floats are equal, and the tally of the calls.
 ghost use Rattle.std.specs.Prelude.{◌≡◌, ◌+◌, ◌-◌, ◌≤◌, ◌<◌, ◌++◌, ◌↔◌, IsTrue, length, replicate};
-ghost use Rattle.replay.specs.Words.{half_word, word_of, float_at, AreHeld, Decides, differ_in};
+ghost use Rattle.replay.specs.Words.{word_of, float_at, AreHeld, Decides, differ_in};
 
 // The sign bit, and the bits of infinity: a NaN's are above these, its sign aside.
 const SIGN: u64 = 0x8000_0000_0000_0000;
@@ -11,15 +11,6 @@ const INFINITY: u64 = 0x7ff0_0000_0000_0000;
 #[derive(Clone, Copy)]
 pub struct Record {
     pub bytes: [u8; 128],
-}
-
-// Four bytes from `at` on, the lowest first.
-fn half_word(b: &[u8], at: usize) -> u64
-    requires { at + 4 ≤ length b.now }
-    ensures value { result ≡ half_word b.now at }
-    ensures upper_bound { result < 4294967296 }
-{
-    u64::from(u32::from_le_bytes([b[at], b[at + 1], b[at + 2], b[at + 3]]))
 }
 
 impl Record {
@@ -33,18 +24,16 @@ impl Record {
         Record { bytes }
     }
 
-    // The word number i, its lowest byte first.
+    // The word number i, its lowest byte first; 0 past the last, as for each that the record does not have.
     pub fn word(&self, i: usize) -> u64
-        requires { i < 16 }
         ensures { result ≡ word_of self.now.bytes i }
     {
-        let at = i * 8;
-        half_word(&self.bytes, at) + 4294967296 * half_word(&self.bytes, at + 4)
+        let (words, _) = self.bytes.as_chunks::<8>();
+        u64::from_le_bytes(words.get(i).copied().unwrap_or([0; 8]))
     }
 
     // The float of a word: a NaN for every NaN pattern.
     pub fn float(&self, i: usize) -> f64
-        requires { i < 16 }
         ensures { result ≡ float_at self.now.bytes i }
     {
         let bits = self.word(i);
@@ -57,7 +46,6 @@ impl Record {
 
     // Whether the words from 1 on are those floats.
     pub fn are_held(&self, stores: &[f64]) -> bool
-        requires { length stores.now < 16 }
         ensures { IsTrue result ↔ AreHeld stores.now self.now.bytes }
     {
         stores
@@ -68,14 +56,13 @@ impl Record {
 
     // Whether word i is that float.
     pub fn holds(&self, i: usize, x: f64) -> bool
-        requires { i < 16 }
         ensures { Decides result x (float_at self.now.bytes i) }
     {
         same(x, self.float(i))
     }
 }
 
-// Equal by bits, every NaN as one value.
+// Equal by bits, every NaN as one value. By hand: floats are data here, and a derive's `==` has a NaN unequal to itself and -0 equal to +0.
 pub fn same(x: f64, y: f64) -> bool
     ensures { Decides result x y }
 {
