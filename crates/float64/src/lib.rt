@@ -65,6 +65,7 @@ pub fn rate_fits(x: f64) -> bool
 }
 
 // Whether x is a glide coefficient.
+// The test of `phase_fits` under a name of its own: each names a number that the table tests, a coefficient for causes 2 and 4, a phase for 4.
 pub fn coefficient_fits(x: f64) -> bool
     ensures { result ≡ coefficient_fits x }
 {
@@ -86,6 +87,7 @@ pub fn frequency_fits(x: f64) -> bool
 }
 
 // Whether x is a sine.
+// The test of `allpass_fits` under a name of its own: each names a number that the table tests, both for cause 6, of other effects.
 pub fn sine_fits(x: f64) -> bool
     ensures { result ≡ sine_fits x }
 {

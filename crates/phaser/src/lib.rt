@@ -17,6 +17,7 @@ use port::Refusal;
 use std::convert::Infallible;
 
 // Of each all-pass its last input x1 and its last output y1, a side at a time; the phase, and the rate.
+// Left and right are fields of their own and no `Sides`: the C interface lends them so, named as the reverb's are.
 #[derive(Clone, Copy)]
 pub struct Phaser {
     pub allpass_x1_l: [f64; 6],

@@ -77,7 +77,7 @@ pub fn silent_flag(silence: Result<bool, Refusal>) -> u32
 }
 
 impl Answer {
-    // The table's number, 0 for none.
+    // The table's number, 0 for none. Beside `number_of`, which is of a `Result`: a tick's answer is an enum of its own, as said there.
     pub fn number(self) -> u32
         ensures { result ≡ reply_number (answer_reply self) }
     {

@@ -22,6 +22,7 @@ use effect::{Cleared, InMemory, Unit};
 use port::Refusal;
 
 // Positions and damping stores, a side at a time, and the rate.
+// Left and right are fields of their own and no `Sides`, here and in `Lent`: the C interface lends them so, and the Rust names them so.
 #[derive(Clone, Copy)]
 pub struct Reverb {
     pub comb_pos_l: [u64; 8],
