@@ -1,5 +1,5 @@
 // The reverb: a predelay, and on each side eight combs in parallel and four all-passes in series, in one lent tank. The state goes in and out
-// by value, but for `tick_in_place` of tick.rt.
+// by value, but for `Lent::tick` of tick.rt.
 #![tactic(auto)]
 
 ghost use Rattle.std.specs.Prelude.{◌≡◌, if◌then◌else◌, IfOk, Float};
