@@ -17,13 +17,14 @@ pub trait Unit: Copy {
 
     type Retune: Copy;
 
+    // What is in force from one clearing to the next, and what a tick is handed, as the page has them.
     ghost InForce: { Type 0 };
 
     ghost Tick: { Type 0 };
 
     ghost page: { Page Self InForce Self.Start Self.Retune Tick };
 
-    // The state that a refused start gives.
+    // The states that a refused start, an accepted one and a reset give.
     fn blank() -> Self
         ensures { result ≡ page.blank };
 
@@ -62,7 +63,7 @@ pub trait InMemory: Unit {
         ensures { Self.page.state_fits self ≡ true
             → number_of result ≡ number_for (effect_of Self.page) (retune handed) places (Self.page.settings self) };
 
-    // Start: a clearing with what it is handed.
+    // Start: a clearing with what it is handed. The state is settled first: after the clearing, a delay's start took 112 bytes of stack in place of 96.
     fn new(handed: Self::Start, mem: &mut [f64]) -> Cleared<Self>
         ensures { Starts (effect_of Self.page) handed mem.old result.state mem.new (outcome_reply result.outcome) }
     {
