@@ -183,6 +183,7 @@ pub record Ready (t : Tick) (s : Chorus) (m : List Float) (n : ℕ) : Type 0 whe
   pub curves : TickFits t
   pub short : n ≤ 6154
   pub inside : s.write_pos < n
+  pub some : 2 ≤ n
   pub room : n ≤ length m
   pub part : length (take n m) ≡ n
   pub depth : in_range (depth t) plus_zero (float_of 1) ≡ true
@@ -202,6 +203,7 @@ ready {t} {s} {m} {n} e k =
       curves = curves;
       short = omega (arith, e, (length-fits rate f.rate).1);
       inside = omega (arith, e, f.inside);
+      some = omega (arith, e, (length-fits rate f.rate).0);
       room = room;
       part = part_length 0 n m n refl (omega arith);
       depth = in-range (control-in t.depth half curves.depth refl);

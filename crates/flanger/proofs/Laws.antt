@@ -98,6 +98,7 @@ pub record Ready (t : Tick) (s : Flanger) (m : List Float) (n : ℕ) : Type 0 wh
   pub rate : rate_fits s.sample_rate ≡ true
   pub short : n ≤ 1930
   pub inside : s.write_pos < n
+  pub some : 2 ≤ n
   pub room : n + n ≤ length m
   pub left_part : length (take n m) ≡ n
   pub right_part : length (take (n + n - n) (drop n m)) ≡ n
@@ -119,6 +120,7 @@ ready {t} {s} {m} {n} e k =
       rate = f.rate;
       short = omega (arith, (length_fits s.sample_rate f.rate).1);
       inside = omega (arith, f.inside);
+      some = omega (arith, (length_fits s.sample_rate f.rate).0);
       room = room;
       left_part = part_length 0 n m n refl (omega arith);
       right_part = part_length n (n + n - n) m n (omega arith) room;
