@@ -124,6 +124,7 @@ distance_in L rate depth sine =
     (float_of 1)
     (float_of (L - 1))
 
+-- in the line at that rate
 abbrev pub distance : Float → Float → Float → Float
 distance rate depth sine = distance_in (line_length rate) rate depth sine
 

@@ -278,8 +278,8 @@ impl DelayLine {
         )
     }
 
-    // An accepted tick with its ports' numbers and its delay in samples, of the line by itself, which is read before the store. Where the glide goes to are
-    // the samples held to the line.
+    // An accepted tick with its ports' numbers and its delay in samples, of the line by itself, which is read before the store. The glide goes to the samples,
+    // held to the line.
     fn advance(
         self,
         places: &mut [f64],
