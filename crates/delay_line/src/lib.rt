@@ -12,7 +12,7 @@ ghost use Rattle.common.specs.Signal.{sanitized, blended};
 ghost use Rattle.effect.specs.Run.{tick, retune, reset, ask, memory_number, number_in};
 ghost use Rattle.effect.specs.Contract.{Does, Starts};
 ghost use Rattle.effect.specs.Needed.{places_if_accepted};
-ghost use Rattle.delay_line.specs.DelayLine.{delay_line, handing, start_settings, settings, retuning, tick_of, held_maximum, maximum_fits, line_length, cleared, glide_fits, state_fits, samples_of, glided, reads_at, delayed_by, next_state};
+ghost use Rattle.delay_line.specs.DelayLine.{delay_line, handing, start_settings, settings, retuning, tick_of, held_maximum, maximum_fits, line_length, state_of, cleared, glide_fits, state_fits, samples_of, glided, reads_at, delayed_by, next_state};
 
 use common::Line;
 use effect::{Cleared, Ticked};
@@ -278,6 +278,18 @@ impl DelayLine {
         )
     }
 
+    // The state after a tick that moved to the position and read at the distance.
+    fn next(self, write_pos: u64, distance: f64) -> DelayLine
+        ensures { result ≡ state_of write_pos distance true (settings self) }
+    {
+        DelayLine {
+            write_pos,
+            smoothed_delay: distance,
+            delay_primed: true,
+            ..self
+        }
+    }
+
     // An accepted tick with its ports' numbers and its delay in samples, of the line by itself, which is read before the store. The glide goes to the samples,
     // held to the line.
     fn advance(
@@ -309,16 +321,11 @@ impl DelayLine {
         let back = float64::clamp(feedback, 0.0, 0.99);
         let wet = float64::clamp(mix, 0.0, 1.0);
         let delayed = line.read(distance);
-        let state = DelayLine {
-            write_pos: line.next_place(),
-            smoothed_delay: distance,
-            delay_primed: true,
-            ..self
-        };
+        let write_pos = line.next_place();
         places[w] = input + delayed * back;
         let out = common::blend(input, delayed, wet);
         Ticked {
-            state,
+            state: self.next(write_pos, distance),
             answer: Answer::One(out),
         }
     }

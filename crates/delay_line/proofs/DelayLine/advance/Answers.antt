@@ -4,7 +4,7 @@ use Rattle.std.proofs.Common.{◌≡◌, true, [], ◌∷◌, set, ◌∙◌}
 use lib.Ieee.{binary64, add, mul, of_bits, of_int, round}
 use Rattle.port.specs.Answer.{played}
 use Rattle.common.specs.Signal.{blended}
-use Rattle.delay_line.specs.DelayLine.{reads_at, delayed_by}
+use Rattle.delay_line.specs.DelayLine.{settings, state_of, reads_at, delayed_by}
 use Rattle.delay_line.proofs.Laws.{fits-parts, ready, in-line, reads-is, delayed-is}
 use Rattle.delay_line.proofs.DelayLine.advance.Goals as goal
 
@@ -20,26 +20,17 @@ read-delayed-requires c =
     (reads-is a.self a.samples a.places.now r.places_value c.hold-target.ensures c.glided-distance.ensures)
 
 -- the distance is the page's, and so is what is read there
-distance-is : (c : goal.After-blend-out) → c.glided-distance.result ≡ reads_at c.args.self c.args.samples
+distance-is : (c : goal.After-next) → c.glided-distance.result ≡ reads_at c.args.self c.args.samples
 distance-is c =
     reads-is c.args.self c.args.samples c.args.places.now c.requires.places_value c.hold-target.ensures c.glided-distance.ensures
 
-delayed : (c : goal.After-blend-out) → c.read-delayed.result ≡ delayed_by c.args.self c.args.samples c.args.places.now
+delayed : (c : goal.After-next) → c.read-delayed.result ≡ delayed_by c.args.self c.args.samples c.args.places.now
 delayed c =
     delayed-is c.args.self c.args.samples c.args.places.now c.requires.places_value (distance-is c) c.read-delayed.ensures
 
 pub returns-clause-state_value : goal.returns-clause-state_value
 returns-clause-state_value c =
-    let s = c.args.self in
-    λ i. record {
-      write_pos = c.next_place.ensures i;
-      sample_rate = s.sample_rate;
-      max_delay_secs = s.max_delay_secs;
-      linear_time = s.linear_time;
-      smoothed_delay = distance-is c i;
-      delay_smooth_coef = s.delay_smooth_coef;
-      delay_primed = true;
-    }
+    c.next.ensures ∙ (λ i. state_of (c.next_place-write_pos.ensures i) (distance-is c i) true (settings c.args.self))
 
 pub returns-clause-answer_value : goal.returns-clause-answer_value
 unfolding of_bits of_int round
