@@ -4,15 +4,16 @@ use Prim.Native.Nat.{ℕ, ◌+◌, ◌-◌, ◌*◌, ◌≤◌, ◌<◌}
 use native.Mathlib.Omega.{arith}
 use mathlib.Core.Path.{◌≡◌, refl, sym, ap, ◌∙◌}
 use mathlib.Core.Bool.{Bool, true, false, ◌&&◌, ◌||◌, cond}
-use mathlib.Core.List.{List, [], ◌∷◌}
+use mathlib.Core.List.{List, [], ◌∷◌, ◌++◌}
 use lib.IntN.{negsuc}
 use lib.Dec.{ltb}
-use lib.ListN.{length, take, set}
+use lib.ListN.{length, take, drop, set}
 use lib.Ieee.{Float, fin, binary64, add, sub, mul, div, neg, is_nan, le, lt, of_int, round}
 use lib.Ieee as Ieee
 use borrow.Author.Tests.{ltb-true, lt-ltb}
 use Rattle.std.specs.List.{list_all}
 use Rattle.std.proofs.Math.Bool.{and-true}
+use Rattle.std.proofs.lemmas.List.{take-append-drop}
 use Rattle.float64.specs.Number.{plus_zero, float_of, fraction, half, is_number, in_range, rate_fits, phase_fits, frequency_fits, sine_fits, clamp_of}
 use Rattle.float64.proofs.Tests.{both}
 use Rattle.float64.proofs.Interval.{In, point, add-in, mul_in, div-in, scale_in}
@@ -25,17 +26,18 @@ use Rattle.port.specs.Answer.{Reply, played}
 use Rattle.port.proofs.Laws.{nan_is}
 use Rattle.common.specs.Signal.{sanitized, cause_number}
 use Rattle.common.specs.Line.{next_place, line_at, read_at}
-use Rattle.common.proofs.Slices.{part_length}
-use Rattle.common.proofs.Sweep.{neither, no-cause, control-in, part-read, size-tests}
+use Rattle.common.proofs.Slices.{part_length, front-set}
+use Rattle.common.proofs.Ring.{front-line}
+use Rattle.common.proofs.Sweep.{neither, no-cause, control-in, size-tests}
 use Rattle.effect.specs.Effect.{laid}
 use Rattle.effect.specs.Lines.{in_each}
 use Rattle.effect.specs.Run.{tick, reset, number_in}
 use Rattle.effect.specs.Contract.{Does}
-use Rattle.effect.proofs.Table.{accepted, tick-accepted}
-use Rattle.effect.proofs.Contract.{accepts}
+use Rattle.effect.proofs.Table.{Accepted, accepted, tick-accepted, enough, memory-enough}
+use Rattle.effect.proofs.Contract.{accepts, tick-number}
 use Rattle.effect.proofs.Rows.{tick_row}
 use Rattle.chorus.specs.declared.Chorus.{Chorus}
-use Rattle.chorus.specs.Chorus.{Tick, tick_of, chorus, line_length, Phases, phases_of, phase_at, factor, stepped, next_phases, phases_fit, state_fits, tick_number, input, depth, mix, distance, voice, mixed, next, writes}
+use Rattle.chorus.specs.Chorus.{Tick, tick_of, chorus, line_length, Phases, phases_of, phase_at, factor, stepped, next_phases, phases_fit, state_fits, tick_number, input, depth, mix, distance_in, distance, voice, mixed, next, writes}
 use Rattle.chorus.specs.Chorus as page
 
 -- ---- the line's length
@@ -169,57 +171,50 @@ module _ (rate depth sine : Float) (h : rate_fits rate ≡ true) (d : In binary6
       add-in plus_zero (float_of 6144) tt base (mul_in plus_zero (float_of 4800) tt tt tt turn swing)
 
   -- after the clamp both places that are read lie in the line
+  pub distance-held : (L : ℕ) → 2 ≤ L → L ≤ 16777217 → In binary64 (float_of 1) (float_of (L - 1)) (distance_in L rate depth sine)
+  unfolding distance_in
+  distance-held L some short = clamp-whole-in (L - 1) (omega arith) (swept rate depth sine) (omega arith) (in-number swept-in)
+
   pub distance-in : In binary64 (float_of 1) (float_of (line_length rate - 1)) (distance rate depth sine)
-  unfolding distance
-  distance-in =
-      let l = length-fits rate h in
-      clamp-whole-in (line_length rate - 1) (omega arith) (swept rate depth sine) (omega arith) (in-number swept-in)
+  distance-in = let l = length-fits rate h in distance-held (line_length rate) (omega (arith, l.0)) (omega (arith, l.1))
 
--- ---- accepted ticks
+-- ---- an accepted tick of the line by itself: m is the line's places, no more
 
--- n is the length of the line: the state passes its test, the memory has the places, and depth and curve numbers are in range
-pub record Ready (t : Tick) (s : Chorus) (m : List Float) (n : ℕ) : Type 0 where
-  pub state : Fits s
+-- the state and the line are what a read and a store ask for, and a voice's numbers are in range
+pub record Ready (t : Tick) (s : Chorus) (m : List Float) : Type 0 where
+  pub rate : rate_fits s.sample_rate ≡ true
   pub curves : TickFits t
-  pub short : n ≤ 6154
-  pub inside : s.write_pos < n
-  pub room : n ≤ length m
-  pub part : length (take n m) ≡ n
+  pub inside : s.write_pos < length m
+  pub some : 2 ≤ length m
+  pub short : length m ≤ 16777217
   pub depth : in_range (depth t) plus_zero (float_of 1) ≡ true
 
-pub ready : {t : Tick} {s : Chorus} {m : List Float} {n : ℕ} → n ≡ line_length s.sample_rate → number_in chorus (tick t) (length m) s ≡ 0
-    → Ready t s m n
+pub ready : {t : Tick} {s : Chorus} {m : List Float} → length m ≡ line_length s.sample_rate → number_in chorus (tick t) (length m) s ≡ 0 → Ready t s m
 unfolding is_number Ieee.fits is_nan round
-ready {t} {s} {m} {n} e k =
+ready {t} {s} {m} e k =
     let rate = s.sample_rate in
     let taken = accepted chorus (length m) (tick t) s k in
-    let row = tick-accepted chorus (length m) t rate taken.number in
     let f = fits-parts s taken.state_fits in
-    let curves = tick-fits t row.number in
-    let room : n ≤ length m = omega (arith, e, row.enough) in
+    let curves = tick-fits t (tick-accepted chorus (length m) t rate taken.number).number in
+    let long = length-fits rate f.rate in
     record {
-      state = f;
+      rate = f.rate;
       curves = curves;
-      short = omega (arith, e, (length-fits rate f.rate).1);
       inside = omega (arith, e, f.inside);
-      room = room;
-      part = part_length 0 n m n refl (omega arith);
+      some = omega (arith, e, long.0);
+      short = omega (arith, e, long.1);
       depth = in-range (control-in t.depth half curves.depth refl);
     }
 
--- ---- an accepted tick from its steps
-
-module _ (t : Tick) (s : Chorus) (m : List Float) {n : ℕ} (e : n ≡ line_length s.sample_rate) where
-  -- a read in the part of the memory that is the line is what a voice reads
-  pub voice-is : {d y : Float} (sine : Float) → n ≤ length m → s.write_pos < n → d ≡ depth t
-      → y ≡ read_at (line_at 0 (length (take n m)) s.write_pos (take n m)) (distance s.sample_rate d sine)
+-- from its steps
+module _ (t : Tick) (s : Chorus) (m : List Float) (e : length m ≡ line_length s.sample_rate) where
+  pub voice-is : {d y : Float} (sine : Float) → d ≡ depth t
+      → y ≡ read_at (line_at 0 (length m) s.write_pos m) (distance_in (length m) s.sample_rate d sine)
       → y ≡ voice 0 sine t s m
   unfolding voice
-  voice-is sine l h g r =
-      let L = line_length s.sample_rate in
-      r ∙ part-read n 0 L s.write_pos m _ e (omega arith) (omega arith) ∙ (λ j. read_at (line_at 0 L s.write_pos m) (distance s.sample_rate (g j) sine))
+  voice-is sine g r = r ∙ (λ j. read_at (line_at 0 (e j) s.write_pos m) (distance_in (e j) s.sample_rate (g j) sine))
 
-  pub next-is : {r : Chorus} → r.write_pos ≡ next_place n s.write_pos → phases_of r ≡ next_phases t.frequency s.sample_rate (phases_of s)
+  pub next-is : {r : Chorus} → r.write_pos ≡ next_place (length m) s.write_pos → phases_of r ≡ next_phases t.frequency s.sample_rate (phases_of s)
       → r.sample_rate ≡ s.sample_rate
       → r ≡ next t s
   unfolding next
@@ -239,6 +234,40 @@ module _ (t : Tick) (s : Chorus) (m : List Float) {n : ℕ} (e : n ≡ line_leng
       → y ≡ played (page.samples t s m)
   unfolding page.samples_from
   played-is x b d0 d1 d2 y = y ∙ (λ i. played (mixed (x i) (b i) (d0 i) (d1 i) (d2 i)))
+
+-- ---- an accepted tick: what it does in the line, which is the first n places of the memory, it does in the memory
+
+module _ (t : Tick) (s : Chorus) (m : List Float) {n : ℕ} (e : n ≡ line_length s.sample_rate) (passed : 0 ≡ number_in chorus reset (length m) s) where
+  abbrev unit : Accepted chorus (length m) reset s
+  unit = accepted chorus (length m) reset s (sym passed)
+
+  room : n ≤ length m
+  room = omega (arith, e, enough (line_length s.sample_rate) (length m) unit.number)
+
+  pub line-long : length (take n m) ≡ line_length s.sample_rate
+  line-long = part_length 0 n m n refl (omega (arith, room)) ∙ e
+
+  -- past causes 4 and 3 there, the line passes them too
+  pub line-row : {k : ℕ} → k ≡ tick_number t → k ≡ number_in chorus (tick t) (length (take n m)) s
+  line-row g = tick-number chorus (length (take n m)) s t unit.state_fits (memory-enough (omega (arith, line-long))) g
+
+  pub line-does : {s' : Chorus} {l : List Float} {a : Reply} → 0 ≡ tick_number t → Does chorus (tick t) s (take n m) s' l a
+      → Does chorus (tick t) s m s' (l ++ drop n m) a
+  unfolding next writes page.samples_from voice
+  line-does g does =
+      let k = sym (line-row g) in
+      let rate = s.sample_rate in
+      let L = line_length rate in
+      let w = s.write_pos in
+      let inside = (fits-parts s unit.state_fits).inside in
+      let heard = front-line 0 L w m n (omega (arith, e)) inside in
+      let far = distance rate (depth t) in
+      accepts chorus (tick t) s m (sym (tick_row chorus t s m passed g))
+      (rw k at does.state)
+      (ap (λ (q : List Float). q ++ drop n m) (rw k at does.memory)
+      ∙ front-set (take n m) (drop n m) (0 * L + w) (input t) (omega (arith, line-long)) (take-append-drop n m))
+      ((rw k at does.answer)
+      ∙ (λ i. played (mixed (input t) (mix t) (read_at (heard i) (far t.sine0)) (read_at (heard i) (far t.sine1)) (read_at (heard i) (far t.sine2)))))
 
 -- ---- ports: a tick is the one with all ports set to the values that it takes from them
 

@@ -115,14 +115,18 @@ abbrev pub mix : Tick → Float
 mix t = clamp_of (value_or t.mix half) plus_zero (float_of 1)
 
 -- 7 × rate / 1000 + (sine × 0.5 + 0.5) × (depth × 25 × rate / 1000), clamped to 1 to L − 1
-unfoldable pub distance : Float → Float → Float → Float
-distance rate depth sine =
+unfoldable pub distance_in : ℕ → Float → Float → Float → Float
+distance_in L rate depth sine =
     clamp_of
     (add binary64
     (div binary64 (mul binary64 (float_of 7) rate) (float_of 1000))
     (mul binary64 (add binary64 (mul binary64 sine half) half) (div binary64 (mul binary64 (mul binary64 depth (float_of 25)) rate) (float_of 1000))))
     (float_of 1)
-    (float_of (line_length rate - 1))
+    (float_of (L - 1))
+
+-- in the line at that rate
+abbrev pub distance : Float → Float → Float → Float
+distance rate depth sine = distance_in (line_length rate) rate depth sine
 
 -- what a voice with this sine reads in a line that begins at place o, before the store
 unfoldable pub voice : ℕ → Float → Tick → Chorus → List Float → Float

@@ -1,16 +1,16 @@
 // The chorus: one line in lent memory, read by three voices. The state goes in and out by value.
 #![tactic(auto)]
 
-ghost use Rattle.std.specs.Prelude.{◌≡◌, true, ◌<◌, length, Float, refl};
+ghost use Rattle.std.specs.Prelude.{◌≡◌, true, length, Float, refl};
 ghost use Rattle.std.specs.Bool.{then_some};
 ghost use Rattle.float64.specs.Number.{float_of, in_range, rate_fits, sine_fits};
 ghost use Rattle.port.specs.declared.Port.TheVariants.{Set};
 ghost use Rattle.port.specs.Answer.{answer_reply, played};
-ghost use Rattle.common.specs.Line.{line_at, read_at, next_place};
+ghost use Rattle.common.specs.Line.{line_at, read_at};
 ghost use Rattle.effect.specs.Run.{tick, number_in};
 ghost use Rattle.effect.specs.Contract.{Does};
 ghost use Rattle.effect.specs.Needed.{places_if_accepted};
-ghost use Rattle.chorus.specs.Chorus.{Tick, page, chorus, tick_of, line_length, phases_of, next_phases, cleared, fresh, distance, mixed};
+ghost use Rattle.chorus.specs.Chorus.{Tick, page, chorus, tick_of, line_length, phases_of, next_phases, cleared, fresh, distance_in, mixed};
 
 use common::Line;
 use effect::{InMemory, InOnePart, Ticked, Unit};
@@ -118,46 +118,37 @@ impl Chorus {
         Chorus::cleared([0.0, 0.33, 0.67], rate)
     }
 
-    // 7 x rate / 1000 + (sine x 0.5 + 0.5) x (depth x 25 x rate / 1000), clamped to 1 to n - 1, n the length of the line.
-    fn distance(n: usize, rate: f64, depth: f64, sine: f64) -> f64
-        requires rate_in_range { rate_fits rate ≡ true }
-        requires n_value { n ≡ line_length rate }
-        ensures { result ≡ distance rate depth sine }
+    // 7 x rate / 1000 + (sine x 0.5 + 0.5) x (depth x 25 x rate / 1000), held to the line.
+    fn distance(line: Line, rate: f64, depth: f64, sine: f64) -> f64
+        ensures { result ≡ distance_in (length line.entry.places.now) rate depth sine }
     {
         let base = Chorus::BASE_DELAY_MS * rate / 1000.0;
         let swing = depth * Chorus::MAX_MOD_DELAY_MS * rate / 1000.0;
-        common::held_to_line(base + (sine * 0.5 + 0.5) * swing, (n - 1) as u32)
+        line.hold(base + (sine * 0.5 + 0.5) * swing)
     }
 
-    // What a voice with this sine reads in the line, at its own distance.
+    // What a voice with this sine reads in the line, at its own distance, which is a number.
     fn voice(line: Line, rate: f64, depth: f64, sine: f64) -> f64
         requires rate_in_range { rate_fits rate ≡ true }
-        requires places_value { length line.places.now ≡ line_length rate }
         requires depth_in_range { in_range depth (float_of 0) (float_of 1) ≡ true }
         requires sine_in_range { sine_fits sine ≡ true }
-        ensures { result ≡ read_at (line_at 0 (length line.entry.places.now) line.entry.write_pos line.entry.places.now) (distance rate depth sine) }
+        ensures { result ≡ read_at (line_at 0 (length line.entry.places.now) line.entry.write_pos line.entry.places.now)
+            (distance_in (length line.entry.places.now) rate depth sine) }
     {
-        line.read(Chorus::distance(line.places.len(), rate, depth, sine))
+        line.read(Chorus::distance(line, rate, depth, sine))
     }
 
-    // The state after a tick: each voice's phase moves on by its own factor of the frequency.
-    fn next(self, n: u64, frequency: f64) -> Chorus
-        requires { self.write_pos < n }
-        ensures write_pos_value { result.write_pos ≡ next_place n self.write_pos }
-        ensures phases_value { phases_of result ≡ next_phases frequency self.sample_rate (phases_of self) }
-        ensures sample_rate_value { result.sample_rate ≡ self.sample_rate }
+    // The phases after a tick: each voice's moves on by its own factor of the frequency.
+    fn next_phases(self, frequency: f64) -> [f64; 3]
+        ensures { result ≡ next_phases frequency self.sample_rate (phases_of self) }
     {
         let phases = self.lfo_phases;
         let rate = self.sample_rate;
-        Chorus {
-            write_pos: common::next_place(n, self.write_pos),
-            lfo_phases: [
-                common::advance_phase(phases[0], frequency * 0.9 / rate),
-                common::advance_phase(phases[1], frequency * 1.0 / rate),
-                common::advance_phase(phases[2], frequency * 1.1 / rate),
-            ],
-            sample_rate: rate,
-        }
+        [
+            common::advance_phase(phases[0], frequency * 0.9 / rate),
+            common::advance_phase(phases[1], frequency * 1.0 / rate),
+            common::advance_phase(phases[2], frequency * 1.1 / rate),
+        ]
     }
 
     // Mono, left and right of the three voices, each mixed with the audio.
@@ -174,37 +165,41 @@ impl Chorus {
         )
     }
 
-    // An accepted tick with all its ports set; n is the length of the line. All three voices read it before the one store.
+    // An accepted tick with all its ports set, of the line by itself. All three voices read it before the one store.
     #[tactic(auto, using(crate::proofs::Laws::ready))]
     fn advance(
         self,
-        n: u64,
-        mem: &mut [f64],
+        places: &mut [f64],
         audio: f64,
         depth: f64,
         mix: f64,
         frequency: f64,
         sines: [f64; 3],
     ) -> Ticked<Chorus>
-        requires n_value { n ≡ line_length self.sample_rate }
-        requires tick_accepted { number_in chorus (tick (tick_of (Set audio) (Set depth) (Set mix) frequency sines)) (length mem.old) self ≡ 0 }
-        ensures { Does chorus (tick (tick_of (Set audio) (Set depth) (Set mix) frequency sines)) self mem.old result.state
-            mem.new (answer_reply result.answer) }
+        requires places_value { length places.old ≡ line_length self.sample_rate }
+        requires tick_accepted { number_in chorus (tick (tick_of (Set audio) (Set depth) (Set mix) frequency sines)) (length places.old) self ≡ 0 }
+        ensures { Does chorus (tick (tick_of (Set audio) (Set depth) (Set mix) frequency sines)) self places.old result.state
+            places.new (answer_reply result.answer) }
     {
-        let state = self.next(n, frequency);
         let rate = self.sample_rate;
+        let lfo_phases = self.next_phases(frequency);
         let input = common::sanitize_audio(audio);
         let depth = float64::clamp(depth, 0.0, 1.0);
         let mix = float64::clamp(mix, 0.0, 1.0);
         let w = self.write_pos as usize;
         let line = Line {
-            places: &mem[..n as usize],
+            places: &places[..],
             write_pos: w,
         };
         let d0 = Chorus::voice(line, rate, depth, sines[0]);
         let d1 = Chorus::voice(line, rate, depth, sines[1]);
         let d2 = Chorus::voice(line, rate, depth, sines[2]);
-        mem[w] = input;
+        let state = Chorus {
+            write_pos: line.next_place(),
+            lfo_phases,
+            sample_rate: rate,
+        };
+        places[w] = input;
         Ticked {
             state,
             answer: Chorus::mixed(input, mix, d0, d1, d2),
@@ -240,6 +235,6 @@ impl Chorus {
         if let Err(cause) = causes {
             return Ticked::refused(self, cause);
         }
-        self.advance(n, mem, audio, depth, mix, frequency, sines)
+        self.advance(&mut mem[..n as usize], audio, depth, mix, frequency, sines)
     }
 }

@@ -123,6 +123,10 @@ module _ (o L w : ℕ) (m : List Float) where
   pub part-line : w < L → line_at 0 L w (take L (drop o m)) ≡ line_at o L w m
   part-line h = λ i d. part_at d h i
 
+  -- and in the first k places, where the line lies in these
+  pub front-line : (k : ℕ) → o + L ≤ k → w < L → line_at o L w (take k m) ≡ line_at o L w m
+  front-line k h l = λ i d. get_or-take k m (o + place L w d) nan (omega (arith, place-lt L w d l)) i
+
 module _ (o L w : ℕ) (m : List Float) where
   -- a store at the position and an advance put the sample in front and drop the last
   pub push : (x : Float) → w < L → o + L ≤ length m → newest_first o L (next_place L w) (set m (o + w) x) ≡ x ∷ take (L - 1) (newest_first o L w m)

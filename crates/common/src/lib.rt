@@ -3,7 +3,7 @@
 
 ghost use Rattle.std.specs.Prelude.{◌≡◌, true, ◌&&◌, ◌-◌, ◌≤◌, ◌<◌, length};
 ghost use Rattle.std.specs.Bool.{then_some};
-ghost use Rattle.float64.specs.Number.{float_of, in_range, rate_fits, at_least, at_most};
+ghost use Rattle.float64.specs.Number.{float_of, in_range, rate_fits, clamp_of, at_least, at_most};
 ghost use Rattle.port.specs.Answer.{number_of};
 ghost use Rattle.common.specs.Signal.{sanitized, blended, advanced, cause_number};
 ghost use Rattle.common.specs.Line.{swept_length, sweep_fits, zeros, place, next_place, line_at, read_at, all_zero};
@@ -137,6 +137,7 @@ pub struct Line<'a> {
     pub places: &'a [f64],
     pub write_pos: usize,
     ghost inside: { write_pos < length places.now },
+    ghost some: { 2 ≤ length places.now },
     ghost short: { length places.now ≤ 16777217 },
 }
 
@@ -154,6 +155,20 @@ impl<'a> Line<'a> {
         let p = place_back(n, self.write_pos, d);
         let q = place_before(n, p);
         blend(line[p], line[q], f)
+    }
+
+    // A distance held to this line: 1 to its last place.
+    pub fn hold(self, distance: f64) -> f64
+        ensures { result ≡ clamp_of distance (float_of 1) (float_of (length self.entry.places.now - 1)) }
+    {
+        held_to_line(distance, (self.places.len() - 1) as u32)
+    }
+
+    // The position after this one.
+    pub fn next_place(self) -> u64
+        ensures { result ≡ next_place (length self.entry.places.now) self.entry.write_pos }
+    {
+        next_place(self.places.len() as u64, self.write_pos as u64)
     }
 }
 

@@ -4,15 +4,16 @@ use Prim.Native.Nat.{ℕ, ◌-◌, ◌^◌, ◌≤◌, ◌<◌}
 use native.Mathlib.Omega.{arith}
 use mathlib.Core.Path.{◌≡◌, refl, sym, ap, ◌∙◌}
 use mathlib.Core.Bool.{Bool, true, false, not, ◌&&◌, ◌||◌, cond}
-use mathlib.Core.List.{List, [], ◌∷◌}
+use mathlib.Core.List.{List, [], ◌∷◌, ◌++◌}
 use lib.Dec.{T, ltb}
-use lib.ListN.{length, take, set}
+use lib.ListN.{length, take, drop, set}
 use lib.Ieee.{Float, binary64, add, mul, le, lt, of_int, round, is_nan}
 use lib.Ieee as Ieee
 use lib.Ieee.Positive.{positive, between}
 use borrow.Author.Tests.{ltb-true, lt-ltb}
 use Rattle.float64.specs.Number.{plus_zero, float_of, fraction, half, is_number, is_finite, in_range, rate_fits, coefficient_fits, clamp_of, Small}
 use Rattle.std.proofs.lemmas.Bool.{not-false, cond_both, and_parts, or_parts}
+use Rattle.std.proofs.lemmas.List.{take-append-drop}
 use Rattle.float64.proofs.Tests.{clash}
 use Rattle.float64.proofs.Interval.{In, mul_in}
 use Rattle.float64.proofs.Ranges.{rate-in, range-in, in-range, in-number, finite_number}
@@ -27,11 +28,12 @@ use Rattle.port.specs.Answer.{Reply, played}
 use Rattle.port.proofs.Laws.{nan_is}
 use Rattle.common.specs.Signal.{sanitized, blended, cause_number}
 use Rattle.common.specs.Line.{line_at, read_at}
-use Rattle.common.proofs.Slices.{part_length}
-use Rattle.common.proofs.Sweep.{size_is, no-cause, value-number, part-read}
+use Rattle.common.proofs.Slices.{part_length, front-set}
+use Rattle.common.proofs.Ring.{front-line}
+use Rattle.common.proofs.Sweep.{size_is, no-cause, value-number}
 use Rattle.effect.specs.Effect.{laid}
-use Rattle.effect.specs.Run.{tick, first, memory_number, number_in}
-use Rattle.effect.proofs.Table.{accepted, tick-accepted}
+use Rattle.effect.specs.Run.{tick, reset, first, memory_number, number_in}
+use Rattle.effect.proofs.Table.{Accepted, accepted, tick-accepted, enough}
 use Rattle.delay_line.specs.declared.DelayLine.{DelayLine}
 use Rattle.delay_line.specs.declared.Settings.{Settings}
 use Rattle.delay_line.specs.DelayLine.{Tick, delay_line, tick_of, settings, places, held_maximum, settings_number, maximum_fits, line_length, glide_fits, state_fits, tick_number, delay_ms, samples_of, glided, reads_at, distance, delayed_by, delayed, next_state, next, writes}
@@ -221,51 +223,73 @@ pub distance-in : (t : Tick) (s : DelayLine) → Fits s → TickFits t s.linear_
 unfolding distance
 distance-in t s f k = reads_in s f (samples_of s.sample_rate (delay_ms t s)) (samples-number t s f k)
 
--- ---- an accepted tick from its steps
+-- ---- an accepted tick of the line by itself: m is the line's places, no more
 
--- n is the length of the line, and the memory has the places
-pub record Ready (s : DelayLine) (m : List Float) (n : ℕ) : Type 0 where
-  pub long : 9 ≤ n
-  pub short : n ≤ 11520001
-  pub inside : s.write_pos < n
-  pub part : length (take n m) ≡ n
+-- the state and the line are what a read and a store ask for
+pub record Ready (s : DelayLine) (m : List Float) : Type 0 where
+  pub inside : s.write_pos < length m
+  pub some : 2 ≤ length m
+  pub short : length m ≤ 16777217
 
-pub ready : {s : DelayLine} {m : List Float} {n : ℕ} → n ≡ line_length s.sample_rate s.max_delay_secs → state_fits s ≡ true → n ≤ length m → Ready s m n
-ready {s} {m} {n} e k room =
+pub ready : {s : DelayLine} {m : List Float} → length m ≡ size s → state_fits s ≡ true → Ready s m
+ready {s} e k =
     let f = fits-parts s k in
     let l = size-fits s f in
-    record { long = omega (arith, l.0); short = omega (arith, l.1); inside = omega (arith, f.inside); part = part_length 0 n m n refl (omega arith) }
+    record { inside = omega (arith, e, f.inside); some = omega (arith, e, l.0); short = omega (arith, e, l.1) }
 
-module _ (s : DelayLine) (x : Float) {n : ℕ} (e : n ≡ size s) where
-  pub reads-is : {target d : Float} → target ≡ clamp_of x (float_of 1) (float_of (n - 1))
+-- from its steps
+module _ (s : DelayLine) (x : Float) (m : List Float) (e : length m ≡ size s) where
+  pub reads-is : {target d : Float} → target ≡ clamp_of x (float_of 1) (float_of (length m - 1))
       → d ≡ glided s.delay_primed s.smoothed_delay s.delay_smooth_coef target
       → d ≡ reads_at s x
   unfolding reads_at
   reads-is b c =
       c ∙ (λ i. glided s.delay_primed s.smoothed_delay s.delay_smooth_coef ((b ∙ (λ j. clamp_of x (float_of 1) (float_of (e j - 1)))) i))
 
-  -- a read in the line's part of the memory is what the tick reads
-  pub delayed-is : (m : List Float) {d y : Float} → n ≤ length m → s.write_pos < n → d ≡ reads_at s x
-      → y ≡ read_at (line_at 0 (length (take n m)) s.write_pos (take n m)) d
-      → y ≡ delayed_by s x m
+  pub delayed-is : {d y : Float} → d ≡ reads_at s x → y ≡ read_at (line_at 0 (length m) s.write_pos m) d → y ≡ delayed_by s x m
   unfolding delayed_by
-  delayed-is m {d} l h a r =
-      r ∙ part-read n 0 n s.write_pos m d refl (omega (arith, l)) h ∙ (λ i. read_at (line_at 0 (e i) s.write_pos m) (a i))
+  delayed-is a r = r ∙ (λ i. read_at (line_at 0 (e i) s.write_pos m) (a i))
 
--- the tick as its page has it, from the numbers that it takes from its ports and its delay in samples
-module _ (t : Tick) (s : DelayLine) (m : List Float) {a c f b x : Float} (audio : a ≡ value_or t.audio plus_zero) (time : c ≡ value_or t.time half) (back : f ≡ value_or t.feedback plus_zero) (wet : b ≡ value_or t.mix half) (read : x ≡ samples_of s.sample_rate (cond s.linear_time (mul binary64 (clamp_of c plus_zero s.max_delay_secs) (float_of 1000)) t.milliseconds)) where
-  samples-are : x ≡ samples_of s.sample_rate (delay_ms t s)
-  unfolding delay_ms
-  samples-are = read ∙ (λ i. samples_of s.sample_rate (cond s.linear_time (mul binary64 (clamp_of (time i) plus_zero s.max_delay_secs) (float_of 1000)) t.milliseconds))
+-- ---- an accepted tick: what it does in the line, which is the first n places of the memory, it does in the memory. It is as its page has it, from the
+-- numbers that it takes from its ports and its delay in samples
 
-  pub next-is : {n : ℕ} {r : DelayLine} → n ≡ size s → r ≡ next_state n (reads_at s x) s → r ≡ next t s
-  unfolding next distance
-  next-is e g = g ∙ (λ i. next_state (e i) (reads_at s (samples-are i)) s)
+module _ (t : Tick) (s : DelayLine) (m : List Float) {n : ℕ} (e : n ≡ size s) (passed : 0 ≡ number_in delay_line reset (length m) s) where
+  abbrev unit : Accepted delay_line (length m) reset s
+  unit = accepted delay_line (length m) reset s (sym passed)
 
-  pub stored_is : {m' : List Float} → m' ≡ set m s.write_pos (add binary64 (sanitized a) (mul binary64 (delayed_by s x m) (clamp_of f plus_zero (fraction 99 100)))) → m' ≡ laid (writes t s m) m
-  unfolding writes delayed
-  stored_is g = g ∙ (λ i. set m s.write_pos (add binary64 (sanitized (audio i)) (mul binary64 (delayed_by s (samples-are i) m) (clamp_of (back i) plus_zero (fraction 99 100)))))
+  room : n ≤ length m
+  room = omega (arith, e, enough (size s) (length m) unit.number)
 
-  pub played-is : {q : Reply} → q ≡ played (blended (sanitized a) (delayed_by s x m) (clamp_of b plus_zero (float_of 1)) ∷ []) → q ≡ played (page.samples t s m)
-  unfolding page.samples delayed
-  played-is g = g ∙ (λ i. played (blended (sanitized (audio i)) (delayed_by s (samples-are i) m) (clamp_of (wet i) plus_zero (float_of 1)) ∷ []))
+  pub line-long : length (take n m) ≡ size s
+  line-long = part_length 0 n m n refl (omega (arith, room)) ∙ e
+
+  heard : (x : Float) → delayed_by s x (take n m) ≡ delayed_by s x m
+  unfolding delayed_by
+  heard x =
+      let line = front-line 0 (size s) s.write_pos m n (omega (arith, e)) (fits-parts s unit.state_fits).inside in
+      λ i. read_at (line i) (reads_at s x)
+
+  module _ {a c f b x : Float} (audio : a ≡ value_or t.audio plus_zero) (time : c ≡ value_or t.time half) (back : f ≡ value_or t.feedback plus_zero) (wet : b ≡ value_or t.mix half) (read : x ≡ samples_of s.sample_rate (cond s.linear_time (mul binary64 (clamp_of c plus_zero s.max_delay_secs) (float_of 1000)) t.milliseconds)) where
+    samples-are : x ≡ samples_of s.sample_rate (delay_ms t s)
+    unfolding delay_ms
+    samples-are = read ∙ (λ i. samples_of s.sample_rate (cond s.linear_time (mul binary64 (clamp_of (time i) plus_zero s.max_delay_secs) (float_of 1000)) t.milliseconds))
+
+    delayed-here : delayed_by s x (take n m) ≡ delayed t s m
+    unfolding delayed
+    delayed-here = heard x ∙ (λ i. delayed_by s (samples-are i) m)
+
+    pub next-is : {r : DelayLine} → r ≡ next_state (length (take n m)) (reads_at s x) s → r ≡ next t s
+    unfolding next distance
+    next-is g = g ∙ (λ i. next_state (line-long i) (reads_at s (samples-are i)) s)
+
+    pub stored_is : {l : List Float} → l ≡ set (take n m) s.write_pos (add binary64 (sanitized a) (mul binary64 (delayed_by s x (take n m)) (clamp_of f plus_zero (fraction 99 100))))
+        → l ++ drop n m ≡ laid (writes t s m) m
+    unfolding writes
+    stored_is g =
+        ap (λ (q : List Float). q ++ drop n m) g
+        ∙ front-set (take n m) (drop n m) s.write_pos _ (omega (arith, line-long, (fits-parts s unit.state_fits).inside)) (take-append-drop n m)
+        ∙ (λ i. set m s.write_pos (add binary64 (sanitized (audio i)) (mul binary64 (delayed-here i) (clamp_of (back i) plus_zero (fraction 99 100)))))
+
+    pub played-is : {q : Reply} → q ≡ played (blended (sanitized a) (delayed_by s x (take n m)) (clamp_of b plus_zero (float_of 1)) ∷ []) → q ≡ played (page.samples t s m)
+    unfolding page.samples
+    played-is g = g ∙ (λ i. played (blended (sanitized (audio i)) (delayed-here i) (clamp_of (wet i) plus_zero (float_of 1)) ∷ []))

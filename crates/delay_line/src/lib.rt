@@ -1,7 +1,7 @@
 // The delay line: one line in lent memory, fed back into itself, read at a distance that glides to the delay time. The state goes in and out by value.
 #![tactic(auto)]
 
-ghost use Rattle.std.specs.Prelude.{◌≡◌, true, false, cond, ◌&&◌, ◌-◌, ◌≤◌, ◌<◌, [], ◌∷◌, length, set, refl};
+ghost use Rattle.std.specs.Prelude.{◌≡◌, true, false, cond, ◌&&◌, ◌≤◌, [], ◌∷◌, length, set, refl};
 ghost use Rattle.std.specs.Bool.{then_some};
 ghost use Rattle.std.specs.Float.{binary64};
 ghost use Rattle.std.specs.Float.Ieee.{add, mul};
@@ -12,7 +12,7 @@ ghost use Rattle.common.specs.Signal.{sanitized, blended};
 ghost use Rattle.effect.specs.Run.{tick, memory_number, number_in};
 ghost use Rattle.effect.specs.Contract.{Does, Starts};
 ghost use Rattle.effect.specs.Needed.{places_if_accepted};
-ghost use Rattle.delay_line.specs.DelayLine.{Tick, page, delay_line, handing, start_settings, retune_settings, settings, tick_of, held_maximum, maximum_fits, line_length, cleared, glide_fits, state_fits, samples_of, glided, reads_at, delayed_by, next_state};
+ghost use Rattle.delay_line.specs.DelayLine.{Tick, page, delay_line, handing, start_settings, retune_settings, settings, tick_of, held_maximum, maximum_fits, line_length, state_of, cleared, glide_fits, state_fits, samples_of, glided, reads_at, delayed_by, next_state};
 
 use common::Line;
 use effect::{Cleared, InMemory, InOnePart, Ticked, Unit};
@@ -255,15 +255,6 @@ impl DelayLine {
         float64::is_plus_zero(self.smoothed_delay)
     }
 
-    // Where the glide goes to: the samples held to 1 to n - 1.
-    fn target_delay(n: u64, samples: f64) -> f64
-        requires n_at_least { 2 ≤ n }
-        requires n_bound { n ≤ 11520001 }
-        ensures { result ≡ clamp_of samples (float_of 1) (float_of (n - 1)) }
-    {
-        common::held_to_line(samples, (n - 1) as u32)
-    }
-
     // The distance to read at: the target itself on the first tick after a clearing, later ones glide to it. It stays inside the line by itself, so that
     // no clamp follows.
     #[tactic(auto, unfolding(crate::specs::DelayLine::glided))]
@@ -309,56 +300,54 @@ impl DelayLine {
         )
     }
 
-    // The state after a tick that read at the distance.
-    fn next(self, n: u64, distance: f64) -> DelayLine
-        requires { self.write_pos < n }
-        ensures { result ≡ next_state n distance self }
+    // The state after a tick that moved to the position and read at the distance.
+    fn next(self, write_pos: u64, distance: f64) -> DelayLine
+        ensures { result ≡ state_of write_pos distance true (settings self) }
     {
         DelayLine {
-            write_pos: common::next_place(n, self.write_pos),
+            write_pos,
             smoothed_delay: distance,
             delay_primed: true,
             ..self
         }
     }
 
-    // An accepted tick with its ports' numbers and its delay in samples; n is the length of the line, which is read before the store.
-    #[tactic(auto, using(crate::proofs::Laws::ready))]
+    // An accepted tick with its ports' numbers and its delay in samples, of the line by itself, which is read before the store. The glide goes to the samples,
+    // held to the line.
     fn advance(
         self,
-        n: u64,
-        mem: &mut [f64],
+        places: &mut [f64],
         audio: f64,
         samples: f64,
         feedback: f64,
         mix: f64,
     ) -> Ticked<DelayLine>
-        requires n_value { n ≡ line_length self.sample_rate self.max_delay_secs }
+        requires places_value { length places.old ≡ line_length self.sample_rate self.max_delay_secs }
         requires self_fits { state_fits self ≡ true }
-        requires n_in_bounds { n ≤ length mem.old }
         requires samples_is_number { is_number samples ≡ true }
-        ensures state_value { result.state ≡ next_state n (reads_at self samples) self }
+        ensures state_value { result.state ≡ next_state (length places.old) (reads_at self samples) self }
         ensures answer_value { answer_reply result.answer ≡ played
-            (blended (sanitized audio) (delayed_by self samples mem.old) (clamp_of mix plus_zero (float_of 1)) ∷ []) }
-        ensures mem_after { mem.new ≡ set mem.old self.write_pos
+            (blended (sanitized audio) (delayed_by self samples places.old) (clamp_of mix plus_zero (float_of 1)) ∷ []) }
+        ensures places_after { places.new ≡ set places.old self.write_pos
             (add binary64 (sanitized audio)
-            (mul binary64 (delayed_by self samples mem.old) (clamp_of feedback plus_zero (fraction 99 100)))) }
+            (mul binary64 (delayed_by self samples places.old) (clamp_of feedback plus_zero (fraction 99 100)))) }
     {
-        let target = DelayLine::target_delay(n, samples);
+        let w = self.write_pos as usize;
+        let line = Line {
+            places: &places[..],
+            write_pos: w,
+        };
+        let target = line.hold(samples);
         let distance = self.glided(target);
         let input = common::sanitize_audio(audio);
         let back = float64::clamp(feedback, 0.0, 0.99);
         let wet = float64::clamp(mix, 0.0, 1.0);
-        let w = self.write_pos as usize;
-        let line = Line {
-            places: &mem[..n as usize],
-            write_pos: w,
-        };
         let delayed = line.read(distance);
-        mem[w] = input + delayed * back;
+        let write_pos = line.next_place();
+        places[w] = input + delayed * back;
         let out = common::blend(input, delayed, wet);
         Ticked {
-            state: self.next(n, distance),
+            state: self.next(write_pos, distance),
             answer: Answer::One(out),
         }
     }
@@ -390,6 +379,6 @@ impl DelayLine {
             Ok(n) => n,
             Err(cause) => return Ticked::refused(self, cause),
         };
-        self.advance(n, mem, audio, samples, feedback, mix)
+        self.advance(&mut mem[..n as usize], audio, samples, feedback, mix)
     }
 }

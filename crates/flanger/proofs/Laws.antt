@@ -1,14 +1,15 @@
 -- The flanger's definitions by their cases: the length of a line, the state test, the table's row of a tick, its distances, and an accepted tick from its
 -- steps, also where ports are unset. Assumes nothing.
-use Prim.Native.Nat.{ℕ, ◌+◌, ◌-◌, ◌*◌, ◌≤◌, ◌<◌}
+use Prim.Native.Nat.{ℕ, ◌+◌, ◌-◌, ◌*◌, ◌/◌, ◌≤◌, ◌<◌}
 use native.Mathlib.Omega.{arith}
 use mathlib.Core.Path.{◌≡◌, refl, sym, ap, ◌∙◌}
 use mathlib.Core.Bool.{true, false, ◌&&◌, ◌||◌}
-use mathlib.Core.List.{List, [], ◌∷◌}
-use lib.ListN.{length, take, drop, set}
+use mathlib.Core.List.{List, [], ◌∷◌, ◌++◌}
+use lib.ListN.{length, take, drop, set, length-set}
 use lib.Ieee.{Float, binary64, add, mul, div, neg, le, lt, of_int, is_nan, round}
 use lib.Ieee as Ieee
 use Rattle.std.proofs.lemmas.Bool.Decides.{nat_tests}
+use Rattle.std.proofs.lemmas.List.{take-append-drop}
 use Rattle.float64.specs.Number.{plus_zero, float_of, half, is_number, in_range, rate_fits, phase_fits, frequency_fits, sine_fits}
 use Rattle.float64.proofs.Interval.{In, point, add-in, mul_in, div-in}
 use Rattle.float64.proofs.Ranges.{rate-in, sine-in, range-in, in-range, in-number}
@@ -20,16 +21,17 @@ use Rattle.port.proofs.Laws.{nan_is}
 use Rattle.port.specs.Answer.{Reply, played}
 use Rattle.common.specs.Signal.{blended, advanced, cause_number}
 use Rattle.common.specs.Line.{next_place, line_at, read_at}
-use Rattle.common.proofs.Slices.{part_length}
+use Rattle.common.proofs.Slices.{part_length, front-set}
+use Rattle.common.proofs.Ring.{front-line}
 use Rattle.common.proofs.Sweep.{control-in, part-read}
 use Rattle.effect.specs.Effect.{laid}
 use Rattle.effect.specs.Run.{tick, reset, number_in}
 use Rattle.effect.specs.Contract.{Does}
-use Rattle.effect.proofs.Table.{accepted, tick-accepted}
-use Rattle.effect.proofs.Contract.{accepts}
+use Rattle.effect.proofs.Table.{Accepted, accepted, tick-accepted, enough, memory-enough}
+use Rattle.effect.proofs.Contract.{accepts, tick-number}
 use Rattle.effect.proofs.Rows.{tick_row}
 use Rattle.flanger.specs.declared.Flanger.{Flanger}
-use Rattle.flanger.specs.Flanger.{Tick, tick_of, flanger, line_length, places, state_fits, tick_number, input, depth, feedback, mix, distance, tap, fed, next, writes}
+use Rattle.flanger.specs.Flanger.{Tick, tick_of, flanger, line_length, places, state_fits, tick_number, input, depth, feedback, mix, distance_in, distance, tap, fed, next, writes}
 use Rattle.flanger.specs.Flanger as page
 
 -- ---- the length of a line
@@ -86,68 +88,72 @@ module _ (rate depth sine : Float) (h : rate_fits rate ≡ true) (d : in_range d
 
   -- after the clamp both places that are read lie in the line
   pub distance-in : In binary64 (float_of 1) (float_of (line_length rate - 1)) (distance rate depth sine)
-  unfolding distance
+  unfolding distance_in
   distance-in =
       let l = length_fits rate h in
       clamp-whole-in (line_length rate - 1) (omega arith) (swept rate depth sine) (omega arith) (in-number swept-in)
 
--- ---- accepted ticks
+-- ---- an accepted tick of the lines by themselves: m is their places, no more
 
--- n is the length of a line: the state passes its test, the memory has the places of both lines, and both distances lie on their line
+-- the left line is the first half, the right line the second; state and lines are what reads and stores ask for
 pub record Ready (t : Tick) (s : Flanger) (m : List Float) (n : ℕ) : Type 0 where
-  pub rate : rate_fits s.sample_rate ≡ true
-  pub short : n ≤ 1930
-  pub inside : s.write_pos < n
+  pub long : n ≡ line_length s.sample_rate
   pub room : n + n ≤ length m
-  pub left_part : length (take n m) ≡ n
-  pub right_part : length (take (n + n - n) (drop n m)) ≡ n
-  pub left : in_range (distance s.sample_rate (depth t) t.sine0) (float_of 1) (float_of (n - 1)) ≡ true
-  pub right : in_range (distance s.sample_rate (depth t) t.sine1) (float_of 1) (float_of (n - 1)) ≡ true
+  pub left : length (take n m) ≡ n
+  pub right : length (take (length m - n) (drop n m)) ≡ n
+  pub inside : s.write_pos < n
+  pub some : 2 ≤ n
+  pub short : n ≤ 16777217
+  pub left_distance : in_range (distance_in n s.sample_rate (depth t) t.sine0) (float_of 1) (float_of (n - 1)) ≡ true
+  pub right_distance : in_range (distance_in n s.sample_rate (depth t) t.sine1) (float_of 1) (float_of (n - 1)) ≡ true
 
-pub ready : {t : Tick} {s : Flanger} {m : List Float} {n : ℕ} → n ≡ line_length s.sample_rate → number_in flanger (tick t) (length m) s ≡ 0
-    → Ready t s m n
+pub ready : {t : Tick} {s : Flanger} {m : List Float} → length m ≡ 2 * line_length s.sample_rate → number_in flanger (tick t) (length m) s ≡ 0
+    → Ready t s m (length m / 2)
 unfolding is_number Ieee.fits is_nan round
-ready {t} {s} {m} {n} e k =
+ready {t} {s} {m} e k =
+    let rate = s.sample_rate in
     let taken = accepted flanger (length m) (tick t) s k in
-    let row = tick-accepted flanger (length m) t s.sample_rate taken.number in
     let f = fits-parts s taken.state_fits in
-    let room : n + n ≤ length m = omega (arith, row.enough) in
-    let curves = tick-fits t row.number in
-    let far = distance-in s.sample_rate (depth t) in
+    let curves = tick-fits t (tick-accepted flanger (length m) t rate taken.number).number in
+    let places = length_fits rate f.rate in
+    let n = length m / 2 in
+    let long : n ≡ line_length rate = omega (arith, e) in
+    let far = distance-in rate (depth t) in
     let amount = in-range (control-in t.depth half curves.depth refl) in
     record {
-      rate = f.rate;
-      short = omega (arith, (length_fits s.sample_rate f.rate).1);
-      inside = omega (arith, f.inside);
-      room = room;
-      left_part = part_length 0 n m n refl (omega arith);
-      right_part = part_length n (n + n - n) m n (omega arith) room;
-      left = rw e (in-range (far t.sine0 f.rate amount curves.sine0));
-      right = rw e (in-range (far t.sine1 f.rate amount curves.sine1));
+      long = long;
+      room = omega (arith, e, long);
+      left = part_length 0 n m n refl (omega arith);
+      right = part_length n (length m - n) m n (omega (arith, e, long)) (omega (arith, e, long));
+      inside = omega (arith, long, f.inside);
+      some = omega (arith, long, places.0);
+      short = omega (arith, long, places.1);
+      left_distance = rw long (in-range (far t.sine0 f.rate amount curves.sine0));
+      right_distance = rw long (in-range (far t.sine1 f.rate amount curves.sine1));
     }
 
--- ---- an accepted tick from its steps
-
-module _ (t : Tick) (s : Flanger) (m : List Float) {n : ℕ} (e : n ≡ line_length s.sample_rate) where
+-- from its steps
+module _ (t : Tick) (s : Flanger) (m : List Float) {n : ℕ} (r : Ready t s m n) where
   -- a read in the part of k places from place o on, which is line i, is what the tick reads in that line
-  pub tap-is : (i k o : ℕ) {d x y : Float} (sine : Float) → k ≡ n → o ≡ i * n → o + n ≤ length m → s.write_pos < n
-      → d ≡ depth t
-      → x ≡ distance s.sample_rate d sine
+  pub tap-is : (i k o : ℕ) {d x y : Float} (sine : Float) → k ≡ n → o ≡ i * n → o + n ≤ length m → d ≡ depth t
+      → x ≡ distance_in (length (take k (drop o m))) s.sample_rate d sine
       → y ≡ read_at (line_at 0 (length (take k (drop o m))) s.write_pos (take k (drop o m))) x
       → y ≡ tap i sine t s m
   unfolding tap
-  tap-is i k o {d} {x} sine a b l h g f r =
-      r
-      ∙ part-read k o n s.write_pos m x a l h
-      ∙ (λ j. read_at (line_at ((b ∙ ap (λ (z : ℕ). i * z) e) j) (e j) s.write_pos m) ((f ∙ ap (λ (z : Float). distance s.sample_rate z sine) g) j))
+  tap-is i k o {d} {x} sine a b h g f y =
+      let long = part_length o k m n a h ∙ r.long in
+      let start = b ∙ ap (λ (z : ℕ). i * z) r.long in
+      y
+      ∙ part-read k o n s.write_pos m x a h r.inside
+      ∙ (λ j. read_at (line_at (start j) (r.long j) s.write_pos m) ((f ∙ (λ q. distance_in (long q) s.sample_rate (g q) sine)) j))
 
-  pub next-is : {r : Flanger} → r.write_pos ≡ next_place n s.write_pos
-      → r.lfo_phase ≡ advanced s.lfo_phase (div binary64 t.frequency s.sample_rate)
-      → r.sample_rate ≡ s.sample_rate
-      → r ≡ next t s
+  pub next-is : {u : Flanger} → u.write_pos ≡ next_place (length (take n m)) s.write_pos
+      → u.lfo_phase ≡ advanced s.lfo_phase (div binary64 t.frequency s.sample_rate)
+      → u.sample_rate ≡ s.sample_rate
+      → u ≡ next t s
   unfolding next
   next-is w p k =
-      λ i. record { write_pos = (w ∙ ap (λ (z : ℕ). next_place z s.write_pos) e) i; lfo_phase = p i; sample_rate = k i }
+      λ i. record { write_pos = (w ∙ ap (λ (z : ℕ). next_place z s.write_pos) (r.left ∙ r.long)) i; lfo_phase = p i; sample_rate = k i }
 
   -- what is stored and played, from the audio, the two reads and the clamped controls
   module _ {x d0 d1 : Float} (audio : x ≡ input t) (left : d0 ≡ tap 0 t.sine0 t s m) (right : d1 ≡ tap 1 t.sine1 t s m) where
@@ -155,13 +161,58 @@ module _ (t : Tick) (s : Flanger) (m : List Float) {n : ℕ} (e : n ≡ line_len
         → set (set m s.write_pos (add binary64 x (mul binary64 d0 f))) (n + s.write_pos) (add binary64 x (mul binary64 d1 f)) ≡ laid (writes t s m) m
     unfolding writes fed
     stored_is f =
-        λ i. set (set m s.write_pos (add binary64 (audio i) (mul binary64 (left i) (f i)))) (e i + s.write_pos) (add binary64 (audio i) (mul binary64 (right i) (f i)))
+        λ i. set (set m s.write_pos (add binary64 (audio i) (mul binary64 (left i) (f i)))) (r.long i + s.write_pos) (add binary64 (audio i) (mul binary64 (right i) (f i)))
 
     pub played-is : {b l r : Float} → b ≡ mix t → l ≡ blended x d0 b → r ≡ blended x d1 b → played (l ∷ l ∷ r ∷ []) ≡ played (page.samples t s m)
     unfolding page.samples
     played-is b l r =
         (λ i. played (l i ∷ l i ∷ r i ∷ []))
         ∙ (λ i. played (blended (audio i) (left i) (b i) ∷ blended (audio i) (left i) (b i) ∷ blended (audio i) (right i) (b i) ∷ []))
+
+-- ---- an accepted tick: what it does in the lines, which are the first places of the memory, it does in the memory
+
+module _ (t : Tick) (s : Flanger) (m : List Float) {n : ℕ} (e : n ≡ places s.sample_rate) (passed : 0 ≡ number_in flanger reset (length m) s) where
+  abbrev unit : Accepted flanger (length m) reset s
+  unit = accepted flanger (length m) reset s (sym passed)
+
+  room : n ≤ length m
+  room = omega (arith, e, enough (places s.sample_rate) (length m) unit.number)
+
+  pub lines-long : length (take n m) ≡ 2 * line_length s.sample_rate
+  lines-long = omega (arith, e, part_length 0 n m n refl (omega (arith, room)))
+
+  -- past causes 4 and 3 there, the lines pass them too
+  pub lines-row : {k : ℕ} → k ≡ tick_number t → k ≡ number_in flanger (tick t) (length (take n m)) s
+  lines-row g = tick-number flanger (length (take n m)) s t unit.state_fits (memory-enough (omega (arith, lines-long))) g
+
+  -- line i is read alike
+  same-tap : (i : ℕ) (sine : Float) → i * line_length s.sample_rate + line_length s.sample_rate ≤ n → tap i sine t s (take n m) ≡ tap i sine t s m
+  unfolding tap
+  same-tap i sine h =
+      let L = line_length s.sample_rate in
+      let heard = front-line (i * L) L s.write_pos m n h (fits-parts s unit.state_fits).inside in
+      λ j. read_at (heard j) (distance s.sample_rate (depth t) sine)
+
+  pub lines-do : {s' : Flanger} {l : List Float} {a : Reply} → 0 ≡ tick_number t → Does flanger (tick t) s (take n m) s' l a
+      → Does flanger (tick t) s m s' (l ++ drop n m) a
+  unfolding next writes page.samples
+  lines-do g does =
+      let k = sym (lines-row g) in
+      let L = line_length s.sample_rate in
+      let w = s.write_pos in
+      let inside = (fits-parts s unit.state_fits).inside in
+      let first = take n m in
+      let rest = drop n m in
+      let left = same-tap 0 t.sine0 (omega (arith, e)) in
+      let right = same-tap 1 t.sine1 (omega (arith, e)) in
+      let x = fed t (tap 0 t.sine0 t s first) in
+      let one = front-set first rest w x (omega (arith, inside, lines-long)) (take-append-drop n m) in
+      let two = front-set (set first w x) rest (L + w) (fed t (tap 1 t.sine1 t s first)) (omega (arith, inside, lines-long, length-set first w x)) one in
+      accepts flanger (tick t) s m (sym (tick_row flanger t s m passed g))
+      (rw k at does.state)
+      (ap (λ (q : List Float). q ++ rest) (rw k at does.memory) ∙ two ∙ (λ i. set (set m w (fed t (left i))) (L + w) (fed t (right i))))
+      ((rw k at does.answer)
+      ∙ (λ i. played (blended (input t) (left i) (mix t) ∷ blended (input t) (left i) (mix t) ∷ blended (input t) (right i) (mix t) ∷ [])))
 
 -- ---- ports: a tick is the one with all ports set to the values that it takes from them
 

@@ -80,12 +80,16 @@ abbrev pub mix : Tick → Float
 mix t = clamp_of (value_or t.mix half) plus_zero (float_of 1)
 
 -- (1 + (sine + 1) × 0.5 × (depth × 9)) × rate / 1000, clamped to 1 to L − 1
-unfoldable pub distance : Float → Float → Float → Float
-distance rate depth sine =
+unfoldable pub distance_in : ℕ → Float → Float → Float → Float
+distance_in L rate depth sine =
     clamp_of
     (div binary64 (mul binary64 (add binary64 (float_of 1) (mul binary64 (mul binary64 (add binary64 sine (float_of 1)) half) (mul binary64 depth (float_of 9)))) rate) (float_of 1000))
     (float_of 1)
-    (float_of (line_length rate - 1))
+    (float_of (L - 1))
+
+-- in the line at that rate
+abbrev pub distance : Float → Float → Float → Float
+distance rate depth sine = distance_in (line_length rate) rate depth sine
 
 -- what line i, 0 left and 1 right, holds at its own distance, before the store
 unfoldable pub tap : ℕ → Float → Tick → Flanger → List Float → Float

@@ -1,19 +1,15 @@
 // The flanger: two lines in lent memory, swept by one phase, each fed back into itself. The state goes in and out by value.
 #![tactic(auto)]
 
-ghost use Rattle.std.specs.Prelude.{◌≡◌, true, ◌<◌, length, Float, refl};
+ghost use Rattle.std.specs.Prelude.{◌≡◌, ◌*◌, length, Float, refl};
 ghost use Rattle.std.specs.Bool.{then_some};
-ghost use Rattle.std.specs.Float.{binary64};
-ghost use Rattle.std.specs.Float.Ieee.{div};
 ghost use Rattle.float64.specs.Number.{rate_fits};
 ghost use Rattle.port.specs.declared.Port.TheVariants.{Set};
 ghost use Rattle.port.specs.Answer.{answer_reply};
-ghost use Rattle.common.specs.Signal.{advanced};
-ghost use Rattle.common.specs.Line.{next_place};
 ghost use Rattle.effect.specs.Run.{tick, number_in};
 ghost use Rattle.effect.specs.Contract.{Does};
 ghost use Rattle.effect.specs.Needed.{places_if_accepted};
-ghost use Rattle.flanger.specs.Flanger.{Tick, page, flanger, tick_of, line_length, cleared, distance};
+ghost use Rattle.flanger.specs.Flanger.{Tick, page, flanger, tick_of, line_length, cleared, distance_in};
 
 use common::Line;
 use effect::{InMemory, InOnePart, Ticked, Unit};
@@ -109,40 +105,18 @@ impl Flanger {
         }
     }
 
-    // (1 + (sine + 1) x 0.5 x (depth x 9)) x rate / 1000, clamped to 1 to n - 1, n the length of a line.
-    #[tactic(auto, using(crate::proofs::Laws::length_fits))]
-    fn distance(n: u64, rate: f64, depth: f64, sine: f64) -> f64
-        requires rate_in_range { rate_fits rate ≡ true }
-        requires n_value { n ≡ line_length rate }
-        ensures { result ≡ distance rate depth sine }
+    // (1 + (sine + 1) x 0.5 x (depth x 9)) x rate / 1000, held to the line.
+    fn distance(line: Line, rate: f64, depth: f64, sine: f64) -> f64
+        ensures { result ≡ distance_in (length line.entry.places.now) rate depth sine }
     {
         let swing = depth * (Flanger::MAX_DELAY_MS - 1.0);
-        let samples = (1.0 + (sine + 1.0) * 0.5 * swing) * rate / 1000.0;
-        common::held_to_line(samples, (n - 1) as u32)
+        line.hold((1.0 + (sine + 1.0) * 0.5 * swing) * rate / 1000.0)
     }
 
-    // The state after a tick.
-    fn next(self, n: u64, frequency: f64) -> Flanger
-        requires { self.write_pos < n }
-        ensures write_pos_value { result.write_pos ≡ next_place n self.write_pos }
-        ensures lfo_phase_value { result.lfo_phase ≡ advanced self.lfo_phase (div binary64 frequency self.sample_rate) }
-        ensures sample_rate_value { result.sample_rate ≡ self.sample_rate }
-    {
-        let rate = self.sample_rate;
-        let phase = common::advance_phase(self.lfo_phase, frequency / rate);
-        Flanger {
-            write_pos: common::next_place(n, self.write_pos),
-            lfo_phase: phase,
-            sample_rate: rate,
-        }
-    }
-
-    // An accepted tick with all its ports set; n is the length of a line. Each line is read before its own store, which feeds it its own read.
-    #[tactic(auto, using(crate::proofs::Laws::ready))]
+    // An accepted tick with all its ports set, of the two lines by themselves, left and right. Each is read before its own store, which feeds it its own read.
     fn advance(
         self,
-        n: u64,
-        mem: &mut [f64],
+        lines: &mut [f64],
         audio: f64,
         depth: f64,
         feedback: f64,
@@ -151,34 +125,38 @@ impl Flanger {
         sine0: f64,
         sine1: f64,
     ) -> Ticked<Flanger>
-        requires n_value { n ≡ line_length self.sample_rate }
+        requires lines_value { length lines.old ≡ 2 * line_length self.sample_rate }
         requires tick_accepted { number_in flanger (tick (tick_of (Set audio) (Set depth) (Set feedback) (Set mix) frequency sine0 sine1))
-            (length mem.old) self ≡ 0 }
+            (length lines.old) self ≡ 0 }
         ensures { Does flanger (tick (tick_of (Set audio) (Set depth) (Set feedback) (Set mix) frequency sine0 sine1)) self
-            mem.old result.state mem.new (answer_reply result.answer) }
+            lines.old result.state lines.new (answer_reply result.answer) }
     {
-        let state = self.next(n, frequency);
         let rate = self.sample_rate;
+        let phase = common::advance_phase(self.lfo_phase, frequency / rate);
         let input = common::sanitize_audio(audio);
         let amount = float64::clamp(depth, 0.0, 1.0);
         let back = float64::clamp(feedback, -0.95, 0.95);
         let wet = float64::clamp(mix, 0.0, 1.0);
         let w = self.write_pos as usize;
-        let second = n as usize;
-        let end = second + second;
-        let lines = &mem[..];
+        let second = lines.len() / 2;
+        let both = &lines[..];
         let left_line = Line {
-            places: &lines[..second],
+            places: &both[..second],
             write_pos: w,
         };
         let right_line = Line {
-            places: &lines[second..end],
+            places: &both[second..],
             write_pos: w,
         };
-        let d0 = left_line.read(Flanger::distance(n, rate, amount, sine0));
-        let d1 = right_line.read(Flanger::distance(n, rate, amount, sine1));
-        mem[w] = input + d0 * back;
-        mem[second + w] = input + d1 * back;
+        let d0 = left_line.read(Flanger::distance(left_line, rate, amount, sine0));
+        let d1 = right_line.read(Flanger::distance(right_line, rate, amount, sine1));
+        let state = Flanger {
+            write_pos: left_line.next_place(),
+            lfo_phase: phase,
+            sample_rate: rate,
+        };
+        lines[w] = input + d0 * back;
+        lines[second + w] = input + d1 * back;
         let left = common::blend(input, d0, wet);
         let right = common::blend(input, d1, wet);
         Ticked {
@@ -188,7 +166,6 @@ impl Flanger {
     }
 
     // One sample. Frequency and sines are the host's curve numbers, the sines at the state's phase and at that plus half the spread.
-    #[tactic(auto, using(effect::proofs::Rows::tick_row), unfolding(crate::specs::Flanger::tick_number))]
     pub fn tick(
         self,
         mem: &mut [f64],
@@ -203,8 +180,8 @@ impl Flanger {
         ensures { Does flanger (tick (tick_of audio depth feedback mix frequency sine0 sine1)) self mem.old result.state
             mem.new (answer_reply result.answer) }
     {
-        let n = match self.checked(mem.len()) {
-            Ok(places) => places / 2,
+        let places = match self.checked(mem.len()) {
+            Ok(places) => places,
             Err(cause) => return Ticked::refused(self, cause),
         };
         let audio = if let Port::Set(x) = audio { x } else { 0.0 };
@@ -219,6 +196,7 @@ impl Flanger {
         if let Err(cause) = causes {
             return Ticked::refused(self, cause);
         }
-        self.advance(n, mem, audio, depth, feedback, mix, frequency, sine0, sine1)
+        let lines = &mut mem[..places as usize];
+        self.advance(lines, audio, depth, feedback, mix, frequency, sine0, sine1)
     }
 }

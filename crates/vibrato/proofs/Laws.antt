@@ -4,12 +4,13 @@ use Prim.Native.Nat.{ℕ, ◌+◌, ◌-◌, ◌*◌, ◌≤◌, ◌<◌}
 use native.Mathlib.Omega.{arith}
 use mathlib.Core.Path.{◌≡◌, refl, sym, ap, ◌∙◌}
 use mathlib.Core.Bool.{true, false, ◌&&◌, ◌||◌, cond}
-use mathlib.Core.List.{List, [], ◌∷◌}
+use mathlib.Core.List.{List, [], ◌∷◌, ◌++◌}
 use lib.Dec.{ltb}
-use lib.ListN.{length, take, set}
+use lib.ListN.{length, take, drop, set}
 use lib.Ieee.{Float, binary64, is_nan, add, mul, div, neg, le, lt, of_int, round}
 use lib.Ieee as Ieee
 use borrow.Author.Tests.{ltb-true, lt-ltb}
+use Rattle.std.proofs.lemmas.List.{take-append-drop}
 use Rattle.float64.specs.Number.{plus_zero, float_of, fraction, half, is_number, in_range, rate_fits, phase_fits, frequency_fits, sine_fits, clamp_of}
 use Rattle.float64.proofs.Tests.{both}
 use Rattle.float64.proofs.Interval.{In, point, add-in, mul_in, div-in, scale_in}
@@ -22,17 +23,18 @@ use Rattle.port.specs.Answer.{Reply, played}
 use Rattle.port.proofs.Laws.{nan_is}
 use Rattle.common.specs.Signal.{blended, advanced, cause_number}
 use Rattle.common.specs.Line.{next_place, line_at, read_at}
-use Rattle.common.proofs.Slices.{part_length}
-use Rattle.common.proofs.Sweep.{size-tests, no-cause, neither, control-in, part-read}
+use Rattle.common.proofs.Slices.{part_length, front-set}
+use Rattle.common.proofs.Ring.{front-line}
+use Rattle.common.proofs.Sweep.{size-tests, no-cause, neither, control-in}
 use Rattle.effect.specs.Effect.{laid}
 use Rattle.effect.specs.Lines.{in_each}
 use Rattle.effect.specs.Run.{tick, reset, number_in}
 use Rattle.effect.specs.Contract.{Does}
-use Rattle.effect.proofs.Table.{accepted, tick-accepted}
-use Rattle.effect.proofs.Contract.{accepts}
+use Rattle.effect.proofs.Table.{Accepted, accepted, tick-accepted, enough, memory-enough}
+use Rattle.effect.proofs.Contract.{accepts, tick-number}
 use Rattle.effect.proofs.Rows.{tick_row}
 use Rattle.vibrato.specs.declared.Vibrato.{Vibrato}
-use Rattle.vibrato.specs.Vibrato.{Tick, tick_of, vibrato, line_length, state_fits, tick_number, input, depth, mix, distance, delayed, next, writes}
+use Rattle.vibrato.specs.Vibrato.{Tick, tick_of, vibrato, line_length, state_fits, tick_number, input, depth, mix, distance_in, distance, delayed, next, writes}
 use Rattle.vibrato.specs.Vibrato as page
 
 -- ---- the line's length
@@ -104,58 +106,46 @@ module _ (rate depth sine : Float) (h : rate_fits rate ≡ true) (d : In binary6
 
   -- after the clamp both places that are read lie in the line
   pub distance-in : In binary64 (float_of 1) (float_of (line_length rate - 1)) (distance rate depth sine)
-  unfolding distance
+  unfolding distance_in
   distance-in =
       let l = length-fits rate h in
       clamp-whole-in (line_length rate - 1) (omega arith) (swept rate depth sine) (omega arith) (in-number swept-in)
 
--- ---- accepted ticks
+-- ---- an accepted tick of the line by itself: m is the line's places, no more
 
--- n is the length of the line: the state passes its test, the memory has the places, and depth and curve numbers are in range
-pub record Ready (t : Tick) (s : Vibrato) (m : List Float) (n : ℕ) : Type 0 where
-  pub state : Fits s
-  pub curves : TickFits t
-  pub short : n ≤ 3850
-  pub inside : s.write_pos < n
-  pub room : n ≤ length m
-  pub part : length (take n m) ≡ n
-  pub distance : in_range (distance s.sample_rate (depth t) t.sine) (float_of 1) (float_of (n - 1)) ≡ true
+-- the state and the line are what a read and a store ask for
+pub record Ready (t : Tick) (s : Vibrato) (m : List Float) : Type 0 where
+  pub inside : s.write_pos < length m
+  pub some : 2 ≤ length m
+  pub short : length m ≤ 16777217
+  pub distance : in_range (distance_in (length m) s.sample_rate (depth t) t.sine) (float_of 1) (float_of (length m - 1)) ≡ true
 
-pub ready : {t : Tick} {s : Vibrato} {m : List Float} {n : ℕ} → n ≡ line_length s.sample_rate → number_in vibrato (tick t) (length m) s ≡ 0
-    → Ready t s m n
+pub ready : {t : Tick} {s : Vibrato} {m : List Float} → length m ≡ line_length s.sample_rate → number_in vibrato (tick t) (length m) s ≡ 0 → Ready t s m
 unfolding is_number Ieee.fits is_nan round
-ready {t} {s} {m} {n} e k =
+ready {t} {s} {m} e k =
     let rate = s.sample_rate in
     let taken = accepted vibrato (length m) (tick t) s k in
-    let row = tick-accepted vibrato (length m) t rate taken.number in
     let f = fits-parts s taken.state_fits in
-    let curves = tick-fits t row.number in
-    let room : n ≤ length m = omega (arith, e, row.enough) in
+    let curves = tick-fits t (tick-accepted vibrato (length m) t rate taken.number).number in
+    let long = length-fits rate f.rate in
     record {
-      state = f;
-      curves = curves;
-      short = omega (arith, e, (length-fits rate f.rate).1);
       inside = omega (arith, e, f.inside);
-      room = room;
-      part = part_length 0 n m n refl (omega arith);
+      some = omega (arith, e, long.0);
+      short = omega (arith, e, long.1);
       distance = rw e (in-range (distance-in rate (depth t) t.sine f.rate (control-in t.depth half curves.depth refl) curves.sine));
     }
 
--- ---- an accepted tick from its steps
-
-module _ (t : Tick) (s : Vibrato) (m : List Float) {n : ℕ} (e : n ≡ line_length s.sample_rate) where
-  -- a read in the part of the memory that is the line is what the tick reads
-  pub delayed-is : {d x y : Float} → n ≤ length m → s.write_pos < n → d ≡ depth t → x ≡ distance s.sample_rate d t.sine
-      → y ≡ read_at (line_at 0 (length (take n m)) s.write_pos (take n m)) x
+-- from its steps
+module _ (t : Tick) (s : Vibrato) (m : List Float) (e : length m ≡ line_length s.sample_rate) where
+  pub delayed-is : {d x y : Float} → d ≡ depth t → x ≡ distance_in (length m) s.sample_rate d t.sine → y ≡ read_at (line_at 0 (length m) s.write_pos m) x
       → y ≡ delayed t s m
   unfolding delayed
-  delayed-is {d} {x} l h g at r =
+  delayed-is {d} {x} g at r =
       r
-      ∙ part-read n 0 n s.write_pos m x refl (omega arith) h
-      ∙ ap (λ (z : Float). read_at (line_at 0 n s.write_pos m) z) at
-      ∙ (λ j. read_at (line_at 0 (e j) s.write_pos m) (distance s.sample_rate (g j) t.sine))
+      ∙ ap (λ (z : Float). read_at (line_at 0 (length m) s.write_pos m) z) at
+      ∙ (λ j. read_at (line_at 0 (e j) s.write_pos m) (distance_in (e j) s.sample_rate (g j) t.sine))
 
-  pub next-is : {r : Vibrato} → r.write_pos ≡ next_place n s.write_pos
+  pub next-is : {r : Vibrato} → r.write_pos ≡ next_place (length m) s.write_pos
       → r.lfo_phase ≡ advanced s.lfo_phase (div binary64 t.frequency s.sample_rate)
       → r.sample_rate ≡ s.sample_rate
       → r ≡ next t s
@@ -172,6 +162,38 @@ module _ (t : Tick) (s : Vibrato) (m : List Float) {n : ℕ} (e : n ≡ line_len
     pub played-is : {y b r : Float} → y ≡ delayed t s m → b ≡ mix t → r ≡ blended x y b → played (r ∷ []) ≡ played (page.samples t s m)
     unfolding page.samples
     played-is y b r = ap (λ (z : Float). played (z ∷ [])) (r ∙ (λ i. blended (audio i) (y i) (b i)))
+
+-- ---- an accepted tick: what it does in the line, which is the first n places of the memory, it does in the memory
+
+module _ (t : Tick) (s : Vibrato) (m : List Float) {n : ℕ} (e : n ≡ line_length s.sample_rate) (passed : 0 ≡ number_in vibrato reset (length m) s) where
+  abbrev unit : Accepted vibrato (length m) reset s
+  unit = accepted vibrato (length m) reset s (sym passed)
+
+  room : n ≤ length m
+  room = omega (arith, e, enough (line_length s.sample_rate) (length m) unit.number)
+
+  pub line-long : length (take n m) ≡ line_length s.sample_rate
+  line-long = part_length 0 n m n refl (omega (arith, room)) ∙ e
+
+  -- past causes 4 and 3 there, the line passes them too
+  pub line-row : {k : ℕ} → k ≡ tick_number t → k ≡ number_in vibrato (tick t) (length (take n m)) s
+  line-row g = tick-number vibrato (length (take n m)) s t unit.state_fits (memory-enough (omega (arith, line-long))) g
+
+  pub line-does : {s' : Vibrato} {l : List Float} {a : Reply} → 0 ≡ tick_number t → Does vibrato (tick t) s (take n m) s' l a
+      → Does vibrato (tick t) s m s' (l ++ drop n m) a
+  unfolding next writes page.samples delayed
+  line-does g does =
+      let k = sym (line-row g) in
+      let rate = s.sample_rate in
+      let L = line_length rate in
+      let w = s.write_pos in
+      let inside = (fits-parts s unit.state_fits).inside in
+      let heard = front-line 0 L w m n (omega (arith, e)) inside in
+      accepts vibrato (tick t) s m (sym (tick_row vibrato t s m passed g))
+      (rw k at does.state)
+      (ap (λ (q : List Float). q ++ drop n m) (rw k at does.memory)
+      ∙ front-set (take n m) (drop n m) (0 * L + w) (input t) (omega (arith, line-long)) (take-append-drop n m))
+      ((rw k at does.answer) ∙ (λ i. played (blended (input t) (read_at (heard i) (distance rate (depth t) t.sine)) (mix t) ∷ [])))
 
 -- ---- ports: a tick is the one with all ports set to the values that it takes from them
 

@@ -58,12 +58,16 @@ abbrev pub mix : Tick → Float
 mix t = clamp_of (value_or t.mix (float_of 1)) plus_zero (float_of 1)
 
 -- (10 + sine × (depth × 10 × 0.9)) × rate / 1000, clamped to 1 to L − 1
-unfoldable pub distance : Float → Float → Float → Float
-distance rate depth sine =
+unfoldable pub distance_in : ℕ → Float → Float → Float → Float
+distance_in L rate depth sine =
     clamp_of
     (div binary64 (mul binary64 (add binary64 (float_of 10) (mul binary64 sine (mul binary64 (mul binary64 depth (float_of 10)) (fraction 9 10)))) rate) (float_of 1000))
     (float_of 1)
-    (float_of (line_length rate - 1))
+    (float_of (L - 1))
+
+-- in the line at that rate
+abbrev pub distance : Float → Float → Float → Float
+distance rate depth sine = distance_in (line_length rate) rate depth sine
 
 -- what the line holds at that distance, before the store
 unfoldable pub delayed : Tick → Vibrato → List Float → Float

@@ -1,19 +1,15 @@
 // The vibrato: one line in lent memory, read at a swept distance. The state goes in and out by value.
 #![tactic(auto)]
 
-ghost use Rattle.std.specs.Prelude.{◌≡◌, true, ◌<◌, length, Float, refl};
+ghost use Rattle.std.specs.Prelude.{◌≡◌, length, Float, refl};
 ghost use Rattle.std.specs.Bool.{then_some};
-ghost use Rattle.std.specs.Float.{binary64};
-ghost use Rattle.std.specs.Float.Ieee.{div};
 ghost use Rattle.float64.specs.Number.{rate_fits};
 ghost use Rattle.port.specs.declared.Port.TheVariants.{Set};
 ghost use Rattle.port.specs.Answer.{answer_reply};
-ghost use Rattle.common.specs.Signal.{advanced};
-ghost use Rattle.common.specs.Line.{next_place};
 ghost use Rattle.effect.specs.Run.{tick, number_in};
 ghost use Rattle.effect.specs.Contract.{Does};
 ghost use Rattle.effect.specs.Needed.{places_if_accepted};
-ghost use Rattle.vibrato.specs.Vibrato.{Tick, page, vibrato, tick_of, line_length, fresh, distance};
+ghost use Rattle.vibrato.specs.Vibrato.{Tick, page, vibrato, tick_of, line_length, fresh, distance_in};
 
 use common::Line;
 use effect::{InMemory, InOnePart, Ticked, Unit};
@@ -108,62 +104,46 @@ impl Vibrato {
         }
     }
 
-    // (10 + sine x (depth x 10 x 0.9)) x rate / 1000, clamped to 1 to n - 1, n the length of the line.
-    fn distance(n: u64, rate: f64, depth: f64, sine: f64) -> f64
-        requires rate_in_range { rate_fits rate ≡ true }
-        requires n_value { n ≡ line_length rate }
-        ensures { result ≡ distance rate depth sine }
+    // (10 + sine x (depth x 10 x 0.9)) x rate / 1000, held to the line.
+    fn distance(line: Line, rate: f64, depth: f64, sine: f64) -> f64
+        ensures { result ≡ distance_in (length line.entry.places.now) rate depth sine }
     {
         let base = Vibrato::MAX_DELAY_MS * 0.5;
         let swing = depth * base * 0.9;
-        let samples = (base + sine * swing) * rate / 1000.0;
-        common::held_to_line(samples, (n - 1) as u32)
+        line.hold((base + sine * swing) * rate / 1000.0)
     }
 
-    // The state after a tick.
-    fn next(self, n: u64, frequency: f64) -> Vibrato
-        requires { self.write_pos < n }
-        ensures write_pos_value { result.write_pos ≡ next_place n self.write_pos }
-        ensures lfo_phase_value { result.lfo_phase ≡ advanced self.lfo_phase (div binary64 frequency self.sample_rate) }
-        ensures sample_rate_value { result.sample_rate ≡ self.sample_rate }
-    {
-        let rate = self.sample_rate;
-        let phase = common::advance_phase(self.lfo_phase, frequency / rate);
-        Vibrato {
-            write_pos: common::next_place(n, self.write_pos),
-            lfo_phase: phase,
-            sample_rate: rate,
-        }
-    }
-
-    // An accepted tick with all its ports set; n is the length of the line, which is read before the store. The phase comes first, as the next tick waits for it.
-    #[tactic(auto, using(crate::proofs::Laws::ready))]
+    // An accepted tick with all its ports set, of the line by itself, which is read before the store. The phase comes first, as the next tick waits for it.
     fn advance(
         self,
-        n: u64,
-        mem: &mut [f64],
+        places: &mut [f64],
         audio: f64,
         depth: f64,
         mix: f64,
         frequency: f64,
         sine: f64,
     ) -> Ticked<Vibrato>
-        requires n_value { n ≡ line_length self.sample_rate }
-        requires tick_accepted { number_in vibrato (tick (tick_of (Set audio) (Set depth) (Set mix) frequency sine)) (length mem.old) self ≡ 0 }
-        ensures { Does vibrato (tick (tick_of (Set audio) (Set depth) (Set mix) frequency sine)) self mem.old result.state
-            mem.new (answer_reply result.answer) }
+        requires places_value { length places.old ≡ line_length self.sample_rate }
+        requires tick_accepted { number_in vibrato (tick (tick_of (Set audio) (Set depth) (Set mix) frequency sine)) (length places.old) self ≡ 0 }
+        ensures { Does vibrato (tick (tick_of (Set audio) (Set depth) (Set mix) frequency sine)) self places.old result.state
+            places.new (answer_reply result.answer) }
     {
-        let state = self.next(n, frequency);
+        let rate = self.sample_rate;
+        let phase = common::advance_phase(self.lfo_phase, frequency / rate);
         let amount = float64::clamp(depth, 0.0, 1.0);
         let wet = float64::clamp(mix, 0.0, 1.0);
-        let distance = Vibrato::distance(n, self.sample_rate, amount, sine);
         let w = self.write_pos as usize;
         let line = Line {
-            places: &mem[..n as usize],
+            places: &places[..],
             write_pos: w,
         };
-        let delayed = line.read(distance);
-        mem[w] = audio;
+        let delayed = line.read(Vibrato::distance(line, rate, amount, sine));
+        let state = Vibrato {
+            write_pos: line.next_place(),
+            lfo_phase: phase,
+            sample_rate: rate,
+        };
+        places[w] = audio;
         Ticked {
             state,
             answer: Answer::One(common::blend(audio, delayed, wet)),
@@ -197,6 +177,6 @@ impl Vibrato {
         if let Err(cause) = causes {
             return Ticked::refused(self, cause);
         }
-        self.advance(n, mem, audio, depth, mix, frequency, sine)
+        self.advance(&mut mem[..n as usize], audio, depth, mix, frequency, sine)
     }
 }

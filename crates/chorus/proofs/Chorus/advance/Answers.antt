@@ -1,4 +1,5 @@
 -- `Chorus::advance`: in an accepted tick the depth is in range, and what the tick leaves and answers is the page's. Assumes nothing.
+use Rattle.std.proofs.Common.{refl}
 use lib.Ieee.{of_bits, of_int}
 use Rattle.port.specs.declared.Port.TheVariants.{Set}
 use Rattle.effect.specs.Run.{tick}
@@ -7,32 +8,34 @@ use Rattle.chorus.specs.Chorus.{chorus, tick_of}
 use Rattle.chorus.proofs.Laws.{ready, voice-is, next-is, stored_is, played-is}
 use Rattle.chorus.proofs.Chorus.advance.Goals as goal
 
+pub invariant_of-line : goal.invariant_of-line
+invariant_of-line c =
+    let r = ready c.requires.places_value c.requires.tick_accepted in record { inside = r.inside; some = r.some; short = r.short }
+
 pub voice-d0-requires-clause-depth_in_range : goal.voice-d0-requires-clause-depth_in_range
 unfolding of_bits of_int
-voice-d0-requires-clause-depth_in_range c = rw c.clamp-depth.ensures (ready c.requires.n_value c.requires.tick_accepted).depth
+voice-d0-requires-clause-depth_in_range c = rw c.clamp-depth.ensures (ready c.requires.places_value c.requires.tick_accepted).depth
 
 pub voice-d1-requires-clause-depth_in_range : goal.voice-d1-requires-clause-depth_in_range
 unfolding of_bits of_int
-voice-d1-requires-clause-depth_in_range c = rw c.clamp-depth.ensures (ready c.requires.n_value c.requires.tick_accepted).depth
+voice-d1-requires-clause-depth_in_range c = rw c.clamp-depth.ensures (ready c.requires.places_value c.requires.tick_accepted).depth
 
 pub voice-d2-requires-clause-depth_in_range : goal.voice-d2-requires-clause-depth_in_range
 unfolding of_bits of_int
-voice-d2-requires-clause-depth_in_range c = rw c.clamp-depth.ensures (ready c.requires.n_value c.requires.tick_accepted).depth
+voice-d2-requires-clause-depth_in_range c = rw c.clamp-depth.ensures (ready c.requires.places_value c.requires.tick_accepted).depth
 
 pub returns : goal.returns
 unfolding of_bits of_int
 returns c =
     let a = c.args in
-    let m = a.mem.now in
+    let m = a.places.now in
     let t = tick_of (Set a.audio) (Set a.depth) (Set a.mix) a.frequency a.sines in
-    let e = c.requires.n_value in
-    let r = ready e c.requires.tick_accepted in
-    let next = c.next-state.ensures in
+    let e = c.requires.places_value in
     let x = c.sanitize_audio-input.ensures in
-    let d0 = voice-is t a.self m e t.sine0 r.room r.inside c.clamp-depth.ensures c.voice-d0.ensures in
-    let d1 = voice-is t a.self m e t.sine1 r.room r.inside c.clamp-depth.ensures c.voice-d1.ensures in
-    let d2 = voice-is t a.self m e t.sine2 r.room r.inside c.clamp-depth.ensures c.voice-d2.ensures in
+    let d0 = voice-is t a.self m e t.sine0 c.clamp-depth.ensures c.voice-d0.ensures in
+    let d1 = voice-is t a.self m e t.sine1 c.clamp-depth.ensures c.voice-d1.ensures in
+    let d2 = voice-is t a.self m e t.sine2 c.clamp-depth.ensures c.voice-d2.ensures in
     accepts chorus (tick t) a.self m c.requires.tick_accepted
-    (next-is t a.self m e next.write_pos_value next.phases_value next.sample_rate_value)
+    (next-is t a.self m e c.next_place.ensures c.next_phases-lfo_phases.ensures refl)
     (stored_is t a.self m e x)
     (played-is t a.self m e x c.clamp-mix.ensures d0 d1 d2 c.mixed.ensures)

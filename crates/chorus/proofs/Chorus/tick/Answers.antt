@@ -10,7 +10,7 @@ use Rattle.effect.specs.Run.{tick}
 use Rattle.effect.proofs.Contract.{refuses}
 use Rattle.effect.proofs.Rows.{tick_row}
 use Rattle.chorus.specs.Chorus.{chorus, tick_of, tick_number}
-use Rattle.chorus.proofs.Laws.{all_set, set_number, set_does}
+use Rattle.chorus.proofs.Laws.{all_set, set_number, set_does, line-long, line-row, line-does}
 use Rattle.chorus.proofs.Chorus.tick.Goals as goal
 
 pub returns-in-Err-causes : goal.returns-in-Err-causes
@@ -25,12 +25,17 @@ returns-in-Err-causes c =
     let row = tick_row chorus t a.self a.mem.now c.in-Ok.ensures.number (e ∙ set_number t refl depth mix) in
     rw (c.refused-in-Err-causes.ensures.state, c.refused-in-Err-causes.ensures.answer) (refuses chorus (tick t) a.self a.mem.now (number cause) row (number-some cause))
 
+pub advance-requires-clause-places_value : goal.advance-requires-clause-places_value
+advance-requires-clause-places_value c =
+    let a = c.args in
+    line-long (tick_of a.audio a.depth a.mix a.frequency a.sines) a.self a.mem.now c.in-Ok.ensures.needed c.in-Ok.ensures.number
+
 pub advance-requires-clause-tick_accepted : goal.advance-requires-clause-tick_accepted
 unfolding tick_number
 advance-requires-clause-tick_accepted c =
     let a = c.args in
     let t = tick_of (Set c.match-audio.audio) (Set c.match-depth.depth) (Set c.match-mix.mix) a.frequency a.sines in
-    sym (tick_row chorus t a.self a.mem.now c.in-Ok.ensures.number (cc c.in_default-causes.ensures))
+    sym (line-row t a.self a.mem.now c.in-Ok.ensures.needed c.in-Ok.ensures.number (cc c.in_default-causes.ensures))
 
 pub returns : goal.returns
 unfolding tick_number of_bits round
@@ -40,4 +45,6 @@ returns c =
     let audio : c.match-audio.audio ≡ value_or a.audio plus_zero = search rules in
     let depth : c.match-depth.depth ≡ value_or a.depth half = search rules in
     let mix : c.match-mix.mix ≡ value_or a.mix half = search rules in
-    set_does t audio depth mix c.in-Ok.ensures.number (cc c.in_default-causes.ensures) c.advance.ensures
+    let none : 0 ≡ tick_number (all_set t audio depth mix) = cc c.in_default-causes.ensures in
+    set_does t audio depth mix c.in-Ok.ensures.number none
+    (line-does (all_set t audio depth mix) a.self a.mem.now c.in-Ok.ensures.needed c.in-Ok.ensures.number none c.advance.ensures)

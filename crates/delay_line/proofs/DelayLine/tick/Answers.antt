@@ -14,7 +14,7 @@ use Rattle.effect.specs.Run.{tick}
 use Rattle.effect.proofs.Contract.{refuses, accepts}
 use Rattle.effect.proofs.Rows.{tick_row}
 use Rattle.delay_line.specs.DelayLine.{delay_line, tick_of}
-use Rattle.delay_line.proofs.Laws.{set-row, set-number, no_nan, meets-none, next-is, stored_is, played-is}
+use Rattle.delay_line.proofs.Laws.{set-row, set-number, no_nan, meets-none, line-long, next-is, stored_is, played-is}
 use Rattle.delay_line.proofs.DelayLine.tick.Goals as goal
 
 is-err : {A : Type 0} (r : Result A Refusal) → number_of r ≢ 0 → IsErr r
@@ -40,6 +40,11 @@ returns-then-is_nan c =
     let e = sym (ap number_of c.unwrap_err.ensures) ∙ c.nan_refusal-met.ensures ∙ set-number t a.self.linear_time time back wet (length a.mem.now) a.self refl in
     rw (c.refused.ensures.state, c.refused.ensures.answer) (refuses delay_line (tick t) a.self a.mem.now (number cause) e (number-some cause))
 
+pub advance-requires-clause-places_value : goal.advance-requires-clause-places_value
+advance-requires-clause-places_value c =
+    let a = c.args in
+    line-long (tick_of a.audio a.time a.feedback a.mix a.milliseconds) a.self a.mem.now c.in-Ok.ensures.needed c.in-Ok.ensures.number
+
 pub returns : goal.returns
 unfolding of_bits round
 returns c =
@@ -54,9 +59,11 @@ returns c =
     let wet : c.match-mix.mix ≡ value_or a.mix half = search rules in
     let none = no_nan s.linear_time c.match-time.time c.match-feedback.feedback c.match-mix.mix a.milliseconds _ c.delay_samples-samples.ensures.from_numbers c.is_nan.ensures c.is_nan-2.ensures c.is_nan-3.ensures c.if-is_nan.false in
     let read = c.delay_samples-samples.ensures.value in
+    let passed = c.in-Ok.ensures.number in
+    let long = c.in-Ok.ensures.needed in
     let does = c.advance.ensures in
     accepts delay_line (tick t) s m
-    (sym (tick_row delay_line t s m c.in-Ok.ensures.number (sym none ∙ set-row t s.linear_time time back wet)))
-    (next-is t s m audio time back wet read c.in-Ok.ensures.needed does.state_value)
-    (stored_is t s m audio time back wet read does.mem_after)
-    (played-is t s m audio time back wet read does.answer_value)
+    (sym (tick_row delay_line t s m passed (sym none ∙ set-row t s.linear_time time back wet)))
+    (next-is t s m long passed audio time back wet read does.state_value)
+    (stored_is t s m long passed audio time back wet read does.places_after)
+    (played-is t s m long passed audio time back wet read does.answer_value)

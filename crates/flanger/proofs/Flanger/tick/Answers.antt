@@ -1,7 +1,8 @@
 -- `Flanger::tick`: causes 4 and 3, then the ports or their defaults, causes 5 and 6, then the tick with all its ports set. Assumes nothing.
-use Rattle.std.proofs.Common.{◌≡◌, ◌∙◌, arith}
+use Rattle.std.proofs.Common.{◌≡◌, sym, ◌∙◌, arith}
 use lib.Ieee.{of_bits, round}
 use Rattle.float64.specs.Number.{plus_zero, half}
+use Rattle.port.specs.declared.Port.TheVariants.{Set}
 use Rattle.port.specs.Port.{value_or}
 use Rattle.port.specs.Answer.{number}
 use Rattle.port.proofs.Laws.{number-some}
@@ -9,7 +10,7 @@ use Rattle.effect.specs.Run.{tick}
 use Rattle.effect.proofs.Contract.{refuses}
 use Rattle.effect.proofs.Rows.{tick_row}
 use Rattle.flanger.specs.Flanger.{flanger, tick_of, tick_number}
-use Rattle.flanger.proofs.Laws.{filled, filled_number, filled_does}
+use Rattle.flanger.proofs.Laws.{filled, filled_number, filled_does, lines-long, lines-row, lines-do}
 use Rattle.flanger.proofs.Flanger.tick.Goals as goal
 
 pub returns-in-Err-causes : goal.returns-in-Err-causes
@@ -26,6 +27,19 @@ returns-in-Err-causes c =
     rw (told.state, told.answer)
     (refuses flanger (tick t) a.self a.mem.now (number cause) (tick_row flanger t a.self a.mem.now c.in-Ok.ensures.number (e ∙ filled_number t)) (number-some cause))
 
+pub advance-requires-clause-lines_value : goal.advance-requires-clause-lines_value
+advance-requires-clause-lines_value c =
+    let a = c.args in
+    let t = tick_of a.audio a.depth a.feedback a.mix a.frequency a.sine0 a.sine1 in
+    lines-long t a.self a.mem.now c.in-Ok.ensures.needed c.in-Ok.ensures.number
+
+pub advance-requires-clause-tick_accepted : goal.advance-requires-clause-tick_accepted
+unfolding tick_number
+advance-requires-clause-tick_accepted c =
+    let a = c.args in
+    let t = tick_of (Set c.match-audio.audio) (Set c.match-depth.depth) (Set c.match-feedback.feedback) (Set c.match-mix.mix) a.frequency a.sine0 a.sine1 in
+    sym (lines-row t a.self a.mem.now c.in-Ok.ensures.needed c.in-Ok.ensures.number (cc c.in_default-causes.ensures))
+
 pub returns : goal.returns
 unfolding tick_number of_bits round
 returns c =
@@ -35,4 +49,6 @@ returns c =
     let amount : c.match-depth.depth ≡ value_or a.depth half = grind arith in
     let back : c.match-feedback.feedback ≡ value_or a.feedback plus_zero = grind arith in
     let wet : c.match-mix.mix ≡ value_or a.mix half = grind arith in
-    filled_does t c.in-Ok.ensures.number (cc c.in_default-causes.ensures) (rw (audio, amount, back, wet) at c.advance.ensures)
+    let none : 0 ≡ tick_number (filled t) = cc c.in_default-causes.ensures in
+    filled_does t c.in-Ok.ensures.number none
+    (lines-do (filled t) a.self a.mem.now c.in-Ok.ensures.needed c.in-Ok.ensures.number none (rw (audio, amount, back, wet) at c.advance.ensures))

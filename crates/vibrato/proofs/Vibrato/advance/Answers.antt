@@ -8,22 +8,23 @@ use Rattle.vibrato.specs.Vibrato.{vibrato, tick_of}
 use Rattle.vibrato.proofs.Laws.{ready, delayed-is, next-is, stored_is, played-is}
 use Rattle.vibrato.proofs.Vibrato.advance.Goals as goal
 
+pub invariant_of-line : goal.invariant_of-line
+invariant_of-line c =
+    let r = ready c.requires.places_value c.requires.tick_accepted in record { inside = r.inside; some = r.some; short = r.short }
+
 pub read-delayed-requires : goal.read-delayed-requires
 unfolding of_bits of_int round
-read-delayed-requires c =
-    let r = ready c.requires.n_value c.requires.tick_accepted in rw (r.part, c.distance-distance.ensures, c.clamp-amount.ensures) r.distance
+read-delayed-requires c = rw (c.distance.ensures, c.clamp-amount.ensures) (ready c.requires.places_value c.requires.tick_accepted).distance
 
 pub returns : goal.returns
 unfolding of_bits of_int round
 returns c =
     let a = c.args in
-    let m = a.mem.now in
+    let m = a.places.now in
     let t = tick_of (Set a.audio) (Set a.depth) (Set a.mix) a.frequency a.sine in
-    let e = c.requires.n_value in
-    let r = ready e c.requires.tick_accepted in
-    let next = c.next-state.ensures in
-    let delayed = delayed-is t a.self m e r.room r.inside c.clamp-amount.ensures c.distance-distance.ensures c.read-delayed.ensures in
+    let e = c.requires.places_value in
+    let delayed = delayed-is t a.self m e c.clamp-amount.ensures c.distance.ensures c.read-delayed.ensures in
     accepts vibrato (tick t) a.self m c.requires.tick_accepted
-    (next-is t a.self m e next.write_pos_value next.lfo_phase_value next.sample_rate_value)
+    (next-is t a.self m e c.next_place.ensures c.advance_phase-phase.ensures refl)
     (stored_is t a.self m e refl)
     (played-is t a.self m e refl delayed c.clamp-wet.ensures c.blend.ensures)
