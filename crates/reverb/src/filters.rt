@@ -1,4 +1,4 @@
-// Freeverb's filters, and the predelay, each on its part of the tank: a line, whose position goes up by one and at the line's length back to 0.
+// Freeverb's filters, and the predelay, each on its part of the tank: a line, whose position goes up by one and at the line's end back to 0.
 ghost use Rattle.std.specs.Prelude.{◌≡◌, ◌+◌, ◌<◌, ◌≤◌};
 ghost use Rattle.std.proofs.Math.ListN as ListN;
 ghost use Rattle.std.specs.Float.{nan};
@@ -30,13 +30,11 @@ pub fn process_comb(
     pos: u64,
     filter_state: f64,
     input: f64,
-    n: u64,
     feedback: f64,
     damping: f64,
 ) -> Combed
-    requires pos_lt_n { pos < n }
-    requires n_bound { n ≤ ListN.length line.old }
-    ensures value { result ≡ combed (ListN.get_or line.old pos nan) n pos filter_state damping }
+    requires { pos < ListN.length line.old }
+    ensures value { result ≡ combed (ListN.get_or line.old pos nan) (ListN.length line.old) pos filter_state damping }
     ensures line_after { line.new ≡ comb_line line.old pos filter_state input damping feedback }
 {
     let w = pos as usize;
@@ -46,15 +44,14 @@ pub fn process_comb(
     Combed {
         output,
         filter_state: store,
-        pos: common::next_place(n, pos),
+        pos: common::next_place(line.len() as u64, pos),
     }
 }
 
 // One step of an all-pass on its part of the tank.
-pub fn process_allpass(line: &mut [f64], pos: u64, input: f64, n: u64) -> Passed
-    requires pos_lt_n { pos < n }
-    requires n_bound { n ≤ ListN.length line.old }
-    ensures value { result ≡ passed (ListN.get_or line.old pos nan) n pos input }
+pub fn process_allpass(line: &mut [f64], pos: u64, input: f64) -> Passed
+    requires { pos < ListN.length line.old }
+    ensures value { result ≡ passed (ListN.get_or line.old pos nan) (ListN.length line.old) pos input }
     ensures line_after { line.new ≡ pass_line line.old pos input }
 {
     let w = pos as usize;
@@ -62,7 +59,7 @@ pub fn process_allpass(line: &mut [f64], pos: u64, input: f64, n: u64) -> Passed
     line[w] = input + buffered * 0.5;
     Passed {
         output: -input + buffered,
-        pos: common::next_place(n, pos),
+        pos: common::next_place(line.len() as u64, pos),
     }
 }
 

@@ -57,16 +57,8 @@ pub fn combs(
     let mut sum = 0.0;
     for i in 0..8 {
         let start = o + i * Reverb::MAX_COMB_SIZE;
-        let line = &mut mem[start..start + Reverb::MAX_COMB_SIZE];
-        let c = process_comb(
-            line,
-            pos[i],
-            filter_state[i],
-            input,
-            lengths[i] as u64,
-            feedback,
-            damping,
-        );
+        let line = &mut mem[start..start + lengths[i] as usize];
+        let c = process_comb(line, pos[i], filter_state[i], input, feedback, damping);
         pos[i] = c.pos;
         filter_state[i] = c.filter_state;
         sum = sum + c.output;
@@ -90,8 +82,8 @@ pub fn allpasses(
     let mut output = input;
     for i in 0..4 {
         let start = o + i * Reverb::MAX_ALLPASS_SIZE;
-        let line = &mut mem[start..start + Reverb::MAX_ALLPASS_SIZE];
-        let p = process_allpass(line, pos[i], output, lengths[i] as u64);
+        let line = &mut mem[start..start + lengths[i] as usize];
+        let p = process_allpass(line, pos[i], output);
         pos[i] = p.pos;
         output = p.output;
     }

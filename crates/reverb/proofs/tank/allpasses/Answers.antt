@@ -3,7 +3,6 @@ use Rattle.std.proofs.Common.{◌≡◌, ℕ, ◌+◌, ◌-◌, ◌<◌, ◌≢�
 use Rattle.common.specs.Line.{table}
 use Rattle.common.proofs.Tables.{tabled-more, tabled-all}
 use Rattle.reverb.specs.declared.filters.Passed.{Passed}
-use Rattle.reverb.specs.Tunings.{allpass_size}
 use Rattle.reverb.specs.Tank.{allpass_lines, next_position, allpasses_held, passed_on, allpass_write}
 use Rattle.reverb.proofs.Apart.{lines_long, line-below, unmoved, allpass-apart, first-held, turned, pass-gives, pass-writes}
 use Rattle.reverb.proofs.tank.allpasses.Goals as goal
@@ -12,14 +11,12 @@ pub loop-i-init : goal.loop-i-init
 unfolding table passed_on
 loop-i-init c = record { memory = refl; pos = refl; output = refl }
 
-pub process_allpass-p-requires-clause-pos_lt_n : goal.process_allpass-p-requires-clause-pos_lt_n
-process_allpass-p-requires-clause-pos_lt_n c =
+pub process_allpass-p-requires : goal.process_allpass-p-requires
+process_allpass-p-requires c =
     let l = c.loop-i in
     let f = c.requires.in_lines in
-    omega (arith, unmoved _ _ l.i 0 l.invariant.pos (omega (arith, lines_long f)), (line-below f l.i c.loop-i-test.true).0)
-
-pub process_allpass-p-requires-clause-n_bound : goal.process_allpass-p-requires-clause-n_bound
-process_allpass-p-requires-clause-n_bound c = simp (length-take, length-drop) (omega (arith, (line-below c.requires.in_lines c.loop-i.i c.loop-i-test.true).1))
+    let at = unmoved _ _ l.i 0 l.invariant.pos (omega (arith, lines_long f)) in
+    simp (length-take, length-drop) (omega (arith, at, line-below f l.i c.loop-i-test.true))
 
 pub loop-i-preserved : goal.loop-i-preserved
 unfolding allpass_write
@@ -35,10 +32,10 @@ loop-i-preserved c =
     let w = allpass_write a.input u (allpasses_held u m) in
     let apart : (k : ℕ) → k < i → (w i).place ≢ (w k).place = λ k g. allpass-apart a.o a.pos.now a.lengths f i k h g in
     let at = unmoved _ _ i 0 l.invariant.pos long in
-    let k = u.start i + allpass_size - u.start i in
+    let k = u.start i + get_or a.lengths i 0 - u.start i in
     let inside : get_or l.pos i 0 < k = omega (arith, at, line-below f i h) in
     let same = first-held w m i apart l.mem l.invariant.memory in
-    let gives = pass-gives a.input u m i h l.mem l.output k inside at same l.invariant.output c.process_allpass-p.ensures.value in
+    let gives = pass-gives a.input u m i h l.mem l.output k inside at same l.invariant.output (simp (length-take, length-drop) (omega (arith, line-below f i h))) c.process_allpass-p.ensures.value in
     record {
       memory = turned w m i apart l.mem l.invariant.memory (pass-writes a.input u m i h l.mem l.output k inside at same l.invariant.output (omega arith) c.process_allpass-p.ensures.line_after);
       pos = tabled-more _ i _ long l.invariant.pos (ap (λ (r : Passed). r.pos) gives);

@@ -4,7 +4,6 @@ use lib.Ieee.{nan, of_bits}
 use Rattle.common.specs.Line.{table}
 use Rattle.common.proofs.Tables.{tabled-more, tabled-all}
 use Rattle.reverb.specs.declared.filters.Combed.{Combed}
-use Rattle.reverb.specs.Tunings.{comb_size}
 use Rattle.reverb.specs.Tank.{comb_lines, next_position, combs_held, sum_of, comb_stored, comb_write}
 use Rattle.reverb.proofs.Apart.{lines_long, line-below, unmoved, comb-apart, first-held, turned, comb-gives, comb-writes, sum_more}
 use Rattle.reverb.proofs.tank.combs.Goals as goal
@@ -13,14 +12,12 @@ pub loop-i-init : goal.loop-i-init
 unfolding table sum_of of_bits
 loop-i-init c = record { memory = refl; pos = refl; stores = refl; sum = refl }
 
-pub process_comb-c-requires-clause-pos_lt_n : goal.process_comb-c-requires-clause-pos_lt_n
-process_comb-c-requires-clause-pos_lt_n c =
+pub process_comb-c-requires : goal.process_comb-c-requires
+process_comb-c-requires c =
     let l = c.loop-i in
     let f = c.requires.in_lines in
-    omega (arith, unmoved _ _ l.i 0 l.invariant.pos (omega (arith, lines_long f)), (line-below f l.i c.loop-i-test.true).0)
-
-pub process_comb-c-requires-clause-n_bound : goal.process_comb-c-requires-clause-n_bound
-process_comb-c-requires-clause-n_bound c = simp (length-take, length-drop) (omega (arith, (line-below c.requires.in_lines c.loop-i.i c.loop-i-test.true).1))
+    let at = unmoved _ _ l.i 0 l.invariant.pos (omega (arith, lines_long f)) in
+    simp (length-take, length-drop) (omega (arith, at, line-below f l.i c.loop-i-test.true))
 
 pub loop-i-preserved : goal.loop-i-preserved
 unfolding comb_write
@@ -39,10 +36,10 @@ loop-i-preserved c =
     let apart : (k : ℕ) → k < i → (w i).place ≢ (w k).place = λ k g. comb-apart a.o a.pos.now a.lengths f i k h g in
     let at = unmoved _ _ i 0 l.invariant.pos long in
     let kept = unmoved _ _ i nan l.invariant.stores stores in
-    let k = u.start i + comb_size - u.start i in
+    let k = u.start i + get_or a.lengths i 0 - u.start i in
     let inside : get_or l.pos i 0 < k = omega (arith, at, line-below f i h) in
     let same = first-held w m i apart l.mem l.invariant.memory in
-    let gives = comb-gives a.input a.damping a.feedback u z m i h l.mem k inside at kept same c.process_comb-c.ensures.value in
+    let gives = comb-gives a.input a.damping a.feedback u z m i h l.mem k inside at kept same (simp (length-take, length-drop) (omega (arith, line-below f i h))) c.process_comb-c.ensures.value in
     let written = comb-writes a.input a.damping a.feedback u z m i h l.mem k inside at kept same (omega arith) c.process_comb-c.ensures.line_after in
     record {
       memory = turned w m i apart l.mem l.invariant.memory written;
