@@ -6,7 +6,7 @@ use lib.Ieee.Bits.{is_true}
 use lib.Ieee as Ieee
 use Rattle.float64.specs.Number.{plus_zero, float_of, fraction, frequency_fits, allpass_fits, clamp_of}
 use Rattle.float64.proofs.Ranges.{yes}
-use Rattle.float64.proofs.Order.{le→not-lt, le-transitive}
+use Rattle.float64.proofs.Order.{le→not-lt}
 use Rattle.port.specs.Port.{is_nan_set}
 use Rattle.phaser.specs.Phaser.{Tick, tick_number, stages_at}
 
@@ -40,6 +40,9 @@ module _ (x : Float) (number : Ieee.fits binary64 x ≡ true) where
   pub stages-clamped : stages_at (clamp_of x plus_zero (float_of 1)) ≡ stages_at x
   unfolding clamp_of stages_at
   stages-clamped = grind (arith, under, over-33, over-66, at-0, at-1)
+
+-- what `Stages::at` cites
+pub ruleset stages_cases = (stages-clamped)
 
 -- ---- causes 5 and 6
 

@@ -43,6 +43,7 @@ impl Record {
     }
 
     // The float of a word: a NaN for every NaN pattern.
+    #[tactic(auto, using(crate::proofs::Floats::pattern_cases))]
     pub fn float(&self, i: usize) -> f64
         requires { i < 16 }
         ensures { result ≡ float_at self.now.bytes i }
@@ -76,6 +77,7 @@ impl Record {
 }
 
 // Equal by bits, every NaN as one value.
+#[tactic(auto, using(crate::proofs::Floats::equal_cases))]
 pub fn same(x: f64, y: f64) -> bool
     ensures { Decides result x y }
 {

@@ -76,3 +76,6 @@ module _ (w d : ℕ) (x : Float) (m : List Float) (h : w < predelay_size) where
 
   pub delayed-high : d < predelay_size → w < d → get_or (set m w x) (predelay_size - (d - w)) nan ≡ delayed 0 w d x m
   delayed-high l e = beside-store (predelay_size - (d - w)) (omega (arith, place-high predelay_size w d e (omega arith))) (omega arith) l
+
+-- what `filters::process_predelay` cites
+pub ruleset delayed_cases = (delayed-none, delayed-low, delayed-high)
