@@ -260,9 +260,9 @@ module _ (x : Float) (f : T (fits binary64 x)) (small : Small x) where
   unfolding fits le lt of_int
   positive = floats.lt_of_lt_of_le plus_zero (float_of 1) x tt small.0
 
-  fields_of : (1023 ≤ to_bits binary64 x / 2 ^ 52) × (to_bits binary64 x / 2 ^ 52 ≤ 1074)
+  field_range : (1023 ≤ to_bits binary64 x / 2 ^ 52) × (to_bits binary64 x / 2 ^ 52 ≤ 1074)
   unfolding one fits of_int
-  fields_of =
+  field_range =
       let e = exponent_field x in
       let k = field_is x f positive in
       let z = from_zero x f positive in
@@ -274,16 +274,15 @@ module _ (x : Float) (f : T (fits binary64 x)) (small : Small x) where
       (omega arith, omega arith)
 
   pub small-field-from : 1023 ≤ to_bits binary64 x / 2 ^ 52
-  small-field-from = (fields_of).0
+  small-field-from = field_range.0
 
   pub small-field-to : to_bits binary64 x / 2 ^ 52 ≤ 1074
-  small-field-to = (fields_of).1
+  small-field-to = field_range.1
 
   pub small-whole : significand_of (to_bits binary64 x) / 2 ^ (1075 - to_bits binary64 x / 2 ^ 52) ≡ whole_part x
   small-whole =
       let e = field_is x f positive in
-      let lo = small-field-from in
-      let hi = small-field-to in
+      let r = field_range in
       ap (λ (k : ℕ). significand x / 2 ^ (1075 - k)) e ∙ sym (between x f (finite-below x positive (omega arith)) (from_zero x f positive) (omega arith) (omega arith))
 
 -- what is not above 0 has none
