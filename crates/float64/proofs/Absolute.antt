@@ -1,12 +1,14 @@
 -- The absolute value by one test: above 0 the number itself, else 0 less the number, which is exact; of a zero that is +0. And where it lies. Assumes nothing.
 use Rattle.std.proofs.Common.{◌≡◌, ℕ, zero, suc, ◌+◌, ◌-◌, ◌*◌, ◌^◌, ◌<◌, ◌≤◌, Bool, true, false, T, ℤ, pos, negsuc, refl, ap, subst, zero-lt-suc, mul-pos, arith, eqb→eq, pow_mono, ltb-false}
 use lib.Ieee.{Float, nan, inf, fin, Format, binary64, up, down, fits, is_nan, sub, le, lt}
+use Rattle.std.proofs.lemmas.Float as floats
 use lib.Ieee.Fits.{up_pos}
+use lib.Ieee.Positive.{first_pos}
 use Rattle.float64.specs.Number.{plus_zero, absolute}
-use Rattle.float64.proofs.Units.{one, cap, one-pos, cap-pos, sign, mag, mag-cross, mag-rep, mag-lt}
+use Rattle.float64.proofs.Units.{cap, one-pos, cap-pos, sign, mag, mag-cross, mag-rep, mag-lt}
 use Rattle.float64.proofs.Round.{difference-exact}
 use Rattle.float64.proofs.Keys.{rekeyed, sub_at}
-use Rattle.float64.proofs.Order.{lt→le, not-lt→le, finite-num, plus_zero-at, sign-size}
+use Rattle.float64.proofs.Order.{finite-num, plus_zero-at, sign-size}
 use Rattle.float64.proofs.Same.{same_key}
 use Rattle.float64.proofs.Interval.{In, ends, around, point, in-finite, cut-above, cut_below, sub_in}
 use Rattle.float64.proofs.Ranges.{yes, no}
@@ -30,11 +32,8 @@ unfolding mag
 mag-sign f m e = refl
 
 mag-pos : (f : Format) (s : Bool) (m : ℕ) (e : ℤ) → T (fits f (fin s (suc m) e)) → 0 < mag f (fin s (suc m) e)
-mag-pos f s m e a = go (mag f (fin s (suc m) e)) (mag-cross f s (suc m) e a) (mul-pos (mul-pos (zero-lt-suc m) (up_pos e)) (one-pos f))
-  where
-    go : (n : ℕ) → suc m * up e * one f ≡ n * down e → 0 < suc m * up e * one f → 0 < n
-    go zero h p = absurd (omega arith)
-    go (suc n) h p = omega arith
+mag-pos f s m e a =
+    first_pos (mag f (fin s (suc m) e)) (down e) (subst (λ (n : ℕ). 0 < n) (mag-cross f s (suc m) e a) (mul-pos (mul-pos (zero-lt-suc m) (up_pos e)) (one-pos f)))
 
 turned : (m : ℕ) (e : ℤ) → T (fits binary64 (fin true (suc m) e)) → T (fits binary64 (fin false (suc m) e)) → sub binary64 plus_zero (fin true (suc m) e) ≡ fin false (suc m) e
 unfolding sign
@@ -71,6 +70,9 @@ not-above (fin false (suc m) e) a k = absurd (none (suc m * up e) (mul-pos (zero
     none : (n : ℕ) → 0 < n → n * 1 ≤ 0 * down e → ⊥
     none n p q = omega arith
 
+-- what `float64::abs` cites
+pub ruleset absolute_cases = (above_zero, not-above)
+
 -- of what lies from l to h, where −l is at most h
 pub absolute-in : {l h x : Float} → T (ends binary64 plus_zero h) → T (ends binary64 l plus_zero) → T (around binary64 plus_zero h (sub binary64 plus_zero plus_zero) (sub binary64 plus_zero l))
     → In binary64 l h x → In binary64 plus_zero h (absolute x)
@@ -78,7 +80,7 @@ unfolding fits le is_nan
 absolute-in {l} {h} {x} p q t i = go (lt plus_zero x) refl
   where
     go : (b : Bool) → lt plus_zero x ≡ b → In binary64 plus_zero h (absolute x)
-    go true e = subst (λ (y : Float). In binary64 plus_zero h y) (above_zero x e) (cut_below plus_zero p (lt→le binary64 plus_zero x tt i.fit (yes e)) i)
+    go true e = subst (λ (y : Float). In binary64 plus_zero h y) (above_zero x e) (cut_below plus_zero p (floats.le_of_lt plus_zero x (yes e)) i)
     go false e =
-        let low = not-lt→le binary64 plus_zero x tt i.fit tt (finite-num x (in-finite i)) (no e) in
+        let low = floats.le_of_not-lt plus_zero x tt (finite-num x (in-finite i)) (no e) in
         subst (λ (y : Float). In binary64 plus_zero h y) (not-above x i.fit e) (sub_in plus_zero h t (point plus_zero tt) (cut-above plus_zero q low i))

@@ -9,11 +9,12 @@ use lib.Ieee.Bits.{is_true, of_bits-to_bits}
 use lib.Ieee.Exact.{HasValue, odd_sign}
 use lib.Ieee.Scale.{finite}
 use Rattle.std.proofs.num.Truncating as truncating
+use Rattle.std.proofs.lemmas.Float as floats
 use Rattle.float64.specs.Number.{plus_zero, float_of, exponent_field, significand_of, significand, whole_part, Small}
 use Rattle.float64.proofs.Units.{one, cap, sign, mag, signed, mag-of-value, mag-lt}
 use Rattle.float64.proofs.Keys.{At, rekeyed, of_le, le-of-size, lt-of-size, size-of-le, size-of-lt, of_int-at, to_unsigned-at}
 use Rattle.float64.proofs.Ranges.{yes, no}
-use Rattle.float64.proofs.Order.{plus_zero-at, plus_zero-fits, sign-size, between-finite, lt→le, lt-le-lt}
+use Rattle.float64.proofs.Order.{plus_zero-at, sign-size, between-finite}
 use Rattle.float64.proofs.Wholes.{one_at}
 use Rattle.float64.proofs.Tests.{clash}
 
@@ -197,7 +198,7 @@ sign-none (inf true) f h = absurd h
 sign-none (inf false) f h = refl
 sign-none (fin s m e) f h =
     let x = fin s m e in
-    let l = lt→le binary64 plus_zero x (plus_zero-fits binary64) f h in
+    let l = floats.le_of_lt plus_zero x h in
     sign_clear x f tt l (size-of-lt (plus_zero-at binary64) (at_size x f tt l) h)
 
 finite-below : (x : Float) → T (lt plus_zero x) → exponent_field x < 2047 → T (finite x)
@@ -219,7 +220,7 @@ module _ (x : Float) (f : T (fits binary64 x)) (h : T (lt plus_zero x)) where
   b = to_bits binary64 x
 
   from_zero : T (le plus_zero x)
-  from_zero = lt→le binary64 plus_zero x (plus_zero-fits binary64) f h
+  from_zero = floats.le_of_lt plus_zero x h
 
   pub field_is : b / 2 ^ 52 ≡ exponent_field x
   field_is = ap (λ (k : ℕ). k / 2 ^ 52) (sym (mod-eq_of_lt (nleb→lt (2 ^ 63) b (no (sign-none x f h)))))
@@ -227,17 +228,18 @@ module _ (x : Float) (f : T (fits binary64 x)) (h : T (lt plus_zero x)) where
   pub whole-below-one : b / 2 ^ 52 < 1023 → whole_part x ≡ 0
   whole-below-one l = let k : exponent_field x < 1023 = omega (arith, field_is) in below_one x f (finite-below x h (omega arith)) from_zero k
 
-  -- the range of `whole_part_small`, and its case
-  pub small : 1023 ≤ b / 2 ^ 52 → b / 2 ^ 52 < 1075 → Small x
+  -- the range of `whole_part_small`
+  pub small-from : 1023 ≤ b / 2 ^ 52 → b / 2 ^ 52 < 1075 → T (le (float_of 1) x)
   unfolding one
-  small l m =
-      let e = exponent_field x in
+  small-from l m =
       let p = finite-below x h (omega (arith, field_is)) in
-      let a = at_size x f p from_zero in
-      let is = size_is x f p in (
-        le-of-size one_at a (le_trans (units-above e (stored x) 1022 (omega (arith, field_is))) (le_of_eq (sym is))),
-        lt-of-size a (of_int-at binary64 (2 ^ 52) (lit< tt)) (lt_of_le_of_lt (le_of_eq is) (lt_of_lt_of_le (units-below e (stored x) 1074 (stored-lt x) (omega (arith, field_is))) (le_of_eq (pow-add 2 52 1074)))),
-      )
+      le-of-size one_at (at_size x f p from_zero) (le_trans (units-above (exponent_field x) (stored x) 1022 (omega (arith, field_is))) (le_of_eq (sym (size_is x f p))))
+
+  pub small-to : 1023 ≤ b / 2 ^ 52 → b / 2 ^ 52 < 1075 → T (lt x (float_of (2 ^ 52)))
+  unfolding one
+  small-to l m =
+      let p = finite-below x h (omega (arith, field_is)) in
+      lt-of-size (at_size x f p from_zero) (of_int-at binary64 (2 ^ 52) (lit< tt)) (lt_of_le_of_lt (le_of_eq (size_is x f p)) (lt_of_lt_of_le (units-below (exponent_field x) (stored x) 1074 (stored-lt x) (omega (arith, field_is))) (le_of_eq (pow-add 2 52 1074))))
 
   pub whole_above : 1075 ≤ b / 2 ^ 52 → b / 2 ^ 52 < 1087 → significand_of b * 2 ^ (b / 2 ^ 52 - 1075) % 2 ^ 64 ≡ whole_part x
   whole_above l m =
@@ -252,28 +254,47 @@ module _ (x : Float) (f : T (fits binary64 x)) (h : T (lt plus_zero x)) where
       go true e = high x f (yes e) from_zero (omega (arith, field_is))
       go false e = infinite-whole x h (no e)
 
-  -- the field of what lies in the range of `whole_part_small`
-  pub small-field : Small x → (1023 ≤ b / 2 ^ 52) × (b / 2 ^ 52 ≤ 1074)
-  unfolding one fits of_int
-  small-field (l, m) =
-      let e = exponent_field x in
-      let p = between-finite binary64 plus_zero x (float_of (2 ^ 52)) tt f tt tt tt from_zero (lt→le binary64 x (float_of (2 ^ 52)) f tt m) in
-      let a = at_size x f p from_zero in
-      let is = size_is x f p in
-      let lo = field-from e (stored x) 1022 (stored-lt x) (le_trans (size-of-le one_at a l) (le_of_eq is)) in
-      let hi = field-to e (stored x) 1074 (lt_of_le_of_lt (le_of_eq (sym is)) (lt_of_lt_of_le (size-of-lt a (of_int-at binary64 (2 ^ 52) (lit< tt)) m) (le_of_eq (sym (pow-add 2 52 1074))))) in
-      (omega (arith, field_is), omega (arith, field_is))
+-- in the range of `whole_part_small`, the field and the whole part
+module _ (x : Float) (f : T (fits binary64 x)) (small : Small x) where
+  positive : T (lt plus_zero x)
+  unfolding fits le lt of_int
+  positive = floats.lt_of_lt_of_le plus_zero (float_of 1) x tt small.0
 
-  pub whole-between : 1023 ≤ b / 2 ^ 52 → b / 2 ^ 52 ≤ 1074 → significand_of b / 2 ^ (1075 - b / 2 ^ 52) ≡ whole_part x
-  whole-between l m =
-      ap (λ (k : ℕ). significand x / 2 ^ (1075 - k)) field_is
-      ∙ sym (between x f (finite-below x h (omega (arith, field_is))) from_zero (omega (arith, field_is)) (omega (arith, field_is)))
+  field_range : (1023 ≤ to_bits binary64 x / 2 ^ 52) × (to_bits binary64 x / 2 ^ 52 ≤ 1074)
+  unfolding one fits of_int
+  field_range =
+      let e = exponent_field x in
+      let k = field_is x f positive in
+      let z = from_zero x f positive in
+      let p = between-finite binary64 plus_zero x (float_of (2 ^ 52)) tt f tt tt tt z (floats.le_of_lt x (float_of (2 ^ 52)) small.1) in
+      let a = at_size x f p z in
+      let is = size_is x f p in
+      let lo = field-from e (stored x) 1022 (stored-lt x) (le_trans (size-of-le one_at a small.0) (le_of_eq is)) in
+      let hi = field-to e (stored x) 1074 (lt_of_le_of_lt (le_of_eq (sym is)) (lt_of_lt_of_le (size-of-lt a (of_int-at binary64 (2 ^ 52) (lit< tt)) small.1) (le_of_eq (sym (pow-add 2 52 1074))))) in
+      (omega arith, omega arith)
+
+  pub small-field-from : 1023 ≤ to_bits binary64 x / 2 ^ 52
+  small-field-from = field_range.0
+
+  pub small-field-to : to_bits binary64 x / 2 ^ 52 ≤ 1074
+  small-field-to = field_range.1
+
+  pub small-whole : significand_of (to_bits binary64 x) / 2 ^ (1075 - to_bits binary64 x / 2 ^ 52) ≡ whole_part x
+  small-whole =
+      let e = field_is x f positive in
+      let r = field_range in
+      ap (λ (k : ℕ). significand x / 2 ^ (1075 - k)) e ∙ sym (between x f (finite-below x positive (omega arith)) (from_zero x f positive) (omega arith) (omega arith))
 
 -- what is not above 0 has none
 pub whole-none : (x : Float) → T (fits binary64 x) → lt plus_zero x ≡ false → whole_part x ≡ 0
 unfolding fits le lt of_int
-whole-none x f h = sym (truncating.below_one 64 x (go (le (float_of 1) x) (lt-le-lt binary64 plus_zero (float_of 1) x tt tt f tt)))
+whole-none x f h = sym (truncating.below_one 64 x (go (le (float_of 1) x) (floats.lt_of_lt_of_le plus_zero (float_of 1) x tt)))
   where
     go : (b : Bool) → (T b → T (lt plus_zero x)) → T (not b)
     go true k = clash (is_true (lt plus_zero x) (k tt)) h
     go false k = tt
+
+-- what `float64::whole_part` cites, and `float64::whole_part_small`
+pub ruleset whole_cases = (whole-below-one, small-from, small-to, whole_above, whole-held, whole-none)
+
+pub ruleset small_cases = (small-field-from, small-field-to, small-whole)

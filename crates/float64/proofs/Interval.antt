@@ -1,6 +1,7 @@
 -- Interval arithmetic: `In f lo hi x` says that x fits f and lies from lo to hi, both finite. Each operation takes intervals to an interval, and what it asks of the ends is one test that
 -- computes at literals, so that `tt` proves it under `unfolding fits le` and the operation's own name (and `lt` for a quotient, `of_int` for `whole`). Assumes nothing.
 use Rattle.std.proofs.Common.{◌≡◌, ℕ, ◌+◌, ◌*◌, ◌<◌, ◌≤◌, Bool, true, false, cond, ◌&&◌, T, refl, subst, mul-le-mul_right, mul-le-mul_left, mul-pos, arith}
+use Rattle.std.proofs.lemmas.Float as floats
 use lib.Ieee.{Float, Format, unlike, add, sub, mul, div, to_unsigned, fits, le, lt}
 use lib.Ieee.Fits.{and_l, and_r, add-fits, sub-fits, mul-fits, div-fits}
 use lib.Ieee.Scale.{finite}
@@ -8,7 +9,7 @@ use Rattle.float64.specs.Number.{plus_zero}
 use Rattle.float64.proofs.Units.{one, cap, one-pos, sign, mag, signed, mag-lt}
 use Rattle.float64.proofs.Round.{rounded, rounded-mono}
 use Rattle.float64.proofs.Keys.{At, le_of, le-of-size, size-of-le, mul_at}
-use Rattle.float64.proofs.Order.{le-reflexive, le-transitive, lt-le-lt, plus_zero-fits, between-finite, finite-num, sign-size, size_of, add-mono, sub-mono, mul-mono-left, mul_mono, div_mono, whole-mono}
+use Rattle.float64.proofs.Order.{between-finite, finite-num, sign-size, size_of, add-mono, sub-mono, mul-mono-left, mul_mono, div_mono, whole-mono}
 
 -- the ends of an interval
 abbrev pub ends : Format → Float → Float → Bool
@@ -37,7 +38,7 @@ pub box : {f : Format} {lo hi x : Float} → T (ends f lo hi) → T (fits f x) �
 box t a h k = record { ends-ok = t; fit = a; lower = h; upper = k }
 
 pub point : {f : Format} (x : Float) → T (ends f x x) → In f x x x
-point {f} x t = let a = lo-fits f x x t in let r = le-reflexive f x a (finite-num x (lo-finite f x x t)) in box t a r r
+point {f} x t = let a = lo-fits f x x t in let r = floats.le_refl x (finite-num x (lo-finite f x x t)) in box t a r r
 
 pub in-finite : {f : Format} {lo hi x : Float} → In f lo hi x → T (finite x)
 in-finite {f} {lo} {hi} {x} i =
@@ -59,13 +60,11 @@ module _ (f : Format) (l h a b : Float) (t : T (around f l h a b)) where
   out-hi = and_r (ends f l h && le l a) (le b h) t
 
 -- what lies from a to b lies from l to h
-pub within : (f : Format) (l h a b x : Float) → T (around f l h a b) → T (fits f a) → T (fits f b) → T (fits f x) → T (le a x) → T (le x b) → In f l h x
-within f l h a b x t p q r u v =
-    let e = out-ends f l h a b t in
-    box e r (le-transitive f l a x (lo-fits f l h e) p r (out-lo f l h a b t) u) (le-transitive f x b h r q (hi-fits f l h e) v (out-hi f l h a b t))
+pub within : (f : Format) (l h a b x : Float) → T (around f l h a b) → T (fits f x) → T (le a x) → T (le x b) → In f l h x
+within f l h a b x t r u v = box (out-ends f l h a b t) r (floats.le_trans l a x (out-lo f l h a b t) u) (floats.le_trans x b h v (out-hi f l h a b t))
 
 pub widen : {f : Format} {lo hi x : Float} (l h : Float) → T (around f l h lo hi) → In f lo hi x → In f l h x
-widen {f} {lo} {hi} {x} l h t i = within f l h lo hi x t (lo-fits f lo hi i.ends-ok) (hi-fits f lo hi i.ends-ok) i.fit i.lower i.upper
+widen {f} {lo} {hi} {x} l h t i = within f l h lo hi x t i.fit i.lower i.upper
 
 -- after a test: an interval cut from above, or from below
 pub cut-above : {f : Format} {lo hi x : Float} (h : Float) → T (ends f lo h) → T (le x h) → In f lo hi x → In f lo h x
@@ -81,7 +80,7 @@ module _ {f : Format} {a b c d x y : Float} (l h : Float) where
       let r = j.ends-ok in
       let u = in-finite i in
       let v = in-finite j in
-      within f l h (add f a c) (add f b d) (add f x y) t (add-fits f a c) (add-fits f b d) (add-fits f x y)
+      within f l h (add f a c) (add f b d) (add f x y) t (add-fits f x y)
       (add-mono f a x c y (lo-fits f a b s) i.fit (lo-fits f c d r) j.fit (lo-finite f a b s) u (lo-finite f c d r) v i.lower j.lower)
       (add-mono f x b y d i.fit (hi-fits f a b s) j.fit (hi-fits f c d r) u (hi-finite f a b s) v (hi-finite f c d r) i.upper j.upper)
 
@@ -91,7 +90,7 @@ module _ {f : Format} {a b c d x y : Float} (l h : Float) where
       let r = j.ends-ok in
       let u = in-finite i in
       let v = in-finite j in
-      within f l h (sub f a d) (sub f b c) (sub f x y) t (sub-fits f a d) (sub-fits f b c) (sub-fits f x y)
+      within f l h (sub f a d) (sub f b c) (sub f x y) t (sub-fits f x y)
       (sub-mono f a x d y (lo-fits f a b s) i.fit (hi-fits f c d r) j.fit (lo-finite f a b s) u (hi-finite f c d r) v i.lower j.upper)
       (sub-mono f x b y c i.fit (hi-fits f a b s) j.fit (lo-fits f c d r) u (hi-finite f a b s) v (lo-finite f c d r) i.upper j.lower)
 
@@ -102,9 +101,9 @@ module _ {f : Format} {a b c d x y : Float} (l h : Float) where
       let r = j.ends-ok in
       let u = in-finite i in
       let v = in-finite j in
-      let x0 = le-transitive f plus_zero a x (plus_zero-fits f) (lo-fits f a b s) i.fit z i.lower in
-      let y0 = le-transitive f plus_zero c y (plus_zero-fits f) (lo-fits f c d r) j.fit w j.lower in
-      within f l h (mul f a c) (mul f b d) (mul f x y) t (mul-fits f a c) (mul-fits f b d) (mul-fits f x y)
+      let x0 = floats.le_trans plus_zero a x z i.lower in
+      let y0 = floats.le_trans plus_zero c y w j.lower in
+      within f l h (mul f a c) (mul f b d) (mul f x y) t (mul-fits f x y)
       (mul_mono f a x c y (lo-fits f a b s) i.fit (lo-fits f c d r) j.fit (lo-finite f a b s) u (lo-finite f c d r) v z w i.lower j.lower)
       (mul_mono f x b y d i.fit (hi-fits f a b s) j.fit (hi-fits f c d r) u (hi-finite f a b s) v (hi-finite f c d r) x0 y0 i.upper j.upper)
 
@@ -115,9 +114,9 @@ module _ {f : Format} {a b c d x y : Float} (l h : Float) where
       let r = j.ends-ok in
       let u = in-finite i in
       let v = in-finite j in
-      let x0 = le-transitive f plus_zero a x (plus_zero-fits f) (lo-fits f a b s) i.fit z i.lower in
-      let y0 = lt-le-lt f plus_zero c y (plus_zero-fits f) (lo-fits f c d r) j.fit w j.lower in
-      within f l h (div f a d) (div f b c) (div f x y) t (div-fits f a d) (div-fits f b c) (div-fits f x y)
+      let x0 = floats.le_trans plus_zero a x z i.lower in
+      let y0 = floats.lt_of_lt_of_le plus_zero c y w j.lower in
+      within f l h (div f a d) (div f b c) (div f x y) t (div-fits f x y)
       (div_mono f a x d y (lo-fits f a b s) i.fit (hi-fits f c d r) j.fit (lo-finite f a b s) u (hi-finite f c d r) v z y0 i.lower j.upper)
       (div_mono f x b y c i.fit (hi-fits f a b s) j.fit (lo-fits f c d r) u (hi-finite f a b s) v (lo-finite f c d r) x0 w i.upper j.lower)
 
@@ -131,7 +130,7 @@ module _ (f : Format) (a c d : Float) (p : T (fits f a)) (q : T (fits f c)) (r :
       C = size_of f c q v z
 
       D : (n : ℕ) × (n < cap f) × At f d (cap f + n)
-      D = size_of f d r w (le-transitive f plus_zero c d (plus_zero-fits f) q r z k)
+      D = size_of f d r w (floats.le_trans plus_zero c d z k)
 
       m : rounded f (mag f a * C.0) (one f * one f) ≤ rounded f (mag f a * D.0) (one f * one f)
       m =
@@ -149,28 +148,28 @@ module _ (f : Format) (a c d : Float) (p : T (fits f a)) (q : T (fits f c)) (r :
       go true a' = le_of (at-d true a') (at_c true a') (omega (arith, m))
 
 -- so between c and d it stays on one side of what both ends stay on
-module _ {f : Format} {c d y : Float} (a l : Float) (p : T (fits f a)) (u : T (finite a)) (t : T (fits f l)) (z : T (le plus_zero c)) (j : In f c d y) where
+module _ {f : Format} {c d y : Float} (a l : Float) (p : T (fits f a)) (u : T (finite a)) (z : T (le plus_zero c)) (j : In f c d y) where
   up-to-y : (s : Bool) → sign a ≡ s → cond s (T (le (mul f a y) (mul f a c))) (T (le (mul f a c) (mul f a y)))
   up-to-y = by_sign f a c y p (lo-fits f c d j.ends-ok) j.fit u (lo-finite f c d j.ends-ok) (in-finite j) z j.lower
 
   from-y : (s : Bool) → sign a ≡ s → cond s (T (le (mul f a d) (mul f a y))) (T (le (mul f a y) (mul f a d)))
   from-y =
       by_sign f a y d p j.fit (hi-fits f c d j.ends-ok) u (in-finite j) (hi-finite f c d j.ends-ok)
-      (le-transitive f plus_zero c y (plus_zero-fits f) (lo-fits f c d j.ends-ok) j.fit z j.lower) j.upper
+      (floats.le_trans plus_zero c y z j.lower) j.upper
 
   above : T (le l (mul f a c)) → T (le l (mul f a d)) → T (le l (mul f a y))
   above m n = go (sign a) refl
     where
       go : (s : Bool) → sign a ≡ s → T (le l (mul f a y))
-      go false e = le-transitive f l (mul f a c) (mul f a y) t (mul-fits f a c) (mul-fits f a y) m (up-to-y false e)
-      go true e = le-transitive f l (mul f a d) (mul f a y) t (mul-fits f a d) (mul-fits f a y) n (from-y true e)
+      go false e = floats.le_trans l (mul f a c) (mul f a y) m (up-to-y false e)
+      go true e = floats.le_trans l (mul f a d) (mul f a y) n (from-y true e)
 
   below : T (le (mul f a c) l) → T (le (mul f a d) l) → T (le (mul f a y) l)
   below m n = go (sign a) refl
     where
       go : (s : Bool) → sign a ≡ s → T (le (mul f a y) l)
-      go false e = le-transitive f (mul f a y) (mul f a d) l (mul-fits f a y) (mul-fits f a d) t (from-y false e) n
-      go true e = le-transitive f (mul f a y) (mul f a c) l (mul-fits f a y) (mul-fits f a c) t (up-to-y true e) m
+      go false e = floats.le_trans (mul f a y) (mul f a d) l (from-y false e) n
+      go true e = floats.le_trans (mul f a y) (mul f a c) l (up-to-y true e) m
 
 module _ {f : Format} {a b c d x y : Float} (l h : Float) where
   -- x of either sign, y from 0 on
@@ -178,17 +177,17 @@ module _ {f : Format} {a b c d x y : Float} (l h : Float) where
   scale_in z t t' i j =
       let s = i.ends-ok in
       let e = out-ends f l h (mul f a c) (mul f b c) t in
-      let y0 = le-transitive f plus_zero c y (plus_zero-fits f) (lo-fits f c d j.ends-ok) j.fit z j.lower in
-      let lo' = above a l (lo-fits f a b s) (lo-finite f a b s) (lo-fits f l h e) z j (out-lo f l h (mul f a c) (mul f b c) t) (out-lo f l h (mul f a d) (mul f b d) t') in
-      let hi' = below b h (hi-fits f a b s) (hi-finite f a b s) (hi-fits f l h e) z j (out-hi f l h (mul f a c) (mul f b c) t) (out-hi f l h (mul f a d) (mul f b d) t') in
+      let y0 = floats.le_trans plus_zero c y z j.lower in
+      let lo' = above a l (lo-fits f a b s) (lo-finite f a b s) z j (out-lo f l h (mul f a c) (mul f b c) t) (out-lo f l h (mul f a d) (mul f b d) t') in
+      let hi' = below b h (hi-fits f a b s) (hi-finite f a b s) z j (out-hi f l h (mul f a c) (mul f b c) t) (out-hi f l h (mul f a d) (mul f b d) t') in
       box e (mul-fits f x y)
-      (le-transitive f l (mul f a y) (mul f x y) (lo-fits f l h e) (mul-fits f a y) (mul-fits f x y) lo' (mul-mono-left f a x y (lo-fits f a b s) i.fit j.fit (lo-finite f a b s) (in-finite i) (in-finite j) y0 i.lower))
-      (le-transitive f (mul f x y) (mul f b y) h (mul-fits f x y) (mul-fits f b y) (hi-fits f l h e) (mul-mono-left f x b y i.fit (hi-fits f a b s) j.fit (in-finite i) (hi-finite f a b s) (in-finite j) y0 i.upper) hi')
+      (floats.le_trans l (mul f a y) (mul f x y) lo' (mul-mono-left f a x y (lo-fits f a b s) i.fit j.fit (lo-finite f a b s) (in-finite i) (in-finite j) y0 i.lower))
+      (floats.le_trans (mul f x y) (mul f b y) h (mul-mono-left f x b y i.fit (hi-fits f a b s) j.fit (in-finite i) (hi-finite f a b s) (in-finite j) y0 i.upper) hi')
 
 -- the whole part
 pub cut_in : {f : Format} {a b x : Float} (w : ℕ) → T (le plus_zero a) → In f a b x → (to_unsigned w a ≤ to_unsigned w x) × (to_unsigned w x ≤ to_unsigned w b)
 cut_in {f} {a} {b} {x} w z i =
     let s = i.ends-ok in
     let u = in-finite i in
-    let x0 = le-transitive f plus_zero a x (plus_zero-fits f) (lo-fits f a b s) i.fit z i.lower in
+    let x0 = floats.le_trans plus_zero a x z i.lower in
     (whole-mono f w a x (lo-fits f a b s) i.fit (lo-finite f a b s) u z i.lower, whole-mono f w x b i.fit (hi-fits f a b s) u (hi-finite f a b s) x0 i.upper)

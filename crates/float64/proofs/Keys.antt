@@ -1,11 +1,12 @@
 -- `At f x k`: x fits f, is no NaN, and has the key k. Each operation's key by those of its operands: so a fact about floats becomes one about natural numbers.
 -- Assumes nothing.
-use Rattle.std.proofs.Common.{◌≡◌, ℕ, zero, suc, ◌+◌, ◌-◌, ◌*◌, ◌/◌, ◌^◌, ◌<◌, ◌≤◌, min, Bool, true, false, cond, not, T, eqb, ltb, leb, ◌⊎◌, ℤ, pos, sym, refl, ap, ◌∙◌, subst, inl, inr, le_trans, le_of_eq, le_refl, lt_of_lt_of_le, lt_of_le_of_lt, mul-le-mul_right, zero-lt-suc, mul_assoc, mul_comm, add-mul, add_comm, lt_of_mul-lt-mul_right, mul-lt-mul_of_pos_right, mul-pos, mul-zero, ne_of_gt, zero-mul, mul-one, le_of_mul-le-mul_right, mul_left_comm, arith, le→leb, ltb→lt, lt→ltb, leb→le, nltb→le, ne_eqb}
-use native.Mathlib.Nat.{zero-div, zero-min, eq-sub_of_add-eq, mul-mul-mul_comm, mul-sub, eq_of_mul-eq-mul_right}
+use Rattle.std.proofs.Common.{◌≡◌, ℕ, zero, suc, ◌+◌, ◌-◌, ◌*◌, ◌/◌, ◌^◌, ◌<◌, ◌≤◌, min, Bool, true, false, cond, not, T, eqb, ltb, leb, ◌⊎◌, ℤ, pos, sym, refl, ap, ◌∙◌, subst, inl, inr, le_refl, zero-lt-suc, mul_assoc, mul_comm, add_comm, mul-pos, mul-zero, ne_of_gt, zero-mul, mul-one, mul_left_comm, arith, le→leb, ltb→lt, lt→ltb, leb→le, nltb→le, ne_eqb}
+use native.Mathlib.Nat.{zero-div, zero-min, eq-sub_of_add-eq, mul-mul-mul_comm, eq_of_mul-eq-mul_right}
 use lib.Dec.{nleb→lt}
 use lib.Ieee.{Float, nan, inf, fin, Format, prec, up, down, unlike, round, sum, add, sub, mul, div, neg, of_int, to_unsigned, fits, is_nan, le, lt}
 use lib.Ieee.Fits.{round-fits, neg-fits, up_pos, down_pos}
 use lib.Ieee.Nearest.{div_same}
+use Rattle.std.proofs.num.Values.{sum_same, sum_comm}
 use Rattle.float64.proofs.Units.{one, cap, one-pos, sign, mag, signed, key, Rep, mag-rep, mag-lt, mag-le, mag-cross, cross-l, cross-r, le-key, lt-key}
 use Rattle.float64.proofs.Round.{rounded, rounded-same, rounded-exact, rounded-zero, rep-whole, whole-lt, round-key, round-num, difference, difference-pos, difference-neg, difference-same}
 
@@ -46,9 +47,6 @@ module _ {f : Format} {x y : Float} {j k : ℕ} (a : At f x j) (b : At f y k) wh
   pub of_lt : T (lt x y) → j < k
   of_lt h = ltb→lt j k (subst T lt-is h)
 
-  pub of-nlt : T (not (lt x y)) → k ≤ j
-  of-nlt h = nltb→le j k (subst (λ (z : Bool). T (not z)) lt-is h)
-
 -- the same for values from 0 on, by their sizes
 module _ {f : Format} {x y : Float} {i j : ℕ} (a : At f x (cap f + i)) (b : At f y (cap f + j)) where
   pub le-of-size : i ≤ j → T (le x y)
@@ -63,35 +61,6 @@ module _ {f : Format} {x y : Float} {i j : ℕ} (a : At f x (cap f + i)) (b : At
   pub size-of-lt : T (lt x y) → i < j
   size-of-lt h = omega (arith, of_lt a b h)
 
--- a test that passes is between numbers
-pub le-num-l : (x y : Float) → T (le x y) → T (not (is_nan x))
-unfolding le is_nan
-le-num-l nan y h = absurd h
-le-num-l (inf s) y h = tt
-le-num-l (fin s m e) y h = tt
-
-pub le-num-r : (x y : Float) → T (le x y) → T (not (is_nan y))
-unfolding le is_nan
-le-num-r nan nan h = absurd h
-le-num-r (inf s) nan h = absurd h
-le-num-r (fin s m e) nan h = absurd h
-le-num-r x (inf s) h = tt
-le-num-r x (fin s m e) h = tt
-
-pub lt-num-l : (x y : Float) → T (lt x y) → T (not (is_nan x))
-unfolding lt is_nan
-lt-num-l nan y h = absurd h
-lt-num-l (inf s) y h = tt
-lt-num-l (fin s m e) y h = tt
-
-pub lt-num-r : (x y : Float) → T (lt x y) → T (not (is_nan y))
-unfolding lt is_nan
-lt-num-r nan nan h = absurd h
-lt-num-r (inf s) nan h = absurd h
-lt-num-r (fin s m e) nan h = absurd h
-lt-num-r x (inf s) h = tt
-lt-num-r x (fin s m e) h = tt
-
 -- ---- a sum
 pos-is : (f : Format) (p n d : ℕ) → n + d ≡ p → difference f p n ≡ cap f + rounded f d (one f)
 pos-is f p n d e = difference-pos f p n (omega arith) ∙ ap (λ (z : ℕ). cap f + rounded f z (one f)) (sym (eq-sub_of_add-eq d n (add_comm d n ∙ e)))
@@ -99,55 +68,31 @@ pos-is f p n d e = difference-pos f p n (omega arith) ∙ ap (λ (z : ℕ). cap 
 neg_is : (f : Format) (p n d : ℕ) → p + d ≡ n → difference f p n ≡ cap f - rounded f d (one f)
 neg_is f p n d e = difference-neg f p n (omega arith) ∙ ap (λ (z : ℕ). cap f - rounded f z (one f)) (sym (eq-sub_of_add-eq d p (add_comm d p ∙ e)))
 
-module _ (f : Format) (a b c X Y : ℕ) (C : 0 < c) (h : a * one f ≡ X * c) (k : b * one f ≡ Y * c) (x : X < cap f) (y : Y < cap f) where
-  plus : rounded f (a + b) c ≡ rounded f (X + Y) (one f)
-  plus = rounded-same f (a + b) c (X + Y) (one f) C (one-pos f) (add-mul a b (one f) ∙ ap (λ (z : ℕ). z + b * one f) h ∙ ap (λ (z : ℕ). X * c + z) k ∙ sym (add-mul X Y c))
-
--- (a - b) / c is (X - Y) / one
-less : (f : Format) (a b c X Y : ℕ) → 0 < c → a * one f ≡ X * c → b * one f ≡ Y * c → rounded f (a - b) c ≡ rounded f (X - Y) (one f)
-less f a b c X Y C h k =
-    rounded-same f (a - b) c (X - Y) (one f) C (one-pos f)
-    (mul_comm (a - b) (one f)
-    ∙ mul-sub (one f) a b
-    ∙ ap (λ (z : ℕ). z - one f * b) (mul_comm (one f) a ∙ h ∙ mul_comm X c)
-    ∙ ap (λ (z : ℕ). c * X - z) (mul_comm (one f) b ∙ k ∙ mul_comm Y c)
-    ∙ sym (mul-sub c X Y)
-    ∙ mul_comm c (X - Y))
-
-lt-over : (o c a b X Y : ℕ) → 0 < o → a * o ≡ X * c → b * o ≡ Y * c → a < b → X < Y
-lt-over o c a b X Y O h k l = lt_of_mul-lt-mul_right c (lt_of_le_of_lt (le_of_eq (sym h)) (lt_of_lt_of_le (mul-lt-mul_of_pos_right l O) (le_of_eq k)))
-
-le-over : (o c a b X Y : ℕ) → 0 < c → a * o ≡ X * c → b * o ≡ Y * c → a ≤ b → X ≤ Y
-le-over o c a b X Y C h k l = le_of_mul-le-mul_right (le_trans (le_of_eq (sym h)) (le_trans (mul-le-mul_right o l) (le_of_eq k))) C
+-- X units less Y units
+less-at : (f : Format) (X Y : ℕ) → X < cap f → Y < cap f → At f (sum f false X true Y (one f)) (difference f (cap f + X + (cap f - Y)) (cap f + cap f))
+unfolding sum
+less-at f X Y x y = go (ltb X Y) (ltb→lt X Y) (nltb→le X Y)
+  where
+    go : (t : Bool) → (T t → X < Y) → (T (not t) → Y ≤ X) → At f (cond t (round f true (Y - X) (one f)) (round f false (X - Y) (one f))) (difference f (cap f + X + (cap f - Y)) (cap f + cap f))
+    go true p q = let l = p tt in rekeyed (round-at f true (Y - X) (one f)) (sym (neg_is f (cap f + X + (cap f - Y)) (cap f + cap f) (Y - X) (omega arith)))
+    go false p q = let l = q tt in rekeyed (round-at f false (X - Y) (one f)) (sym (pos-is f (cap f + X + (cap f - Y)) (cap f + cap f) (X - Y) (omega arith)))
 
 module _ (f : Format) (a b c X Y : ℕ) (C : 0 < c) (h : a * one f ≡ X * c) (k : b * one f ≡ Y * c) (x : X < cap f) (y : Y < cap f) where
-  sum-at : (s t : Bool) → At f (sum f s a t b c) (difference f (signed (cap f) s X + signed (cap f) t Y) (cap f + cap f))
+  abbrev sum_key : Bool → Bool → ℕ
+  sum_key s t = difference f (signed (cap f) s X + signed (cap f) t Y) (cap f + cap f)
+
+  units-at : (s t : Bool) → At f (sum f s X t Y (one f)) (sum_key s t)
   unfolding sum
-  sum-at false false = rekeyed (round-at f false (a + b) c) (ap (λ (z : ℕ). cap f + z) (plus f a b c X Y C h k x y) ∙ sym (pos-is f (cap f + X + (cap f + Y)) (cap f + cap f) (X + Y) (omega arith)))
-  sum-at true true = rekeyed (round-at f true (a + b) c) (ap (λ (z : ℕ). cap f - z) (plus f a b c X Y C h k x y) ∙ sym (neg_is f (cap f - X + (cap f - Y)) (cap f + cap f) (X + Y) (omega arith)))
-  sum-at false true = go (ltb a b) (ltb→lt a b) (nltb→le a b)
-    where
-      go : (t : Bool) → (T t → a < b) → (T (not t) → b ≤ a) → At f (cond t (round f true (b - a) c) (round f false (a - b) c)) (difference f (cap f + X + (cap f - Y)) (cap f + cap f))
-      go true p q =
-          let l = lt-over (one f) c a b X Y (one-pos f) h k (p tt) in
-          rekeyed (round-at f true (b - a) c) (ap (λ (z : ℕ). cap f - z) (less f b a c Y X C k h) ∙ sym (neg_is f (cap f + X + (cap f - Y)) (cap f + cap f) (Y - X) (omega arith)))
-      go false p q =
-          let l = le-over (one f) c b a Y X C k h (q tt) in
-          rekeyed (round-at f false (a - b) c) (ap (λ (z : ℕ). cap f + z) (less f a b c X Y C h k) ∙ sym (pos-is f (cap f + X + (cap f - Y)) (cap f + cap f) (X - Y) (omega arith)))
-  sum-at true false = go (ltb a b) (ltb b a) (ltb→lt a b) (nltb→le a b) (nltb→le b a)
-    where
-      go : (t u : Bool) → (T t → a < b) → (T (not t) → b ≤ a) → (T (not u) → a ≤ b)
-          → At f (cond t (round f false (b - a) c) (round f u (a - b) c)) (difference f (cap f - X + (cap f + Y)) (cap f + cap f))
-      go true u p q r =
-          let l = lt-over (one f) c a b X Y (one-pos f) h k (p tt) in
-          rekeyed (round-at f false (b - a) c) (ap (λ (z : ℕ). cap f + z) (less f b a c Y X C k h) ∙ sym (pos-is f (cap f - X + (cap f + Y)) (cap f + cap f) (Y - X) (omega arith)))
-      go false true p q r =
-          let l = le-over (one f) c b a Y X C k h (q tt) in
-          rekeyed (round-at f true (a - b) c) (ap (λ (z : ℕ). cap f - z) (less f a b c X Y C h k) ∙ sym (neg_is f (cap f - X + (cap f + Y)) (cap f + cap f) (X - Y) (omega arith)))
-      go false false p q r =
-          let l = le-over (one f) c b a Y X C k h (q tt) in
-          let m = le-over (one f) c a b X Y C h k (r tt) in
-          rekeyed (round-at f false (a - b) c) (ap (λ (z : ℕ). cap f + z) (less f a b c X Y C h k) ∙ sym (pos-is f (cap f - X + (cap f + Y)) (cap f + cap f) (X - Y) (omega arith)))
+  units-at false false = rekeyed (round-at f false (X + Y) (one f)) (sym (pos-is f (cap f + X + (cap f + Y)) (cap f + cap f) (X + Y) (omega arith)))
+  units-at true true = rekeyed (round-at f true (X + Y) (one f)) (sym (neg_is f (cap f - X + (cap f - Y)) (cap f + cap f) (X + Y) (omega arith)))
+  units-at false true = less-at f X Y x y
+  units-at true false =
+      subst (λ (z : Float). At f z (sum_key true false)) (sum_comm f false true Y X (one f))
+      (rekeyed (less-at f Y X y x) (ap (λ (n : ℕ). difference f n (cap f + cap f)) (add_comm (cap f + Y) (cap f - X))))
+
+  -- a / c and b / c are X and Y units
+  sum-at : (s t : Bool) → At f (sum f s a t b c) (sum_key s t)
+  sum-at s t = subst (λ (z : Float). At f z (sum_key s t)) (sym (sum_same f s t a b c X Y (one f) C (one-pos f) h k)) (units-at s t)
 
 -- a key strictly between those of the infinities is a finite value's
 abbrev pub Fin : Format → ℕ → Type 0
@@ -273,8 +218,9 @@ div-cross o M N de dd X Y O h k =
     r' : N * o * (X * de) ≡ X * (N * de) * o
     r' = simp (mul_assoc, mul_comm, mul_left_comm)
 
-mag-zero : (f : Format) (s : Bool) (d : ℤ) → T (fits f (fin s zero d)) → mag f (fin s zero d) ≡ 0
-mag-zero f s d h = eq_of_mul-eq-mul_right (down d) (down_pos d) (mag f (fin s zero d)) 0 (sym (mag-cross f s zero d h) ∙ ap (λ (z : ℕ). z * one f) (zero-mul (up d)) ∙ zero-mul (one f) ∙ sym (zero-mul (down d)))
+mag-zero : (f : Format) (s : Bool) (d : ℤ) → mag f (fin s zero d) ≡ 0
+unfolding mag
+mag-zero f s d = rw (zero-mul (up d), zero-mul (one f), zero-div (down d))
 
 div-fin : (f : Format) (x y : Float) (s t : Bool) (a b : ℕ) → At f x (signed (cap f) s a) → At f y (signed (cap f) t b) → a < cap f → b < cap f → 0 < b → Fin f (key f x) → Fin f (key f y)
     → At f (div f x y) (signed (cap f) (unlike s t) (rounded f a b))
@@ -284,7 +230,7 @@ div-fin f (inf r) y s t a b x' y' p q B u v = absurd (inf-key (cap f) r u.0 u.1)
 div-fin f (fin s' m e) nan s t a b x' y' p q B u v = absurd y'.num
 div-fin f (fin s' m e) (inf r) s t a b x' y' p q B u v = absurd (inf-key (cap f) r v.0 v.1)
 div-fin f (fin s' m e) (fin t' zero d) s t a b x' y' p q B u v =
-    absurd (ne_of_gt B (sym (same_size (cap f) (mag f (fin t' zero d)) b t' t (mag-lt f (fin t' zero d) y'.fit tt) q y'.is) ∙ mag-zero f t' d y'.fit))
+    absurd (ne_of_gt B (sym (same_size (cap f) (mag f (fin t' zero d)) b t' t (mag-lt f (fin t' zero d) y'.fit tt) q y'.is) ∙ mag-zero f t' d))
 div-fin f (fin s' m e) (fin t' (suc n) d) s t a b x' y' p q B u v =
     let X = mag f (fin s' m e) in
     let Y = mag f (fin t' (suc n) d) in

@@ -1,4 +1,5 @@
--- The float laws. A client needs Interval, Ranges, Clamped, Scaled, Phase, Glide, Parts and Lengths; what is below them counts values in units of the smallest one. Assumes nothing.
+-- The float laws. A client needs Interval, Ranges, Clamped, Scaled, Phase, Glide, Parts and Lengths, and its attributes Literals; what is below them counts values in units of the smallest one. Assumes nothing.
+pub mod Literals
 pub mod Units
 pub mod Round
 pub mod Keys

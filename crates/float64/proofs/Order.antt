@@ -1,57 +1,21 @@
 -- The order on values that fit a format and are no NaN, and the operations that keep it: sum, difference, product, quotient, whole part. Assumes nothing.
-use Rattle.std.proofs.Common.{◌≡◌, ℕ, ◌+◌, ◌-◌, ◌*◌, ◌/◌, ◌^◌, ◌<◌, ◌≤◌, min, Bool, true, false, not, T, pos, sym, refl, ap, ◌∙◌, le_trans, le_of_eq, le_refl, mul-le-mul_right, mul-le-mul, mul-pos, zero-mul, arith, pow_pos}
+use Rattle.std.proofs.Common.{◌≡◌, ℕ, ◌+◌, ◌-◌, ◌*◌, ◌/◌, ◌^◌, ◌<◌, ◌≤◌, min, Bool, true, false, not, T, pos, sym, refl, ap, ◌∙◌, le_trans, le_of_eq, mul-le-mul_right, mul-le-mul, mul-pos, zero-mul, arith, pow_pos}
 use native.Mathlib.Nat.{eq_of_mul-eq-mul_right}
+use Rattle.std.proofs.lemmas.Float as floats
+use Rattle.std.proofs.lemmas.Bool.{false_from_ne_true}
 use lib.Ieee.{Float, nan, inf, fin, Format, unlike, add, sub, mul, div, to_unsigned, fits, is_nan, le, lt}
 use lib.Ieee.Scale.{finite}
 use Rattle.float64.specs.Number.{plus_zero}
 use Rattle.float64.proofs.Units.{one, cap, one-pos, sign, mag, signed, key, mag-lt, mag-cross}
 use Rattle.float64.proofs.Round.{rounded, rounded-mono, rounded-zero, difference-mono}
-use Rattle.float64.proofs.Keys.{At, at, rekeyed, le_of, of_le, of-nle, lt_of, of_lt, of-nlt, le-of-size, size-of-le, size-of-lt, le-num-l, le-num-r, lt-num-l, lt-num-r, Fin, inf-key, signed-fin, add_at, sub_at, mul_at, div-at, to_unsigned-at}
+use Rattle.float64.proofs.Keys.{At, at, rekeyed, le_of, of_le, le-of-size, size-of-le, size-of-lt, Fin, inf-key, signed-fin, add_at, sub_at, mul_at, div-at, to_unsigned-at}
 
--- ---- the order
-module _ (f : Format) where
-  pub le-reflexive : (x : Float) → T (fits f x) → T (not (is_nan x)) → T (le x x)
-  le-reflexive x a p = let h = at f x a p in le_of h h (le_refl (key f x))
+-- ---- the order: the library's laws, asked nothing of what fits
+pub le-transitive : (f : Format) (x y z : Float) → T (fits f x) → T (fits f y) → T (fits f z) → T (le x y) → T (le y z) → T (le x z)
+le-transitive f x y z a b c h k = floats.le_trans x y z h k
 
-  pub le-transitive : (x y z : Float) → T (fits f x) → T (fits f y) → T (fits f z) → T (le x y) → T (le y z) → T (le x z)
-  le-transitive x y z a b c h k =
-      let x' = at f x a (le-num-l x y h) in
-      let y' = at f y b (le-num-r x y h) in
-      let z' = at f z c (le-num-r y z k) in
-      le_of x' z' (le_trans (of_le x' y' h) (of_le y' z' k))
-
-  pub lt→le : (x y : Float) → T (fits f x) → T (fits f y) → T (lt x y) → T (le x y)
-  lt→le x y a b h = let x' = at f x a (lt-num-l x y h) in let y' = at f y b (lt-num-r x y h) in le_of x' y' (omega (arith, of_lt x' y' h))
-
-  pub not-lt→le : (x y : Float) → T (fits f x) → T (fits f y) → T (not (is_nan x)) → T (not (is_nan y)) → T (not (lt x y)) → T (le y x)
-  not-lt→le x y a b p q h = let x' = at f x a p in let y' = at f y b q in le_of y' x' (of-nlt x' y' h)
-
-  pub not-le→lt : (x y : Float) → T (fits f x) → T (fits f y) → T (not (is_nan x)) → T (not (is_nan y)) → T (not (le x y)) → T (lt y x)
-  not-le→lt x y a b p q h = let x' = at f x a p in let y' = at f y b q in lt_of y' x' (of-nle x' y' h)
-
-  pub le→not-lt : (x y : Float) → T (fits f x) → T (fits f y) → T (le x y) → lt y x ≡ false
-  le→not-lt x y a b h =
-      let x' = at f x a (le-num-l x y h) in
-      let y' = at f y b (le-num-r x y h) in
-      go (lt y x) (λ t. absurd (omega (arith, of_le x' y' h, of_lt y' x' t)))
-    where
-      go : (b : Bool) → (T b → ⊥) → b ≡ false
-      go true k = absurd (k tt)
-      go false k = refl
-
-  pub lt-le-lt : (x y z : Float) → T (fits f x) → T (fits f y) → T (fits f z) → T (lt x y) → T (le y z) → T (lt x z)
-  lt-le-lt x y z a b c h k =
-      let x' = at f x a (lt-num-l x y h) in
-      let y' = at f y b (lt-num-r x y h) in
-      let z' = at f z c (le-num-r y z k) in
-      lt_of x' z' (omega (arith, of_lt x' y' h, of_le y' z' k))
-
-  pub le-lt-lt : (x y z : Float) → T (fits f x) → T (fits f y) → T (fits f z) → T (le x y) → T (lt y z) → T (lt x z)
-  le-lt-lt x y z a b c h k =
-      let x' = at f x a (le-num-l x y h) in
-      let y' = at f y b (le-num-r x y h) in
-      let z' = at f z c (lt-num-r y z k) in
-      lt_of x' z' (omega (arith, of_le x' y' h, of_lt y' z' k))
+pub le→not-lt : (f : Format) (x y : Float) → T (fits f x) → T (fits f y) → T (le x y) → lt y x ≡ false
+le→not-lt f x y a b h = false_from_ne_true (lt y x) (λ e. floats.lt_irrefl x (floats.lt_of_le_of_lt x y x h (floats.T_from_true (lt y x) e)))
 
 -- ---- finite values
 pub finite-num : (x : Float) → T (finite x) → T (not (is_nan x))
@@ -72,7 +36,7 @@ finite-key f x a h = signed-fin (cap f) (mag f x) (sign x) (mag-lt f x a h)
 -- what lies between two finite values is finite
 pub between-finite : (f : Format) (lo x hi : Float) → T (fits f lo) → T (fits f x) → T (fits f hi) → T (finite lo) → T (finite hi) → T (le lo x) → T (le x hi) → T (finite x)
 between-finite f lo x hi a b c p q h k =
-    let n = le-num-r lo x h in
+    let n = floats.le_right lo x h in
     let l = of_le (at f lo a (finite-num lo p)) (at f x b n) h in
     let m = of_le (at f x b n) (at f hi c (finite-num hi q)) k in
     of-key f x n (le_trans (finite-key f lo a p).0 l) (omega (arith, (finite-key f hi c q).1))
@@ -138,9 +102,9 @@ module _ (f : Format) where
     pub mul_mono : T (le plus_zero a) → T (le plus_zero c) → T (le a b) → T (le c d) → T (le (mul f a c) (mul f b d))
     mul_mono h k l m =
         let A = size_of f a x p h in
-        let B = size_of f b y q (le-transitive f plus_zero a b (plus_zero-fits f) x y h l) in
+        let B = size_of f b y q (floats.le_trans plus_zero a b h l) in
         let C = size_of f c z r k in
-        let D = size_of f d w s (le-transitive f plus_zero c d (plus_zero-fits f) z w k m) in
+        let D = size_of f d w s (floats.le_trans plus_zero c d k m) in
         let o = one f * one f in
         let O : 0 < o = mul-pos (one-pos f) (one-pos f) in
         le-of-size (mul_at false false A.0 C.0 A.2 C.2 A.1 C.1) (mul_at false false B.0 D.0 B.2 D.2 B.1 D.1)
@@ -149,11 +113,11 @@ module _ (f : Format) where
     -- 0 ≤ a ≤ b and 0 < d ≤ c: a / c ≤ b / d
     pub div_mono : T (le plus_zero a) → T (lt plus_zero d) → T (le a b) → T (le d c) → T (le (div f a c) (div f b d))
     div_mono h k l m =
-        let k' = lt→le f plus_zero d (plus_zero-fits f) w k in
+        let k' = floats.le_of_lt plus_zero d k in
         let A = size_of f a x p h in
-        let B = size_of f b y q (le-transitive f plus_zero a b (plus_zero-fits f) x y h l) in
+        let B = size_of f b y q (floats.le_trans plus_zero a b h l) in
         let D = size_of f d w s k' in
-        let C = size_of f c z r (le-transitive f plus_zero d c (plus_zero-fits f) w z k' m) in
+        let C = size_of f c z r (floats.le_trans plus_zero d c k' m) in
         let D' : 0 < D.0 = size-of-lt (plus_zero-at f) D.2 k in
         let C' : 0 < C.0 = le_trans D' (size-of-le D.2 C.2 m) in
         le-of-size (div-at false false A.0 C.0 A.2 C.2 A.1 C.1 C') (div-at false false B.0 D.0 B.2 D.2 B.1 D.1 D')
@@ -181,7 +145,7 @@ module _ (f : Format) where
   pub whole-mono : (w : ℕ) (a b : Float) → T (fits f a) → T (fits f b) → T (finite a) → T (finite b) → T (le plus_zero a) → T (le a b) → to_unsigned w a ≤ to_unsigned w b
   whole-mono w a b x y p q h l =
       let A = size_of f a x p h in
-      let B = size_of f b y q (le-transitive f plus_zero a b (plus_zero-fits f) x y h l) in
+      let B = size_of f b y q (floats.le_trans plus_zero a b h l) in
       let m = lib.Ieee.Nearest.div_mono A.0 (one f) B.0 (one f) (one-pos f) (one-pos f) (mul-le-mul_right (one f) (size-of-le A.2 B.2 l)) in
       le_trans (le_of_eq (to_unsigned-at w A.0 A.2 A.1)) (le_trans (both (A.0 / one f) (B.0 / one f) (2 ^ w - 1) m) (le_of_eq (sym (to_unsigned-at w B.0 B.2 B.1))))
     where

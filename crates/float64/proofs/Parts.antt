@@ -3,22 +3,24 @@
 use Rattle.std.proofs.Common.{◌≡◌, ℕ, ◌^◌, ◌<◌, ◌≤◌, true, ◌&&◌, nat_le, T, sym, zero-le, le_trans, le_of_eq, le_of_mul-le-mul_right, mul-le-mul_right, one-mul, le-div_iff_mul-le, arith, lit<}
 use Rattle.std.specs.Cmp.{both_ways}
 use Rattle.std.proofs.lemmas.Bool.{leb-true, le-leb}
+use Rattle.std.proofs.lemmas.Float as floats
 use lib.Ieee.{Float, binary64, fits, le, lt, of_int}
+use lib.Ieee.Bits.{is_true}
 use lib.Ieee.Fits.{and_i}
 use lib.Ieee.Scale.{finite}
 use Rattle.float64.specs.Number.{plus_zero, float_of, whole_part, Small, is_number, in_range, clamp_of}
 use Rattle.float64.proofs.Units.{one, one-pos}
 use Rattle.float64.proofs.Keys.{le-of-size, size-of-le, of_int-at}
-use Rattle.float64.proofs.Order.{plus_zero-at, le-lt-lt, le-transitive}
+use Rattle.float64.proofs.Order.{plus_zero-at}
 use Rattle.float64.proofs.Interval.{In, ends, box, in-finite}
-use Rattle.float64.proofs.Ranges.{is-true, yes}
+use Rattle.float64.proofs.Ranges.{yes}
 use Rattle.float64.proofs.Wholes.{count, whole_le, whole_is}
 use Rattle.float64.proofs.Clamped.{clamp-in}
 
 -- up to 2 ^ 24 it is in the range of `whole_part_small`
 pub small-in : {x : Float} → In binary64 (float_of 1) (float_of 16777216) x → Small x
 unfolding fits lt of_int
-small-in {x} i = (i.lower, le-lt-lt binary64 x (float_of 16777216) (float_of (2 ^ 52)) i.fit tt tt i.upper tt)
+small-in {x} i = (i.lower, floats.lt_of_le_of_lt x (float_of 16777216) (float_of (2 ^ 52)) i.upper tt)
 
 pub record Parts (M : ℕ) (x : Float) : Type 0 where
   pub at_least : 1 ≤ whole_part x
@@ -53,7 +55,7 @@ module _ (M : ℕ) (h : M ≤ 2 ^ 24) where
       let n = k.n in
       let x' = k.place in
       let e = whole_is M wide k.high x' in
-      let top : T (le x (float_of 16777216)) = le-transitive B x (float_of M) (float_of 16777216) i.fit whole_in.fit tt i.upper whole_in.upper in
+      let top : T (le x (float_of 16777216)) = floats.le_trans x (float_of M) (float_of 16777216) i.upper whole_in.upper in
       record {
         at_least = le_trans ((le-div_iff_mul-le (one-pos B)).1 (le_trans (le_of_eq (one-mul o)) k.low)) (le_of_eq (sym e));
         at-most = le_trans (le_of_eq e) (whole_le M wide k.high x');
@@ -79,9 +81,9 @@ le-whole a b h k =
     let y = of_int-at binary64 b k in
     both_ways (le (float_of a) (float_of b)) (nat_le a b)
     (λ t. le-leb a b (le_of_mul-le-mul_right (size-of-le x y (yes t)) (one-pos binary64)))
-    (λ t. is-true (le (float_of a) (float_of b)) (le-of-size x y (mul-le-mul_right (one binary64) (leb-true a b t))))
+    (λ t. is_true (le (float_of a) (float_of b)) (le-of-size x y (mul-le-mul_right (one binary64) (leb-true a b t))))
 
 -- so that a range between whole numbers has those that it has as floats
 pub range-whole : (a n b : ℕ) → a < 2 ^ 53 → n < 2 ^ 53 → b < 2 ^ 53 → in_range (float_of n) (float_of a) (float_of b) ≡ (nat_le a n && nat_le n b)
 unfolding in_range
-range-whole a n b h k l = rw (is-true (fits binary64 (float_of n)) ((of_int-at binary64 n k).fit), le-whole a n h k, le-whole n b k l)
+range-whole a n b h k l = rw (is_true (fits binary64 (float_of n)) ((of_int-at binary64 n k).fit), le-whole a n h k, le-whole n b k l)

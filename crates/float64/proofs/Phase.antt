@@ -1,9 +1,10 @@
 -- A phase, 0 ≤ p < 1, moved on by a step from 0 to 1/2 and brought back by 1 from 1 on, is a phase again. A frequency over a rate is such a step, and so is a frequency
 -- raised by a factor of up to 1.1, as the chorus's voices have it. Assumes nothing.
 use Rattle.std.proofs.Common.{◌≡◌, Bool, true, false, cond, refl}
+use Rattle.std.proofs.lemmas.Float as floats
 use lib.Ieee.{Float, binary64, add, sub, mul, div, fits, is_nan, le, lt, of_int}
 use Rattle.float64.specs.Number.{plus_zero, float_of, fraction, half, phase_fits, frequency_fits, rate_fits}
-use Rattle.float64.proofs.Order.{finite-num, lt→le, le-lt-lt, not-le→lt}
+use Rattle.float64.proofs.Order.{finite-num}
 use Rattle.float64.proofs.Interval.{In, point, in-finite, cut-above, cut_below, widen, add-in, sub_in, mul_in, div-in}
 use Rattle.float64.proofs.Ranges.{yes, no, unit-in, in-unit, rate-in, frequency-in}
 
@@ -24,10 +25,10 @@ phase-advanced p {s} h i = go (le (float_of 1) q) refl
     go : (b : Bool) → le (float_of 1) (add binary64 p s) ≡ b → phase_fits (cond b (sub binary64 (add binary64 p s) (float_of 1)) (add binary64 p s)) ≡ true
     go true e =
         let d = sub_in plus_zero half tt (cut_below (float_of 1) tt (yes e) r) (point (float_of 1) tt) in
-        in-unit (widen plus_zero (float_of 1) tt d) (le-lt-lt binary64 (sub binary64 q (float_of 1)) half (float_of 1) d.fit tt tt d.upper tt)
+        in-unit (widen plus_zero (float_of 1) tt d) (floats.lt_of_le_of_lt (sub binary64 q (float_of 1)) half (float_of 1) d.upper tt)
     go false e =
-        let l = not-le→lt binary64 (float_of 1) q tt r.fit tt (finite-num q (in-finite r)) (no e) in
-        in-unit (cut-above (float_of 1) tt (lt→le binary64 q (float_of 1) r.fit tt l) r) l
+        let l = floats.lt_of_not-le (float_of 1) q tt (finite-num q (in-finite r)) (no e) in
+        in-unit (cut-above (float_of 1) tt (floats.le_of_lt q (float_of 1) l) r) l
 
 module _ (f r : Float) (h : frequency_fits f ≡ true) (k : rate_fits r ≡ true) where
   -- ---- steps

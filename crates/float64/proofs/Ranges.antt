@@ -1,11 +1,13 @@
 -- From the tests of `Number` to intervals and back: a value that passes `in_range` or `in_unit` lies in the interval, what lies there passes, and what passes is a number.
 -- Assumes nothing.
-use Rattle.std.proofs.Common.{◌≡◌, Bool, true, false, not, ◌&&◌, T, sym, refl, subst}
+use Rattle.std.proofs.Common.{◌≡◌, Bool, true, false, not, ◌&&◌, T, sym, subst}
+use Rattle.std.proofs.lemmas.Float as floats
 use lib.Ieee.{Float, binary64, fits, is_nan, neg, le, lt, of_int}
+use lib.Ieee.Bits.{is_true}
 use lib.Ieee.Fits.{and_l, and_r, and_i}
 use lib.Ieee.Scale.{finite}
 use Rattle.float64.specs.Number.{plus_zero, float_of, is_number, is_finite, in_range, in_unit, rate_fits, frequency_fits, sine_fits}
-use Rattle.float64.proofs.Order.{lt→le, finite-num}
+use Rattle.float64.proofs.Order.{finite-num}
 use Rattle.float64.proofs.Interval.{In, ends, box, in-finite}
 
 -- ---- a test that passed, and one that did not
@@ -14,10 +16,6 @@ yes h = subst T (sym h) tt
 
 pub no : {b : Bool} → b ≡ false → T (not b)
 no h = subst (λ (b : Bool). T (not b)) (sym h) tt
-
-pub is-true : (b : Bool) → T b → b ≡ true
-is-true true t = refl
-is-true false t = absurd t
 
 -- ---- numbers
 pub number_fits : (x : Float) → is_number x ≡ true → T (fits binary64 x)
@@ -36,11 +34,11 @@ pub finite_number : (x : Float) → is_finite x ≡ true → is_number x ≡ tru
 unfolding is_number
 finite_number x h =
     let f = finite-parts x h in
-    is-true (fits binary64 x && not (is_nan x)) (and_i (fits binary64 x) (not (is_nan x)) f.0 (finite-num x f.1))
+    is_true (fits binary64 x && not (is_nan x)) (and_i (fits binary64 x) (not (is_nan x)) f.0 (finite-num x f.1))
 
 pub in-number : {lo hi x : Float} → In binary64 lo hi x → is_number x ≡ true
 unfolding is_number
-in-number {lo} {hi} {x} i = is-true (fits binary64 x && not (is_nan x)) (and_i (fits binary64 x) (not (is_nan x)) i.fit (finite-num x (in-finite i)))
+in-number {lo} {hi} {x} i = is_true (fits binary64 x && not (is_nan x)) (and_i (fits binary64 x) (not (is_nan x)) i.fit (finite-num x (in-finite i)))
 
 -- ---- lo ≤ x ≤ hi
 pub range-in : {x lo hi : Float} → T (ends binary64 lo hi) → in_range x lo hi ≡ true → In binary64 lo hi x
@@ -51,7 +49,7 @@ range-in {x} {lo} {hi} t h =
 
 pub in-range : {x lo hi : Float} → In binary64 lo hi x → in_range x lo hi ≡ true
 unfolding in_range
-in-range {x} {lo} {hi} i = is-true (fits binary64 x && (le lo x && le x hi)) (and_i (fits binary64 x) (le lo x && le x hi) i.fit (and_i (le lo x) (le x hi) i.lower i.upper))
+in-range {x} {lo} {hi} i = is_true (fits binary64 x && (le lo x && le x hi)) (and_i (fits binary64 x) (le lo x && le x hi) i.fit (and_i (le lo x) (le x hi) i.lower i.upper))
 
 -- ---- 0 ≤ x < 1
 pub unit-lt : (x : Float) → in_unit x ≡ true → T (lt x (float_of 1))
@@ -62,11 +60,11 @@ pub unit-in : {x : Float} → in_unit x ≡ true → In binary64 plus_zero (floa
 unfolding in_unit fits of_int
 unit-in {x} h =
     let a = and_l (fits binary64 x) (le plus_zero x && lt x (float_of 1)) (yes h) in
-    box tt a (and_l (le plus_zero x) (lt x (float_of 1)) (and_r (fits binary64 x) (le plus_zero x && lt x (float_of 1)) (yes h))) (lt→le binary64 x (float_of 1) a tt (unit-lt x h))
+    box tt a (and_l (le plus_zero x) (lt x (float_of 1)) (and_r (fits binary64 x) (le plus_zero x && lt x (float_of 1)) (yes h))) (floats.le_of_lt x (float_of 1) (unit-lt x h))
 
 pub in-unit : {x : Float} → In binary64 plus_zero (float_of 1) x → T (lt x (float_of 1)) → in_unit x ≡ true
 unfolding in_unit
-in-unit {x} i k = is-true (fits binary64 x && (le plus_zero x && lt x (float_of 1))) (and_i (fits binary64 x) (le plus_zero x && lt x (float_of 1)) i.fit (and_i (le plus_zero x) (lt x (float_of 1)) i.lower k))
+in-unit {x} i k = is_true (fits binary64 x && (le plus_zero x && lt x (float_of 1))) (and_i (fits binary64 x) (le plus_zero x && lt x (float_of 1)) i.fit (and_i (le plus_zero x) (lt x (float_of 1)) i.lower k))
 
 -- ---- the accepted rates, frequencies and sines
 pub rate-in : {r : Float} → rate_fits r ≡ true → In binary64 (float_of 8000) (float_of 192000) r

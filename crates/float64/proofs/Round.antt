@@ -8,6 +8,7 @@ use lib.Ieee.Fits.{round-fits, round_is, reach}
 use lib.Ieee.Exact.{round_exact}
 use lib.Ieee.Order.{round_mono, kept, drop}
 use lib.Ieee.Scale.{finite}
+use Rattle.std.proofs.num.Values.{neg-round}
 use Rattle.float64.proofs.Units.{one, cap, one-pos, cap-pos, cap-is, sign, mag, signed, key, Rep, mag-rep, mag-of-value, le-key}
 
 -- ---- what `round` makes: a number with the sign that it is handed
@@ -17,23 +18,10 @@ mag-neg f nan = refl
 mag-neg f (inf s) = refl
 mag-neg f (fin s m e) = refl
 
-odd-neg : (d q k l : ℕ) → odd d true q k l ≡ neg (odd d false q k l)
-unfolding odd neg
-odd-neg d zero k l = refl
-odd-neg d (suc q) k l = refl
-
 odd_shape : (d : ℕ) (s : Bool) (q k l : ℕ) → (sign (odd d s q k l) ≡ s) × T (not (is_nan (odd d s q k l)))
 unfolding odd sign is_nan
 odd_shape d s zero k l = (refl, tt)
 odd_shape d s (suc q) k l = (refl, tt)
-
-units-neg : (f : Format) (q k : ℕ) → units f true q k ≡ neg (units f false q k)
-unfolding units
-units-neg f q k = go (ltb (q * 2 ^ k) (2 ^ (low f + suc (emax f))))
-  where
-    go : (b : Bool) → cond b (odd (suc (prec f)) true q k (low f)) (inf true) ≡ neg (cond b (odd (suc (prec f)) false q k (low f)) (inf false))
-    go true = odd-neg (suc (prec f)) q k (low f)
-    go false = unfold neg in refl
 
 units-shape : (f : Format) (s : Bool) (q k : ℕ) → (sign (units f s q k) ≡ s) × T (not (is_nan (units f s q k)))
 unfolding units
@@ -50,9 +38,6 @@ round-shape f s a c =
 pub round-num : (f : Format) (s : Bool) (a c : ℕ) → T (not (is_nan (round f s a c)))
 round-num f s a c = (round-shape f s a c).1
 
-pub round-neg : (f : Format) (a c : ℕ) → round f true a c ≡ neg (round f false a c)
-round-neg f a c = round_is f true a c ∙ units-neg f (kept (prec f) (a * 2 ^ low f) c) (drop (prec f) (a * 2 ^ low f) c) ∙ ap neg (sym (round_is f false a c))
-
 -- ---- a fraction rounded, in units
 unfoldable pub rounded : Format → ℕ → ℕ → ℕ
 unfolding mag round
@@ -63,7 +48,7 @@ unfolding key rounded
 round-key f false a c = ap (λ (z : Bool). signed (cap f) z (mag f (round f false a c))) (round-shape f false a c).0
 round-key f true a c =
     ap (λ (z : Bool). signed (cap f) z (mag f (round f true a c))) (round-shape f true a c).0
-    ∙ ap (λ (z : ℕ). cap f - z) (ap (mag f) (round-neg f a c) ∙ mag-neg f (round f false a c))
+    ∙ ap (λ (z : ℕ). cap f - z) (ap (mag f) (sym (neg-round f a c)) ∙ mag-neg f (round f false a c))
 
 pub rounded-mono : (f : Format) (a b c d : ℕ) → 0 < b → 0 < d → a * d ≤ c * b → rounded f a b ≤ rounded f c d
 rounded-mono f a b c d B D h =

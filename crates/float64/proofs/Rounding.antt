@@ -1,15 +1,16 @@
 -- `round_half_away`, the nearest whole number with halves away from zero, by the whole part and the fraction: from 2 ^ 52 on there is no fraction; below, one more than the whole part where the
 -- fraction is 1/2 or more. A value below 0 has the whole part 0 and a fraction that is not above 0. Assumes nothing.
 use Rattle.std.proofs.Common.{◌≡◌, ℕ, suc, ◌+◌, ◌-◌, ◌*◌, ◌/◌, ◌%◌, ◌^◌, ◌<◌, ◌≤◌, min, true, false, T, ℤ, pos, negsuc, sym, refl, ap, ◌∙◌, zero-le, le_trans, le_of_eq, lt_of_le_of_lt, le_of_lt, mod-lt, zero-lt-suc, mul_assoc, mul_comm, add-mul, mul-pos, one-mul, pow-suc, div-add-mod', le-mul_of_pos_right, div-one, mul_left_comm, arith, lit<, nltb→le, pow_mono}
+use Rattle.std.proofs.lemmas.Float as floats
 use lib.Arith.{digits_div}
 use lib.Ieee.{Float, nan, inf, fin, binary64, up, down, sub, fits, le, lt, of_int, to_unsigned}
-use lib.Ieee.Fits.{down_pos, sub-fits}
+use lib.Ieee.Fits.{down_pos}
 use lib.Ieee.Nearest.{div_same}
 use Rattle.float64.specs.Number.{plus_zero, float_of, half, whole_part, fraction_part, round_half_away}
 use Rattle.float64.proofs.Units.{one, cap, one-pos, sign, mag, Rep, mag-cross, fits-small}
 use Rattle.float64.proofs.Round.{rounded-same, rounded-exact}
 use Rattle.float64.proofs.Keys.{At, rekeyed, le_of, of-nle, size-of-le, size-of-lt, round-at, of_int-at}
-use Rattle.float64.proofs.Order.{plus_zero-at, sign-size, sub-mono, le-transitive}
+use Rattle.float64.proofs.Order.{plus_zero-at, sign-size, sub-mono}
 use Rattle.float64.proofs.Ranges.{yes, no}
 use Rattle.float64.proofs.Wholes.{one-lt, whole_le, whole_is, fraction-at}
 
@@ -81,7 +82,7 @@ unfolding to_unsigned fits le lt sub of_int
 negative m e a h =
     let x = fin true m e in
     let l : T (le x plus_zero) = le_of (sign-size binary64 x a tt) (plus_zero-at binary64) (unfold sign in omega arith) in
-    le-transitive binary64 half (sub binary64 x plus_zero) plus_zero tt (sub-fits binary64 x plus_zero) tt (yes h) (sub-mono binary64 x plus_zero plus_zero plus_zero a tt tt tt tt tt tt tt l tt)
+    floats.le_trans half (sub binary64 x plus_zero) plus_zero (yes h) (sub-mono binary64 x plus_zero plus_zero plus_zero a tt tt tt tt tt tt tt l tt)
 
 -- ---- below 2 ^ 52
 pub whole-small : (x : Float) → T (fits binary64 x) → lt x (float_of 4503599627370496) ≡ true → whole_part x ≤ 4503599627370496
@@ -116,3 +117,6 @@ round-down (fin false m e) a l h =
     let u = half-units in
     let r : 2 * (n % one binary64) < one binary64 = omega (arith, u.1, of-nle u.2 (rest m e a l) (no h)) in
     in-units m e a l ∙ same n (one binary64) (one-pos binary64) w.1 r ∙ sym w.0
+
+-- what `float64::round_half_away` cites
+pub ruleset rounding_cases = (round_whole, whole-small, round_up, round-down)

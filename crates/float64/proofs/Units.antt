@@ -1,13 +1,14 @@
 -- A float that fits its format is a whole number of the format's smallest value: `mag` counts these units, `one` is how many 1 has and `cap` how many an infinity counts as.
 -- `key` is a natural number that orders all values but NaN: `cap + mag` for a value that is not negative, `cap - mag` for one that is. The three tests are those on the keys
 -- (`lt-key`, `eq-key`, `le-key`). Assumes nothing.
-use Rattle.std.proofs.Common.{◌≡◌, ℕ, zero, suc, ◌+◌, ◌-◌, ◌*◌, ◌/◌, ◌%◌, ◌^◌, ◌<◌, ◌≤◌, Bool, true, false, not, ◌&&◌, ◌||◌, T, eqb, ltb, leb, ℤ, pos, negsuc, sym, refl, ap, ◌∙◌, subst, zero-le, le_trans, le_of_eq, le_refl, lt_of_lt_of_le, lt_of_le_of_lt, le_of_lt, mul_assoc, mul_comm, add-mul, lt_of_mul-lt-mul_right, mul-lt-mul_of_pos_right, mul-pos, one-mul, zero-mul, mul-one, sub-add_cancel, mul_right_comm, not-le_of_lt, le-mul_of_pos_right, mul-div_cancel, arith, le→leb, eqb→eq, ltb→lt, lt→ltb, leb→le, nltb→le, pow_pos, pow-add, le-ltb, lt-ltb, eq-eqb, ne_eqb}
+use Rattle.std.proofs.Common.{◌≡◌, ℕ, zero, suc, ◌+◌, ◌-◌, ◌*◌, ◌/◌, ◌%◌, ◌^◌, ◌<◌, ◌≤◌, Bool, true, false, not, ◌&&◌, ◌||◌, T, eqb, ltb, leb, ℤ, pos, negsuc, sym, refl, ap, ◌∙◌, subst, inl, inr, zero-le, le_trans, le_of_eq, le_refl, lt_of_lt_of_le, lt_of_le_of_lt, le_of_lt, mul_assoc, mul_comm, add-mul, lt_of_mul-lt-mul_right, mul-lt-mul_of_pos_right, mul-pos, one-mul, zero-mul, mul-one, sub-add_cancel, mul_right_comm, not-le_of_lt, le-mul_of_pos_right, mul-div_cancel, arith, eqb→eq, ltb→lt, leb→le, pow_pos, pow-add, le-ltb, lt-ltb, eq-eqb, ne_eqb}
 use mathlib.Core.Bool.{beq, and-true}
+use Rattle.std.specs.Cmp.{both_ways}
+use Rattle.std.proofs.lemmas.Bool.{and_parts, and_from, cases_lt, cases_order, eqb-true, lt-leb, le-leb, ltb-true}
 use native.Mathlib.Nat.{eq_of_mul-eq-mul_right}
-use lib.Dec.{nleb→lt}
 use lib.Pow.{pow-lt}
 use lib.Ieee.{Float, nan, inf, fin, Format, prec, emax, low, up, down, lt, eq, le, below, level, fits, is_nan}
-use lib.Ieee.Fits.{and_l, and_r, and_i, eq→eqb, up_pos, down_pos}
+use lib.Ieee.Fits.{and_l, and_r, up_pos, down_pos}
 use lib.Ieee.Exact.{HasValue}
 use lib.Ieee.Scale.{finite}
 
@@ -52,11 +53,7 @@ key f x = signed (cap f) (sign x) (mag f x)
 
 -- ---- what fits
 pow-back : (a b : ℕ) → 2 ^ a ≤ 2 ^ b → a ≤ b
-pow-back a b h = go (leb a b) (leb→le a b) (nleb→lt a b)
-  where
-    go : (t : Bool) → (T t → a ≤ b) → (T (not t) → b < a) → a ≤ b
-    go true p q = p tt
-    go false p q = absurd (not-le_of_lt (pow-lt (q tt)) h)
+pow-back a b h = elim (cases_lt b a) [ inl l ↦ absurd (not-le_of_lt (pow-lt l) h) | inr l ↦ l ]
 
 down-le-up : (e : ℤ) → T (eqb (up e * down e) 1) → down e ≤ 1
 down-le-up e h = le_trans (le-mul_of_pos_right (down e) (up_pos e)) (le_of_eq (mul_comm (down e) (up e) ∙ eqb→eq (up e * down e) 1 h))
@@ -130,17 +127,11 @@ mag-of-value f (inf t) s n h = absurd h
 mag-of-value f (fin t m e) s n h = ap (λ (z : ℕ). z / down e) h.1 ∙ mul-div_cancel n (down_pos e)
 
 -- ---- tests that agree
-bool_same : (a b : Bool) → (T a → T b) → (T b → T a) → a ≡ b
-bool_same true true p q = refl
-bool_same true false p q = absurd (p tt)
-bool_same false true p q = absurd (q tt)
-bool_same false false p q = refl
-
 ltb-same : (a b c d : ℕ) → (a < b → c < d) → (c < d → a < b) → ltb a b ≡ ltb c d
-ltb-same a b c d p q = bool_same (ltb a b) (ltb c d) (λ t. lt→ltb c d (p (ltb→lt a b t))) (λ t. lt→ltb a b (q (ltb→lt c d t)))
+ltb-same a b c d p q = both_ways (ltb a b) (ltb c d) (λ t. lt-ltb c d (p (ltb-true a b t))) (λ t. lt-ltb a b (q (ltb-true c d t)))
 
 eqb_same : (a b c d : ℕ) → (a ≡ b → c ≡ d) → (c ≡ d → a ≡ b) → eqb a b ≡ eqb c d
-eqb_same a b c d p q = bool_same (eqb a b) (eqb c d) (λ t. eq→eqb (p (eqb→eq a b t))) (λ t. eq→eqb (q (eqb→eq c d t)))
+eqb_same a b c d p q = both_ways (eqb a b) (eqb c d) (λ t. eq-eqb c d (p (eqb-true a b t))) (λ t. eq-eqb a b (q (eqb-true c d t)))
 
 -- a / p and b / p against X / q and Y / q
 module _ (p q : ℕ) (P : 0 < p) (Q : 0 < q) where
@@ -182,8 +173,8 @@ module _ (c X Y : ℕ) (x : X ≤ c) (y : Y ≤ c) where
 
   zeros : (a b : ℕ) → ((X ≡ Y) × (X ≡ 0) → a ≡ b) → (a ≡ b → (X ≡ Y) × (X ≡ 0)) → eqb X Y && eqb X 0 ≡ eqb a b
   zeros a b p q =
-      bool_same (eqb X Y && eqb X 0) (eqb a b) (λ h. eq→eqb (p (eqb→eq X Y (and_l (eqb X Y) (eqb X 0) h), eqb→eq X 0 (and_r (eqb X Y) (eqb X 0) h))))
-      (λ h. let v = q (eqb→eq a b h) in and_i (eqb X Y) (eqb X 0) (eq→eqb v.0) (eq→eqb v.1))
+      both_ways (eqb X Y && eqb X 0) (eqb a b) (λ h. let v = and_parts (eqb X Y) (eqb X 0) h in eq-eqb a b (p (eqb-true X Y v.0, eqb-true X 0 v.1)))
+      (λ h. let v = q (eqb-true a b h) in and_from (eqb X Y) (eqb X 0) (eq-eqb X Y v.0) (eq-eqb X 0 v.1))
 
   level-key : (s t : Bool) → level s X t Y ≡ eqb (signed c s X) (signed c t Y)
   level-key false false = and-true (eqb X Y) ∙ eqb_same X Y (c + X) (c + Y) (omega arith) (omega arith)
@@ -281,21 +272,11 @@ eq-key f (fin s m e) (inf t) a b p q = eq-inf (cap f) (mag f (fin s m e)) (mag-l
 eq-key f (fin s m e) (fin t n d) a b p q = fin-eq f s m e t n d a b
 
 le-or : (a b : ℕ) → ltb a b || eqb a b ≡ leb a b
-le-or a b = bool_same (ltb a b || eqb a b) (leb a b) (λ t. le→leb a b (down' t)) (λ t. up' (leb→le a b t))
-  where
-    split : (p q : Bool) → T (p || q) → (T p → a < b) → (T q → a ≡ b) → a ≤ b
-    split true q t h k = le_of_lt (h tt)
-    split false q t h k = le_of_eq (k t)
-
-    down' : T (ltb a b || eqb a b) → a ≤ b
-    down' t = split (ltb a b) (eqb a b) t (ltb→lt a b) (eqb→eq a b)
-
-    join : (p q : Bool) → (T (not p) → T q) → T (p || q)
-    join true q h = tt
-    join false q h = h tt
-
-    up' : a ≤ b → T (ltb a b || eqb a b)
-    up' h = join (ltb a b) (eqb a b) (λ t. let g = nltb→le a b t in let e : a ≡ b = omega arith in eq→eqb e)
+le-or a b =
+    elim (cases_order a b) [
+      | inl e ↦ rw (le-ltb a b (omega arith), eq-eqb a b e, le-leb a b (omega arith))
+      | inr r ↦ elim r [ inl l ↦ rw (lt-ltb a b l, le-leb a b (omega arith)) | inr l ↦ rw (le-ltb a b (omega arith), ne_eqb a b (λ e. omega arith), lt-leb a b l) ]
+    ]
 
 pub le-key : (f : Format) (x y : Float) → T (fits f x) → T (fits f y) → T (not (is_nan x)) → T (not (is_nan y)) → le x y ≡ leb (key f x) (key f y)
 unfolding le

@@ -1,13 +1,14 @@
 -- Whole numbers and what lies above them, counted in units of the smallest value: 1, a value from 1 to a whole number M, and, of a value with n units, the whole part, n / one, and the fraction,
 -- which has n % one units exactly. Assumes nothing.
 use Rattle.std.proofs.Common.{◌≡◌, ℕ, suc, ◌+◌, ◌-◌, ◌*◌, ◌/◌, ◌%◌, ◌^◌, ◌<◌, ◌≤◌, sym, ap, ◌∙◌, subst, lt_of_le_of_lt, div-lt_iff_lt-mul, mul-lt-mul_of_pos_right, one-mul, div-add-mod', arith, lit<}
+use Rattle.std.proofs.lemmas.Float as floats
 use native.Mathlib.Nat.{min-eq_left}
 use lib.Ieee.{Float, binary64, sub}
 use Rattle.float64.specs.Number.{float_of, whole_part, fraction_part}
 use Rattle.float64.proofs.Units.{one, cap, one-pos, key, Rep}
 use Rattle.float64.proofs.Round.{difference-exact, rep-whole, whole-lt}
 use Rattle.float64.proofs.Near.{rep-sub}
-use Rattle.float64.proofs.Keys.{At, at, rekeyed, Fin, of_le, le-num-r, sub_at, of_int-at, to_unsigned-at, rep_at}
+use Rattle.float64.proofs.Keys.{At, at, rekeyed, Fin, of_le, sub_at, of_int-at, to_unsigned-at, rep_at}
 use Rattle.float64.proofs.Interval.{In}
 
 -- ---- 1
@@ -35,7 +36,7 @@ pub count : (M : ℕ) {x : Float} → M < 2 ^ 53 → In binary64 (float_of 1) (f
 count M {x} h i =
     let k = key binary64 x in
     let c = cap binary64 in
-    let x' = at binary64 x i.fit (le-num-r (float_of 1) x i.lower) in
+    let x' = at binary64 x i.fit (floats.le_right (float_of 1) x i.lower) in
     let l = of_le one_at x' i.lower in
     let u = of_le x' (of_int-at binary64 M h) i.upper in
     let e : k ≡ c + (k - c) = omega arith in

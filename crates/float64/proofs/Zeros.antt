@@ -2,14 +2,15 @@
 -- values, also such as binary64 does not hold. Assumes nothing.
 use Rattle.std.proofs.Common.{◌≡◌, ℕ, zero, suc, ◌*◌, ◌<◌, Bool, true, false, not, ◌&&◌, ◌||◌, eqb, T, ℤ, pos, refl, ap, ◌∙◌, mul-pos, zero-mul, zero-lt-suc, arith, eqb-true}
 use mathlib.Core.Bool.{beq}
+use Rattle.std.proofs.lemmas.Bool.{and_parts}
 use lib.Ieee.{Float, nan, inf, fin, binary64, up, down, round, sum, add, sub, mul, div, neg, eq, unlike}
 use lib.Dec.{eqb-suc-zero}
+use Rattle.std.proofs.num.Values.{round-zero}
 use lib.Ieee.Fits.{up_pos, down_pos}
 use lib.Ieee.Scale.{finite}
 use Rattle.float64.specs.Number.{is_zero}
-use Rattle.float64.proofs.Tests.{clash, both}
-use Rattle.float64.proofs.Round.{round-neg}
-use Rattle.float64.proofs.Same.{round-zero, mul-turned}
+use Rattle.float64.proofs.Tests.{clash}
+use Rattle.float64.proofs.Same.{mul-turned}
 
 abbrev pub Zero : Float → Type 0
 Zero x = is_zero x ≡ true
@@ -18,7 +19,7 @@ Zero x = is_zero x ≡ true
 none : (s : Bool) (m : ℕ) (e : ℤ) → Zero (fin s m e) → m * up e ≡ 0
 unfolding eq
 none s m e h =
-    let g = eqb-true (m * up e * 1) (0 * 1 * down e) (both (eqb (m * up e * 1) (0 * 1 * down e)) (beq s false || eqb (m * up e * 1) 0) h).0 in
+    let g = eqb-true (m * up e * 1) (0 * 1 * down e) (and_parts (eqb (m * up e * 1) (0 * 1 * down e)) (beq s false || eqb (m * up e * 1) 0) h).0 in
     omega arith
 
 -- and no number but 0 makes a value a zero
@@ -28,9 +29,9 @@ level false a b p q = rw (p, q)
 
 -- 0 rounds to a zero
 rounds : (s : Bool) (a c : ℕ) → a ≡ 0 → 0 < c → Zero (round binary64 s a c)
-unfolding eq neg
-rounds false a c e h = ap is_zero (ap (λ (n : ℕ). round binary64 false n c) e ∙ round-zero binary64 c h)
-rounds true a c e h = ap is_zero (ap (λ (n : ℕ). round binary64 true n c) e ∙ round-neg binary64 0 c ∙ ap neg (round-zero binary64 c h))
+unfolding eq
+rounds false a c e h = rw (e, round-zero binary64 false c h)
+rounds true a c e h = rw (e, round-zero binary64 true c h)
 
 -- ---- what takes a zero and a value that is finite
 

@@ -12,6 +12,7 @@ const FIELD_WITHOUT_FRACTION: u64 = 1075;
 const FIELD_BEYOND_U64: u64 = 1087;
 
 // Whether x is a NaN.
+#[tactic(auto, using(crate::proofs::Tests::nan_cases), unfolding(crate::specs::Number::is_number))]
 pub fn is_nan(x: f64) -> bool
     ensures { result ≡ not (is_number x) }
 {
@@ -19,6 +20,7 @@ pub fn is_nan(x: f64) -> bool
 }
 
 // Whether x is neither a NaN nor an infinity.
+#[tactic(auto, using(crate::proofs::Tests::finite_cases), unfolding(crate::specs::Number::is_finite, crate::proofs::Literals::of_bits, crate::proofs::Literals::neg, crate::proofs::Literals::div))]
 pub fn is_finite(x: f64) -> bool
     ensures { result ≡ is_finite x }
 {
@@ -27,6 +29,7 @@ pub fn is_finite(x: f64) -> bool
 }
 
 // Whether x is +0: no for -0. A NaN's bits may not be asked for; `x == 0.0` keeps it out.
+#[tactic(auto, using(crate::proofs::Tests::other_bits), unfolding(crate::specs::Number::is_plus_zero, crate::proofs::Literals::of_bits))]
 pub fn is_plus_zero(x: f64) -> bool
     ensures { result ≡ is_plus_zero x }
 {
@@ -37,6 +40,7 @@ pub fn is_plus_zero(x: f64) -> bool
 }
 
 // Whether lo <= x <= hi: no for a NaN.
+#[tactic(auto, unfolding(crate::specs::Number::in_range))]
 pub fn in_range(x: f64, lo: f64, hi: f64) -> bool
     ensures { result ≡ in_range x lo hi }
 {
@@ -44,6 +48,7 @@ pub fn in_range(x: f64, lo: f64, hi: f64) -> bool
 }
 
 // Whether 0 <= x < 1: no for a NaN, yes for -0.
+#[tactic(auto, unfolding(crate::specs::Number::in_unit, crate::proofs::Literals::of_bits, crate::proofs::Literals::of_int))]
 pub fn in_unit(x: f64) -> bool
     ensures { result ≡ in_unit x }
 {
@@ -51,6 +56,7 @@ pub fn in_unit(x: f64) -> bool
 }
 
 // Whether -1 <= x <= 1: no for a NaN, yes for both ends.
+#[tactic(auto, unfolding(crate::proofs::Literals::of_bits, crate::proofs::Literals::of_int, crate::proofs::Literals::neg))]
 fn in_signed_unit(x: f64) -> bool
     ensures { result ≡ in_signed_unit x }
 {
@@ -58,6 +64,7 @@ fn in_signed_unit(x: f64) -> bool
 }
 
 // Whether x is a sample rate that a start accepts: 8,000 to 192,000.
+#[tactic(auto, unfolding(crate::proofs::Literals::of_bits, crate::proofs::Literals::of_int))]
 pub fn rate_fits(x: f64) -> bool
     ensures { result ≡ rate_fits x }
 {
@@ -80,6 +87,7 @@ pub fn phase_fits(x: f64) -> bool
 }
 
 // Whether x is a frequency that a tick accepts: 0 to 32 Hz.
+#[tactic(auto, unfolding(crate::proofs::Literals::of_bits, crate::proofs::Literals::of_int))]
 pub fn frequency_fits(x: f64) -> bool
     ensures { result ≡ frequency_fits x }
 {
@@ -102,6 +110,7 @@ pub fn allpass_fits(x: f64) -> bool
 }
 
 // x held to lo..=hi. What lies between passes as it is, -0 and a NaN too.
+#[tactic(auto, unfolding(crate::specs::Number::clamp_of))]
 pub fn clamp(x: f64, lo: f64, hi: f64) -> f64
     ensures { result ≡ clamp_of x lo hi }
 {
@@ -115,6 +124,7 @@ pub fn clamp(x: f64, lo: f64, hi: f64) -> f64
 }
 
 // The larger of x and lo; x where they are equal, and a NaN x.
+#[tactic(auto, unfolding(crate::specs::Number::at_least))]
 pub fn at_least(x: f64, lo: f64) -> f64
     ensures { result ≡ at_least x lo }
 {
@@ -122,6 +132,7 @@ pub fn at_least(x: f64, lo: f64) -> f64
 }
 
 // The smaller of x and hi; x where they are equal, and a NaN x.
+#[tactic(auto, unfolding(crate::specs::Number::at_most))]
 pub fn at_most(x: f64, hi: f64) -> f64
     ensures { result ≡ at_most x hi }
 {
@@ -129,6 +140,7 @@ pub fn at_most(x: f64, hi: f64) -> f64
 }
 
 // The absolute value: +0 for either zero, and a NaN for a NaN.
+#[tactic(auto, using(crate::proofs::Absolute::absolute_cases), unfolding(crate::proofs::Literals::of_bits))]
 pub fn abs(x: f64) -> f64
     ensures { result ≡ absolute x }
 {
@@ -144,6 +156,7 @@ fn significand_of(bits: u64) -> u64
 
 // The whole part of a number from 1 to below 2^52, whose field is from 1,023 to 1,074: the second case of `whole_part`, which calls it there. Reads, line
 // lengths and the predelay call it alone, as their numbers are known, or tested, to lie there.
+#[tactic(auto, using(crate::proofs::Fields::small_cases))]
 pub fn whole_part_small(x: f64) -> u64
     requires { Small x }
     ensures { result ≡ whole_part x }
@@ -153,6 +166,7 @@ pub fn whole_part_small(x: f64) -> u64
 }
 
 // The Rust's `x as usize`: toward zero, held to 0..=2^64 - 1, and 0 for a NaN; by the cases of the exponent field.
+#[tactic(auto, using(crate::proofs::Fields::whole_cases), unfolding(crate::proofs::Literals::of_bits))]
 pub fn whole_part(x: f64) -> u64
     ensures { result ≡ whole_part x }
 {
@@ -179,6 +193,7 @@ pub fn whole_part(x: f64) -> u64
 }
 
 // The nearest whole number, halves away from zero: the Rust's `round(x) as usize`.
+#[tactic(auto, using(crate::proofs::Rounding::rounding_cases), unfolding(crate::proofs::Literals::of_bits, crate::proofs::Literals::of_int))]
 pub fn round_half_away(x: f64) -> u64
     ensures { result ≡ round_half_away x }
 {

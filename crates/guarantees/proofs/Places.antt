@@ -3,7 +3,6 @@ use Prim.Native.Nat.{ℕ, ◌≤◌}
 use native.Mathlib.Omega.{arith}
 use mathlib.Core.Path.{◌≡◌, refl, ◌∙◌}
 use mathlib.Core.Bool.{Bool, true, false, cond}
-use lib.Dec.{eqb}
 use lib.Ieee.{Float, le, lt, of_int}
 use lib.Ieee as Ieee
 use borrow.Author.Tests.{ne_eqb}
@@ -38,9 +37,7 @@ either_way false x = refl
 -- whichever number it is, the answer is the one for a refused rate
 refused-is : (effect : ℕ) (rate maximum : Float) → rate_fits rate ≡ false → needed_by effect rate maximum ≡ no_places
 unfolding needed_by settings_number
-refused-is effect rate maximum h =
-    rw (h, either_way (eqb effect 7) no_places, either_way (eqb effect 6) no_places, either_way (eqb effect 5) no_places, either_way (eqb effect 4) no_places, either_way (eqb effect 3) no_places, either_way (eqb effect 2) no_places)
-    (either_way (eqb effect 1) no_places)
+refused-is effect rate maximum h = rw h (simp either_way)
 
 -- a number that is none of the seven
 other-is : (effect : ℕ) (rate maximum : Float) → 8 ≤ effect → needed_by effect rate maximum ≡ no_places

@@ -31,6 +31,8 @@ use Rattle.phaser.specs.Phaser.{phaser, Tick, stages, next, chain_after}
 use Rattle.phaser.proofs.Demand1 as phaser1
 use Rattle.phaser.proofs.StaysSilent as phaser-silent
 use Rattle.phaser.proofs.Idle.{x1-kept, y1-kept}
+use Rattle.guarantees.proofs.Places.{places-needed}
+use Rattle.guarantees.proofs.Cases.{starred-hold}
 use Rattle.guarantees.specs.CleanMemory.{CleanMemory}
 use Rattle.guarantees.specs.RecentPasts.{RecentPasts}
 use Rattle.guarantees.specs.WholePart.{WholePart}
@@ -120,3 +122,6 @@ lamp =
       as_it_is_zero = as_it_is_zero;
       under_rule_zero = under_rule_zero;
     }
+
+-- what the functions' contracts say
+pub ruleset statements = (clean-memory, recent-pasts, places-needed, starred-hold, whole_part, one_line, idle_stages, lamp)

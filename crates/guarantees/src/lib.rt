@@ -1,6 +1,6 @@
 // What the unit guarantees, over the effects: statements in specs/, each in a file of its own. A function for each says in its contract that the statement
 // holds, so that the check proves it as it proves a call; it does nothing when it is called.
-#![tactic(auto)]
+#![tactic(auto, using(crate::proofs::Shown::statements))]
 
 ghost use Rattle.guarantees.specs.CleanMemory.{CleanMemory};
 ghost use Rattle.guarantees.specs.RecentPasts.{RecentPasts};

@@ -1,10 +1,12 @@
 -- The laws of the phaser: its clamp changes no count of stages, and what tests an accepted tick passed. Assumes nothing.
 use Rattle.std.proofs.Common.{◌≡◌, true, false, T, refl, arith}
 use lib.Ieee.{Float, nan, binary64, div, le, lt, of_int, round, neg, is_nan}
+use Rattle.std.proofs.lemmas.Float as floats
+use lib.Ieee.Bits.{is_true}
 use lib.Ieee as Ieee
 use Rattle.float64.specs.Number.{plus_zero, float_of, fraction, frequency_fits, allpass_fits, clamp_of}
-use Rattle.float64.proofs.Ranges.{yes, is-true}
-use Rattle.float64.proofs.Order.{lt→le, le→not-lt, le-transitive, lt-le-lt}
+use Rattle.float64.proofs.Ranges.{yes}
+use Rattle.float64.proofs.Order.{le→not-lt}
 use Rattle.port.specs.Port.{is_nan_set}
 use Rattle.phaser.specs.Phaser.{Tick, tick_number, stages_at}
 
@@ -13,11 +15,11 @@ use Rattle.phaser.specs.Phaser.{Tick, tick_number, stages_at}
 module _ (x : Float) (number : Ieee.fits binary64 x ≡ true) where
   under : lt x plus_zero ≡ true → lt x (fraction 33 100) ≡ true
   unfolding Ieee.fits le round
-  under l = is-true _ (lt-le-lt binary64 x plus_zero (fraction 33 100) (yes number) tt tt (yes l) tt)
+  under l = is_true _ (floats.lt_of_lt_of_le x plus_zero (fraction 33 100) (yes l) tt)
 
   over : (t : Float) → T (Ieee.fits binary64 t) → T (le t (float_of 1)) → lt (float_of 1) x ≡ true → lt x t ≡ false
   unfolding Ieee.fits of_int
-  over t f k l = le→not-lt binary64 t x f (yes number) (le-transitive binary64 t (float_of 1) x f tt (yes number) k (lt→le binary64 (float_of 1) x tt (yes number) (yes l)))
+  over t f k l = le→not-lt binary64 t x f (yes number) (floats.le_trans t (float_of 1) x k (floats.le_of_lt (float_of 1) x (yes l)))
 
   over-33 : lt (float_of 1) x ≡ true → lt x (fraction 33 100) ≡ false
   unfolding Ieee.fits le of_int round
@@ -38,6 +40,9 @@ module _ (x : Float) (number : Ieee.fits binary64 x ≡ true) where
   pub stages-clamped : stages_at (clamp_of x plus_zero (float_of 1)) ≡ stages_at x
   unfolding clamp_of stages_at
   stages-clamped = grind (arith, under, over-33, over-66, at-0, at-1)
+
+-- what `Stages::at` cites
+pub ruleset stages_cases = (stages-clamped)
 
 -- ---- causes 5 and 6
 

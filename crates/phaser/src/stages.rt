@@ -12,6 +12,7 @@ pub enum Stages {
 
 impl Stages {
     // By the control. A clamp to 0 to 1 before, as the Rust's, would move no control over either threshold.
+    #[tactic(auto, using(crate::proofs::Laws::stages_cases), unfolding(crate::specs::Phaser::stages_at, float64::proofs::Literals::of_bits, float64::proofs::Literals::round))]
     pub fn at(control: f64) -> Stages
         ensures { count result ≡ stages_at (clamp_of control plus_zero (float_of 1)) }
     {

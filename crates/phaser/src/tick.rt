@@ -15,6 +15,7 @@ use port::{Answer, Port, Refusal};
 
 impl Lent<'_> {
     // An accepted tick, with the numbers that it takes from its ports.
+    #[tactic(auto, unfolding(crate::specs::Phaser::next, crate::specs::Phaser::samples, crate::specs::Phaser::chain_after, float64::proofs::Literals::neg, float64::proofs::Literals::of_bits, float64::proofs::Literals::of_int, float64::proofs::Literals::round))]
     fn advance(
         &mut self,
         audio: f64,

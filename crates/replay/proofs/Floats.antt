@@ -2,6 +2,7 @@
 use Rattle.std.proofs.Common.{◌≡◌, ℕ, ◌%◌, ◌<◌, true, T, refl, sym, ap, subst, ◌∙◌}
 use Rattle.std.specs.Float.{binary64}
 use Rattle.std.specs.Float.Ieee.{Float, nan, inf, fin, fits, is_nan, of_bits, to_bits}
+use Rattle.std.proofs.lemmas.Float.{not_nan_f64_bits}
 use lib.Ieee.Bits.{of_bits-to_bits, nan_bits_is, nan_bits_above}
 use borrow.Author.Tests.{lt-ltb}
 
@@ -19,3 +20,8 @@ nan_pattern n h =
 pub same_bits : (x y : Float) → fits binary64 x ≡ true → fits binary64 y ≡ true → to_bits binary64 x ≡ to_bits binary64 y → x ≡ y
 same_bits x y p q e =
     sym (of_bits-to_bits binary64 x (subst T (sym p) tt)) ∙ ap (of_bits binary64) e ∙ of_bits-to_bits binary64 y (subst T (sym q) tt)
+
+-- what `words::Record::float` cites, and `words::same`
+pub ruleset pattern_cases = (not_nan_f64_bits, nan_pattern)
+
+pub ruleset equal_cases = (only_nan, same_bits)

@@ -33,6 +33,7 @@ impl Record {
     }
 
     // The float of a word: a NaN for every NaN pattern.
+    #[tactic(auto, using(crate::proofs::Floats::pattern_cases))]
     pub fn float(&self, i: usize) -> f64
         ensures { result ≡ float_at self.now.bytes i }
     {
@@ -63,6 +64,7 @@ impl Record {
 }
 
 // Equal by bits, every NaN as one value. By hand: floats are data here, and a derive's `==` has a NaN unequal to itself and -0 equal to +0.
+#[tactic(auto, using(crate::proofs::Floats::equal_cases))]
 pub fn same(x: f64, y: f64) -> bool
     ensures { Decides result x y }
 {

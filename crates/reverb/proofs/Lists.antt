@@ -1,5 +1,5 @@
 -- Tests over lists of positions and lengths, entry by entry: positions below their lengths, and lines that are zeros. Assumes nothing.
-use Rattle.std.proofs.Common.{◌≡◌, ℕ, zero, suc, ◌+◌, ◌-◌, ◌*◌, ◌<◌, ◌≤◌, Bool, true, false, ◌&&◌, ltb, List, [], ◌∷◌, length, get_or, take, drop, fold, refl, sym, ◌∙◌, ap, le_of_suc-le-suc, not-suc-le-zero, suc-mul, add-one, arith, drop-cons, ltb-true, le-ltb, lt-ltb}
+use Rattle.std.proofs.Common.{◌≡◌, ℕ, zero, suc, ◌+◌, ◌<◌, Bool, true, false, ◌&&◌, ltb, List, [], ◌∷◌, length, get_or, take, drop, fold, refl, sym, ◌∙◌, ap, le_of_suc-le-suc, not-suc-le-zero, add-one, arith, drop-cons, ltb-true, le-ltb, lt-ltb}
 use lib.Ieee.{Float}
 use mathlib.Core.Bool.{and_assoc, and-true}
 use Rattle.std.specs.List.{zip}
@@ -60,9 +60,3 @@ unfolding line_parts held_in
 zero_more o apart ns m i h =
     rw (drop-cons ns i 0 h, add-one i)
     (zeros-append (take (get_or ns i 0) (drop o m)) (held_in (line_parts (o + apart) apart (drop (suc i) ns)) m))
-
--- the room that is left for them
-pub room-more : (n i o apart size : ℕ) → i < n → o + (n - i) * apart ≤ size → o + apart + (n - (i + 1)) * apart ≤ size
-room-more n i o apart size h k =
-    let e : n - i ≡ suc (n - (i + 1)) = omega arith in
-    omega (arith, suc-mul (n - (i + 1)) apart, rw e at k)

@@ -6,8 +6,8 @@ use lib.Ieee.{Float, nan, binary64, mul, le, lt, of_int, round, to_unsigned}
 use lib.Ieee as Ieee
 use Rattle.float64.specs.Number.{plus_zero, float_of, fraction, rate_fits, at_most, whole_part, Small}
 use Rattle.std.proofs.num.Truncating.{below_one}
+use Rattle.std.proofs.lemmas.Float as floats
 use Rattle.float64.proofs.Interval.{In, box, point, widen, mul_in, cut_in}
-use Rattle.float64.proofs.Keys.{le-num-r}
 use Rattle.float64.proofs.Ranges.{yes, no, rate-in}
 use Rattle.float64.proofs.Clamped.{at_most_in, at-most-le, at-most-fits}
 use Rattle.float64.proofs.Parts.{small-in}
@@ -38,7 +38,7 @@ module _ (x : Float) (f : T (Ieee.fits binary64 x)) where
   pub held_small : le (float_of 1) held ≡ true → Small held
   unfolding Ieee.fits Ieee.is_nan le lt of_int
   held_small h =
-      let l = at-most-le x (float_of (predelay_size - 1)) f tt tt (le-num-r (float_of 1) held (yes h)) in
+      let l = at-most-le x (float_of (predelay_size - 1)) f tt tt (floats.le_right (float_of 1) held (yes h)) in
       let i : In binary64 (float_of 1) (float_of (predelay_size - 1)) held = box tt held_fits (yes h) l in
       small-in (widen (float_of 1) (float_of 16777216) tt i)
 
@@ -76,3 +76,6 @@ module _ (w d : ℕ) (x : Float) (m : List Float) (h : w < predelay_size) where
 
   pub delayed-high : d < predelay_size → w < d → get_or (set m w x) (predelay_size - (d - w)) nan ≡ delayed 0 w d x m
   delayed-high l e = beside-store (predelay_size - (d - w)) (omega (arith, place-high predelay_size w d e (omega arith))) (omega arith) l
+
+-- what `filters::process_predelay` cites
+pub ruleset delayed_cases = (delayed-none, delayed-low, delayed-high)

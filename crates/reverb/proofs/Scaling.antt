@@ -110,3 +110,6 @@ roomy rate e = subst Roomy (sym e) (record { combs = combs; allpasses = allpasse
     allpasses : (side : Side) → Capped allpass_most (sided (lengths_at rate).allpass_l (lengths_at rate).allpass_r side)
     allpasses left = lines-most allpass_most allpass_tunings left rate
     allpasses right = lines-most allpass_most allpass_tunings right rate
+
+-- what `tunings::scaled` cites
+pub ruleset scaled_cases = (product-cut)

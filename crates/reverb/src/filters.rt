@@ -25,6 +25,7 @@ pub struct Passed {
 }
 
 // One step of a comb on its part of the tank.
+#[tactic(auto, unfolding(crate::specs::Freeverb::comb_store, crate::specs::Freeverb::comb_fed, crate::specs::Freeverb::combed, crate::specs::Freeverb::comb_line, float64::proofs::Literals::of_bits, float64::proofs::Literals::of_int))]
 pub fn process_comb(
     line: &mut [f64],
     pos: u64,
@@ -49,6 +50,7 @@ pub fn process_comb(
 }
 
 // One step of an all-pass on its part of the tank.
+#[tactic(auto, unfolding(crate::specs::Freeverb::pass_output, crate::specs::Freeverb::pass_fed, crate::specs::Freeverb::passed, crate::specs::Freeverb::pass_line, float64::proofs::Literals::of_bits, float64::proofs::Literals::round))]
 pub fn process_allpass(line: &mut [f64], pos: u64, input: f64) -> Passed
     requires { pos < ListN.length line.old }
     ensures value { result ≡ passed (ListN.get_or line.old pos nan) (ListN.length line.old) pos input }
@@ -64,6 +66,7 @@ pub fn process_allpass(line: &mut [f64], pos: u64, input: f64) -> Passed
 }
 
 // The predelay's delay in samples, from 0 to the cap: below 1 it is none, from 1 on `whole_part_small` serves, which takes fewer steps than `whole_part`.
+#[tactic(auto, unfolding(crate::specs::Reverb::delay_samples, float64::proofs::Literals::of_bits, float64::proofs::Literals::of_int, float64::proofs::Literals::round))]
 pub fn predelay_samples(control: f64, rate: f64) -> u64
     ensures { result ≡ delay_samples control rate }
 {
@@ -75,6 +78,7 @@ pub fn predelay_samples(control: f64, rate: f64) -> u64
 }
 
 // The predelay on its part of the tank: it writes first, so that a delay of 0 passes the audio itself.
+#[tactic(auto, using(crate::proofs::Predelay::delayed_cases))]
 pub fn process_predelay(line: &mut [f64], pos: u64, samples: u64, input: f64) -> f64
     requires line_len { ListN.length line.old ≡ predelay_size }
     requires pos_lt_predelay_size { pos < predelay_size }

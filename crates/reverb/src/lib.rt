@@ -107,6 +107,7 @@ impl Reverb {
     }
 
     // The state test, by every line's length. The stores may hold any float.
+    #[tactic(auto, using(crate::proofs::Laws::fits_by))]
     fn state_fits(self, n: Lengths) -> bool
         requires { n ≡ lengths_for self.sample_rate }
         ensures { result ≡ state_fits self }
@@ -135,6 +136,7 @@ impl Reverb {
     }
 
     // Whether all sixteen damping stores are +0 or -0.
+    #[tactic(auto, unfolding(crate::specs::Reverb::quiet))]
     fn quiet(self) -> bool
         ensures { result ≡ quiet self }
     {

@@ -27,6 +27,7 @@ pub struct Controls {
 }
 
 // The tick's ports taken apart: the number of each, or its default.
+#[tactic(auto, unfolding(float64::proofs::Literals::of_bits, float64::proofs::Literals::round))]
 pub fn controls_of(audio: Port, size: Port, damping: Port, mix: Port, predelay: Port) -> Controls
     ensures { result ≡ controls_of (tick_of audio size damping mix predelay) }
 {

@@ -20,6 +20,7 @@ pub struct Lengths {
 }
 
 // A tuning scaled to the rate: its whole part, at most `most`. Lengths are worked out in 32 bits, four at a time.
+#[tactic(auto, using(crate::proofs::Scaling::scaled_cases), unfolding(crate::specs::Tunings::scaled))]
 fn scaled(base: u32, ratio: f64, most: u32) -> u32
     requires least_tuning_le_base { least_tuning ≤ base }
     requires base_le_most_tuning { base ≤ most_tuning }
@@ -31,6 +32,7 @@ fn scaled(base: u32, ratio: f64, most: u32) -> u32
 }
 
 // The spread: at least 1. No length is more than a comb's, so that a spread beyond that is as good as that.
+#[tactic(auto, unfolding(crate::specs::Tunings::spread, float64::proofs::Literals::of_bits, float64::proofs::Literals::of_int))]
 fn stereo_spread(ratio: f64) -> u32
     ensures { result ≡ min (spread ratio) comb_most }
 {

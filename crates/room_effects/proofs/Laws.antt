@@ -8,12 +8,12 @@ use lib.Ieee.{Float}
 use Rattle.std.specs.Int.{from_bool}
 use Rattle.port.specs.Answer.{Reply, reply_number}
 use Rattle.effect.specs.Effect.{Effect}
-use Rattle.effect.specs.Run.{tick, CallOf, Device, number_at, step, reply}
+use Rattle.effect.specs.Run.{tick, Device, number_at, step}
 use Rattle.effect.specs.Contract.{Does}
 use Rattle.effect.proofs.Laws.{Laws}
 use Rattle.effect.proofs.Table.{if_none-both}
 use Rattle.room_effects.specs.States.{is_on, FlagWritten}
-use Rattle.room_effects.specs.Lent.{samples_from, CallReturns, TickReturns}
+use Rattle.room_effects.specs.Lent.{samples_from, TickReturns}
 
 -- ---- a flag that is written as its number, 0 or 1, is on where it was
 
@@ -25,44 +25,30 @@ pub written : {n : ℕ} (b : Bool) → n ≡ from_bool b → FlagWritten n
 written true e = rw e
 written false e = rw e
 
--- ---- a call of the unit u, that returns r
-
-module _ (E : Effect) (c : CallOf E) (u : Device E.State) {s' : E.State} {m' : List Float} {a : Reply} (does : Does E c u.state u.memory s' m' a) {r : ℕ} (number : r ≡ reply_number a) where
-  number_is : r ≡ reply_number (reply E c u)
-  number_is = number ∙ ap reply_number does.answer
-
-  -- the state left, s, is the new one
-  pub stored : {s : E.State} → s ≡ s' → CallReturns E c u (record { state = s; memory = m' }) r
-  stored put = record { state = put ∙ does.state; memory = does.memory; number = number_is }
-
--- ---- a tick leaves the settings in force, so that these need not be written
+-- ---- an accepted tick
 
 module _ (E : Effect) (laws : Laws E) where
   -- the settings of the state that is left are those of h
   abbrev Keeps : Device E.State → Device E.State → Type 0
   Keeps h u = E.settings h.state ≡ E.settings u.state
 
+  -- a tick leaves the settings in force, so that these need not be written
   tick-keeps : (t : E.Tick) (h : Device E.State) → Keeps h (step E (tick t) h)
   tick-keeps t h = if_none-both (Keeps h) (number_at E (tick t) h) (sym (laws.next-settings t h.state h.memory)) refl
 
-  module _ {s : E.State} {m : List Float} {s' : E.State} {m' : List Float} {a : Reply} where
-    pub tick-settings : {t : E.Tick} → Does E (tick t) s m s' m' a → E.settings s ≡ E.settings s'
-    tick-settings {t} does = tick-keeps t (record { state = s; memory = m }) ∙ ap E.settings (sym does.state)
-
--- ---- what the effect's own call is handed, as the lent numbers have it
-
-module _ (E : Effect) {m : List Float} {s' : E.State} {m' : List Float} {a : Reply} where
-  pub of-state : (c : CallOf E) {s s₀ : E.State} → s ≡ s₀ → Does E c s m s' m' a → Does E c s₀ m s' m' a
-  of-state c e does = subst (λ (s : E.State). Does E c s m s' m' a) e does
-
-  pub of-tick : (s : E.State) {t t₀ : E.Tick} → t ≡ t₀ → Does E (tick t) s m s' m' a → Does E (tick t₀) s m s' m' a
-  of-tick s e does = subst (λ (t : E.Tick). Does E (tick t) s m s' m' a) e does
-
--- ---- what is put out beside
-
-module _ (E : Effect) {u : Device E.State} {s' : E.State} {m' : List Float} {a : Reply} {r : ℕ} where
-  pub played : (k : ℕ) {t : E.Tick} {u' : Device E.State} {out' : List Float} → Does E (tick t) u.state u.memory s' m' a
-      → CallReturns E (tick t) u u' r
+  -- The effect's own call is handed the tick t; the lent numbers, the mask among them, make t₀ of it. They are left as s, which is the state left
+  -- where the settings are those of before. The number is r, and the samples are put out.
+  pub ticked : (k : ℕ) (u : Device E.State) {t t₀ : E.Tick} {s s' : E.State} {m' out' : List Float} {a : Reply} {r : ℕ}
+      → t ≡ t₀
+      → Does E (tick t) u.state u.memory s' m' a
+      → r ≡ reply_number a
+      → (E.settings u.state ≡ E.settings s' → s ≡ s')
       → out' ≡ samples_from 0 k a
-      → TickReturns E k t u u' out' r
-  played k does called put = record { called = called; samples = put ∙ ap (samples_from 0 k) does.answer }
+      → TickReturns E k t₀ u (record { state = s; memory = m' }) out' r
+  ticked k u {t₀ = t₀} {s' = s'} {m' = m'} {a = a} same own number left put =
+      let does = subst (λ (t : E.Tick). Does E (tick t) u.state u.memory s' m' a) same own in
+      let kept = tick-keeps t₀ u ∙ ap E.settings (sym does.state) in
+      record {
+        called = record { state = left kept ∙ does.state; memory = does.memory; number = number ∙ ap reply_number does.answer };
+        samples = put ∙ ap (samples_from 0 k) does.answer;
+      }

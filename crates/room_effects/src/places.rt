@@ -12,6 +12,7 @@ use vibrato::Vibrato;
 
 // The places that an effect needs at the rate: 1 delay, 2 chorus, 3 flanger, 4 vibrato, 5 tremolo, 6 reverb, 7 phaser. 2^64 - 1 for another
 // number and for a rate that is refused. No enum and no `Option` cross: C hands in the one number and gets the other, as the header has it.
+#[tactic(auto, unfolding(needed::specs::Needed::needed_by))]
 #[unsafe(no_mangle)]
 pub extern "C" fn room_places_needed(effect: u32, rate: f64, maximum: f64) -> u64
     ensures { result ≡ needed_by effect rate maximum }

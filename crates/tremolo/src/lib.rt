@@ -79,6 +79,7 @@ impl Tremolo {
     }
 
     // 1 - 4 x |phase - 0.5|.
+    #[tactic(auto, unfolding(crate::specs::Tremolo::triangle, float64::proofs::Literals::of_bits, float64::proofs::Literals::of_int, float64::proofs::Literals::round))]
     fn triangle(phase: f64) -> f64
         ensures { result ≡ triangle phase }
     {
@@ -86,6 +87,7 @@ impl Tremolo {
     }
 
     // The sweep from -1 to 1: a sine at shape 0, a triangle at shape 1.
+    #[tactic(auto, unfolding(crate::specs::Tremolo::lfo, float64::proofs::Literals::of_bits, float64::proofs::Literals::of_int))]
     fn lfo(phase: f64, shape: f64, sine: f64) -> f64
         ensures { result ≡ lfo phase shape sine }
     {
@@ -93,6 +95,7 @@ impl Tremolo {
     }
 
     // The audio under the sweep.
+    #[tactic(auto, unfolding(crate::specs::Tremolo::modulated, float64::proofs::Literals::of_bits, float64::proofs::Literals::of_int, float64::proofs::Literals::round))]
     fn modulated(input: f64, depth: f64, lfo: f64) -> f64
         ensures { result ≡ modulated input depth lfo }
     {

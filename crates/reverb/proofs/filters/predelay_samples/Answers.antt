@@ -20,10 +20,6 @@ whole_part_small-requires c =
     let e = sym c.at_most-samples.ensures in
     subst Small e (held_small (samples c.args.control c.args.rate) (samples-fit c.args.control c.args.rate) (ap (le (float_of 1)) e ∙ c.if-samples.true))
 
-pub returns-then-samples : goal.returns-then-samples
-unfolding delay_samples of_bits of_int round
-returns-then-samples c = rw (c.whole_part_small.ensures, c.at_most-samples.ensures)
-
 pub returns : goal.returns
 unfolding delay_samples of_bits of_int round
 returns c =

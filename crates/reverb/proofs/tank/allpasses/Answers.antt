@@ -1,9 +1,9 @@
 -- `tank::allpasses` steps the four all-passes of a side, one after the other. Assumes nothing.
-use Rattle.std.proofs.Common.{◌≡◌, ℕ, ◌+◌, ◌-◌, ◌<◌, ◌≢◌, length, get_or, refl, ap, ◌∙◌, arith, length-take, length-drop}
+use Rattle.std.proofs.Common.{ℕ, ◌+◌, ◌-◌, ◌<◌, ◌≢◌, length, get_or, refl, ap, arith, length-take, length-drop}
 use Rattle.common.specs.Line.{table}
-use Rattle.common.proofs.Tables.{tabled-more, tabled-all}
+use Rattle.common.proofs.Tables.{tabled-more}
 use Rattle.reverb.specs.declared.filters.Passed.{Passed}
-use Rattle.reverb.specs.Tank.{allpass_lines, next_position, allpasses_held, passed_on, allpass_write}
+use Rattle.reverb.specs.Tank.{allpass_lines, allpasses_held, passed_on, allpass_write}
 use Rattle.reverb.proofs.Apart.{lines_long, line-below, unmoved, allpass-apart, first-held, turned, pass-gives, pass-writes}
 use Rattle.reverb.proofs.tank.allpasses.Goals as goal
 
@@ -40,16 +40,4 @@ loop-i-preserved c =
       memory = turned w m i apart l.mem l.invariant.memory (pass-writes a.input u m i h l.mem l.output k inside at same l.invariant.output (omega arith) c.process_allpass-p.ensures.line_after);
       pos = tabled-more _ i _ long l.invariant.pos (ap (λ (r : Passed). r.pos) gives);
       output = ap (λ (r : Passed). r.output) gives;
-    }
-
-pub returns : goal.returns
-returns c =
-    let l = c.loop-i in
-    let a = c.args in
-    let u = allpass_lines a.o a.pos.now a.lengths in
-    let e : l.i ≡ 4 = omega arith in
-    record {
-      positions = rw e at l.invariant.pos ∙ tabled-all (next_position u) 4 a.pos.now (lines_long c.requires.in_lines);
-      memory = rw e at l.invariant.memory;
-      output = rw e at l.invariant.output;
     }

@@ -1,10 +1,10 @@
 -- `tank::combs` steps the eight combs of a side, one after the other. Assumes nothing.
-use Rattle.std.proofs.Common.{◌≡◌, ℕ, ◌+◌, ◌-◌, ◌<◌, ◌≢◌, length, get_or, refl, ap, ◌∙◌, arith, length-take, length-drop}
+use Rattle.std.proofs.Common.{ℕ, ◌+◌, ◌-◌, ◌<◌, ◌≢◌, length, get_or, refl, ap, arith, length-take, length-drop}
 use lib.Ieee.{nan, of_bits}
 use Rattle.common.specs.Line.{table}
-use Rattle.common.proofs.Tables.{tabled-more, tabled-all}
+use Rattle.common.proofs.Tables.{tabled-more}
 use Rattle.reverb.specs.declared.filters.Combed.{Combed}
-use Rattle.reverb.specs.Tank.{comb_lines, next_position, combs_held, sum_of, comb_stored, comb_write}
+use Rattle.reverb.specs.Tank.{comb_lines, combs_held, sum_of, comb_write}
 use Rattle.reverb.proofs.Apart.{lines_long, line-below, unmoved, comb-apart, first-held, turned, comb-gives, comb-writes, sum_more}
 use Rattle.reverb.proofs.tank.combs.Goals as goal
 
@@ -46,18 +46,4 @@ loop-i-preserved c =
       pos = tabled-more _ i _ long l.invariant.pos (ap (λ (r : Combed). r.pos) gives);
       stores = tabled-more _ i _ stores l.invariant.stores (ap (λ (r : Combed). r.filter_state) gives);
       sum = sum_more _ i l.invariant.sum (ap (λ (r : Combed). r.output) gives);
-    }
-
-pub returns : goal.returns
-returns c =
-    let l = c.loop-i in
-    let a = c.args in
-    let u = comb_lines a.o a.pos.now a.lengths in
-    let z = a.filter_state.now in
-    let e : l.i ≡ 8 = omega arith in
-    record {
-      positions = rw e at l.invariant.pos ∙ tabled-all (next_position u) 8 a.pos.now (lines_long c.requires.in_lines);
-      stores = rw e at l.invariant.stores ∙ tabled-all (comb_stored a.damping z (combs_held u a.mem.now)) 8 z c.told-filter_state;
-      memory = rw e at l.invariant.memory;
-      sum = rw e at l.invariant.sum;
     }

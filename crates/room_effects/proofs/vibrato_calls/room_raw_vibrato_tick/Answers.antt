@@ -1,22 +1,17 @@
 -- `room_raw_vibrato_tick`, accepted: the ports are the mask's, and the rate, which is not written back, is the tick's too. Assumes nothing.
 use Rattle.std.proofs.Common.{ap, sym, ◌∙◌, [], ◌∷◌}
-use Rattle.port.specs.Answer.{answer_reply}
-use Rattle.effect.specs.Run.{tick, device_of}
-use Rattle.effect.specs.Contract.{Does}
+use Rattle.effect.specs.Run.{device_of}
 use Rattle.vibrato.specs.Vibrato.{vibrato, tick_of, state_of}
 use Rattle.vibrato.proofs.Demand1.{laws}
-use Rattle.room_effects.specs.Ports.{port_at}
-use Rattle.room_effects.proofs.Laws.{of-tick, stored, tick-settings, played}
+use Rattle.room_effects.proofs.Laws.{ticked}
 use Rattle.room_effects.proofs.vibrato_calls.room_raw_vibrato_tick.Goals as goal
 
 pub returns : goal.returns
 returns c =
     let a = c.args in
-    let t = tick_of (port_at a.set 1 a.audio) (port_at a.set 2 a.depth) (port_at a.set 4 a.mix) a.frequency a.sine in
-    let unit = device_of (state_of a.write_pos.now a.lfo_phase.now a.sample_rate) a.memory.now in
     let next = c.tick-ticked.result.state in
-    let does : Does vibrato (tick t) unit.state unit.memory next c.tick-ticked.new.mem (answer_reply c.tick-ticked.result.answer) =
-    of-tick vibrato unit.state {t₀ = t} (λ i. tick_of (c.port_at.ensures i) (c.port_at-2.ensures i) (c.port_at-3.ensures i) a.frequency a.sine) c.tick-ticked.ensures in
-    played vibrato 1 does
-    (stored vibrato (tick t) unit does (sym c.if-number-ne0.false ∙ c.number-number.ensures) (ap (state_of next.write_pos next.lfo_phase) (tick-settings vibrato laws does)))
+    ticked vibrato laws 1 (device_of (state_of a.write_pos.now a.lfo_phase.now a.sample_rate) a.memory.now)
+    (λ i. tick_of (c.port_at.ensures i) (c.port_at-2.ensures i) (c.port_at-3.ensures i) a.frequency a.sine) c.tick-ticked.ensures
+    (sym c.if-number-ne0.false ∙ c.number-number.ensures)
+    (ap (state_of next.write_pos next.lfo_phase))
     (λ i. c.first.ensures i ∷ [])

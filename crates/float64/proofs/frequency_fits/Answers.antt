@@ -1,7 +1,0 @@
--- `float64::frequency_fits`: the code's bounds are the definition's. Assumes nothing.
-use lib.Ieee.{of_bits, of_int, neg}
-use Rattle.float64.proofs.frequency_fits.Goals as goal
-
-pub returns : goal.returns
-unfolding of_bits of_int neg
-returns c = c.in_range.ensures
