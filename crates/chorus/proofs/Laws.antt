@@ -26,16 +26,16 @@ use Rattle.port.specs.Answer.{Reply, played}
 use Rattle.port.proofs.Laws.{nan_is}
 use Rattle.common.specs.Signal.{sanitized, cause_number}
 use Rattle.common.specs.Line.{next_place, line_at, read_at}
-use Rattle.common.proofs.Slices.{part_length, front-set}
+use Rattle.common.proofs.Slices.{front-set}
 use Rattle.common.proofs.Ring.{front-line}
 use Rattle.common.proofs.Sweep.{neither, no-cause, control-in, size-tests}
 use Rattle.effect.specs.Effect.{laid}
 use Rattle.effect.specs.Lines.{in_each}
 use Rattle.effect.specs.Run.{tick, reset, number_in}
 use Rattle.effect.specs.Contract.{Does}
-use Rattle.effect.proofs.Table.{Accepted, accepted, tick-accepted, enough, memory-enough}
-use Rattle.effect.proofs.Contract.{accepts, tick-number}
-use Rattle.effect.proofs.Rows.{tick_row}
+use Rattle.effect.proofs.Table.{accepted, tick-accepted}
+use Rattle.effect.proofs.Contract.{accepts}
+use Rattle.effect.proofs.Rows.{tick_row, unit, first-long, first-does}
 use Rattle.chorus.specs.declared.Chorus.{Chorus}
 use Rattle.chorus.specs.Chorus.{Tick, tick_of, chorus, line_length, Phases, phases_of, phase_at, factor, stepped, next_phases, phases_fit, state_fits, tick_number, input, depth, mix, distance_in, distance, voice, mixed, next, writes}
 use Rattle.chorus.specs.Chorus as page
@@ -238,36 +238,19 @@ module _ (t : Tick) (s : Chorus) (m : List Float) (e : length m ≡ line_length 
 -- ---- an accepted tick: what it does in the line, which is the first n places of the memory, it does in the memory
 
 module _ (t : Tick) (s : Chorus) (m : List Float) {n : ℕ} (e : n ≡ line_length s.sample_rate) (passed : 0 ≡ number_in chorus reset (length m) s) where
-  abbrev unit : Accepted chorus (length m) reset s
-  unit = accepted chorus (length m) reset s (sym passed)
-
-  room : n ≤ length m
-  room = omega (arith, e, enough (line_length s.sample_rate) (length m) unit.number)
-
-  pub line-long : length (take n m) ≡ line_length s.sample_rate
-  line-long = part_length 0 n m n refl (omega (arith, room)) ∙ e
-
-  -- past causes 4 and 3 there, the line passes them too
-  pub line-row : {k : ℕ} → k ≡ tick_number t → k ≡ number_in chorus (tick t) (length (take n m)) s
-  line-row g = tick-number chorus (length (take n m)) s t unit.state_fits (memory-enough (omega (arith, line-long))) g
-
   pub line-does : {s' : Chorus} {l : List Float} {a : Reply} → 0 ≡ tick_number t → Does chorus (tick t) s (take n m) s' l a
       → Does chorus (tick t) s m s' (l ++ drop n m) a
   unfolding next writes page.samples_from voice
   line-does g does =
-      let k = sym (line-row g) in
       let rate = s.sample_rate in
       let L = line_length rate in
       let w = s.write_pos in
-      let inside = (fits-parts s unit.state_fits).inside in
+      let inside = (fits-parts s (unit chorus s m e passed).state_fits).inside in
       let heard = front-line 0 L w m n (omega (arith, e)) inside in
       let far = distance rate (depth t) in
-      accepts chorus (tick t) s m (sym (tick_row chorus t s m passed g))
-      (rw k at does.state)
-      (ap (λ (q : List Float). q ++ drop n m) (rw k at does.memory)
-      ∙ front-set (take n m) (drop n m) (0 * L + w) (input t) (omega (arith, line-long)) (take-append-drop n m))
-      ((rw k at does.answer)
-      ∙ (λ i. played (mixed (input t) (mix t) (read_at (heard i) (far t.sine0)) (read_at (heard i) (far t.sine1)) (read_at (heard i) (far t.sine2)))))
+      first-does chorus s m e passed t g does refl
+      (front-set (take n m) (drop n m) (0 * L + w) (input t) (omega (arith, e, inside, first-long chorus s m e passed)) (take-append-drop n m))
+      (λ i. mixed (input t) (mix t) (read_at (heard i) (far t.sine0)) (read_at (heard i) (far t.sine1)) (read_at (heard i) (far t.sine2)))
 
 -- ---- ports: a tick is the one with all ports set to the values that it takes from them
 

@@ -28,12 +28,13 @@ use Rattle.port.specs.Answer.{Reply, played}
 use Rattle.port.proofs.Laws.{nan_is}
 use Rattle.common.specs.Signal.{sanitized, blended, cause_number}
 use Rattle.common.specs.Line.{line_at, read_at}
-use Rattle.common.proofs.Slices.{part_length, front-set}
+use Rattle.common.proofs.Slices.{front-set}
 use Rattle.common.proofs.Ring.{front-line}
 use Rattle.common.proofs.Sweep.{size_is, no-cause, value-number}
 use Rattle.effect.specs.Effect.{laid}
 use Rattle.effect.specs.Run.{tick, reset, first, memory_number, number_in}
-use Rattle.effect.proofs.Table.{Accepted, accepted, tick-accepted, enough}
+use Rattle.effect.proofs.Table.{accepted, tick-accepted}
+use Rattle.effect.proofs.Rows.{unit, first-long}
 use Rattle.delay_line.specs.declared.DelayLine.{DelayLine}
 use Rattle.delay_line.specs.declared.Settings.{Settings}
 use Rattle.delay_line.specs.DelayLine.{Tick, delay_line, tick_of, settings, places, held_maximum, settings_number, maximum_fits, line_length, glide_fits, state_fits, tick_number, delay_ms, samples_of, glided, reads_at, distance, delayed_by, delayed, next_state, next, writes}
@@ -254,19 +255,13 @@ module _ (s : DelayLine) (x : Float) (m : List Float) (e : length m ≡ size s) 
 -- numbers that it takes from its ports and its delay in samples
 
 module _ (t : Tick) (s : DelayLine) (m : List Float) {n : ℕ} (e : n ≡ size s) (passed : 0 ≡ number_in delay_line reset (length m) s) where
-  abbrev unit : Accepted delay_line (length m) reset s
-  unit = accepted delay_line (length m) reset s (sym passed)
-
-  room : n ≤ length m
-  room = omega (arith, e, enough (size s) (length m) unit.number)
-
-  pub line-long : length (take n m) ≡ size s
-  line-long = part_length 0 n m n refl (omega (arith, room)) ∙ e
+  inside : s.write_pos < size s
+  inside = (fits-parts s (unit delay_line s m e passed).state_fits).inside
 
   heard : (x : Float) → delayed_by s x (take n m) ≡ delayed_by s x m
   unfolding delayed_by
   heard x =
-      let line = front-line 0 (size s) s.write_pos m n (omega (arith, e)) (fits-parts s unit.state_fits).inside in
+      let line = front-line 0 (size s) s.write_pos m n (omega (arith, e)) inside in
       λ i. read_at (line i) (reads_at s x)
 
   module _ {a c f b x : Float} (audio : a ≡ value_or t.audio plus_zero) (time : c ≡ value_or t.time half) (back : f ≡ value_or t.feedback plus_zero) (wet : b ≡ value_or t.mix half) (read : x ≡ samples_of s.sample_rate (cond s.linear_time (mul binary64 (clamp_of c plus_zero s.max_delay_secs) (float_of 1000)) t.milliseconds)) where
@@ -280,14 +275,14 @@ module _ (t : Tick) (s : DelayLine) (m : List Float) {n : ℕ} (e : n ≡ size s
 
     pub next-is : {r : DelayLine} → r ≡ next_state (length (take n m)) (reads_at s x) s → r ≡ next t s
     unfolding next distance
-    next-is g = g ∙ (λ i. next_state (line-long i) (reads_at s (samples-are i)) s)
+    next-is g = g ∙ (λ i. next_state ((first-long delay_line s m e passed ∙ e) i) (reads_at s (samples-are i)) s)
 
     pub stored_is : {l : List Float} → l ≡ set (take n m) s.write_pos (add binary64 (sanitized a) (mul binary64 (delayed_by s x (take n m)) (clamp_of f plus_zero (fraction 99 100))))
         → l ++ drop n m ≡ laid (writes t s m) m
     unfolding writes
     stored_is g =
         ap (λ (q : List Float). q ++ drop n m) g
-        ∙ front-set (take n m) (drop n m) s.write_pos _ (omega (arith, line-long, (fits-parts s unit.state_fits).inside)) (take-append-drop n m)
+        ∙ front-set (take n m) (drop n m) s.write_pos _ (omega (arith, e, inside, first-long delay_line s m e passed)) (take-append-drop n m)
         ∙ (λ i. set m s.write_pos (add binary64 (sanitized (audio i)) (mul binary64 (delayed-here i) (clamp_of (back i) plus_zero (fraction 99 100)))))
 
     pub played-is : {q : Reply} → q ≡ played (blended (sanitized a) (delayed_by s x (take n m)) (clamp_of b plus_zero (float_of 1)) ∷ []) → q ≡ played (page.samples t s m)

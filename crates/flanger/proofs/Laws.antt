@@ -27,9 +27,9 @@ use Rattle.common.proofs.Sweep.{control-in, part-read}
 use Rattle.effect.specs.Effect.{laid}
 use Rattle.effect.specs.Run.{tick, reset, number_in}
 use Rattle.effect.specs.Contract.{Does}
-use Rattle.effect.proofs.Table.{Accepted, accepted, tick-accepted, enough, memory-enough}
-use Rattle.effect.proofs.Contract.{accepts, tick-number}
-use Rattle.effect.proofs.Rows.{tick_row}
+use Rattle.effect.proofs.Table.{accepted, tick-accepted}
+use Rattle.effect.proofs.Contract.{accepts}
+use Rattle.effect.proofs.Rows.{tick_row, unit, first-long, first-does}
 use Rattle.flanger.specs.declared.Flanger.{Flanger}
 use Rattle.flanger.specs.Flanger.{Tick, tick_of, flanger, line_length, places, state_fits, tick_number, input, depth, feedback, mix, distance_in, distance, tap, fed, next, writes}
 use Rattle.flanger.specs.Flanger as page
@@ -172,47 +172,34 @@ module _ (t : Tick) (s : Flanger) (m : List Float) {n : ℕ} (r : Ready t s m n)
 -- ---- an accepted tick: what it does in the lines, which are the first places of the memory, it does in the memory
 
 module _ (t : Tick) (s : Flanger) (m : List Float) {n : ℕ} (e : n ≡ places s.sample_rate) (passed : 0 ≡ number_in flanger reset (length m) s) where
-  abbrev unit : Accepted flanger (length m) reset s
-  unit = accepted flanger (length m) reset s (sym passed)
-
-  room : n ≤ length m
-  room = omega (arith, e, enough (places s.sample_rate) (length m) unit.number)
-
-  pub lines-long : length (take n m) ≡ 2 * line_length s.sample_rate
-  lines-long = omega (arith, e, part_length 0 n m n refl (omega (arith, room)))
-
-  -- past causes 4 and 3 there, the lines pass them too
-  pub lines-row : {k : ℕ} → k ≡ tick_number t → k ≡ number_in flanger (tick t) (length (take n m)) s
-  lines-row g = tick-number flanger (length (take n m)) s t unit.state_fits (memory-enough (omega (arith, lines-long))) g
+  inside : s.write_pos < line_length s.sample_rate
+  inside = (fits-parts s (unit flanger s m e passed).state_fits).inside
 
   -- line i is read alike
   same-tap : (i : ℕ) (sine : Float) → i * line_length s.sample_rate + line_length s.sample_rate ≤ n → tap i sine t s (take n m) ≡ tap i sine t s m
   unfolding tap
   same-tap i sine h =
       let L = line_length s.sample_rate in
-      let heard = front-line (i * L) L s.write_pos m n h (fits-parts s unit.state_fits).inside in
+      let heard = front-line (i * L) L s.write_pos m n h inside in
       λ j. read_at (heard j) (distance s.sample_rate (depth t) sine)
 
   pub lines-do : {s' : Flanger} {l : List Float} {a : Reply} → 0 ≡ tick_number t → Does flanger (tick t) s (take n m) s' l a
       → Does flanger (tick t) s m s' (l ++ drop n m) a
   unfolding next writes page.samples
   lines-do g does =
-      let k = sym (lines-row g) in
       let L = line_length s.sample_rate in
       let w = s.write_pos in
-      let inside = (fits-parts s unit.state_fits).inside in
       let first = take n m in
       let rest = drop n m in
+      let long = first-long flanger s m e passed in
       let left = same-tap 0 t.sine0 (omega (arith, e)) in
       let right = same-tap 1 t.sine1 (omega (arith, e)) in
       let x = fed t (tap 0 t.sine0 t s first) in
-      let one = front-set first rest w x (omega (arith, inside, lines-long)) (take-append-drop n m) in
-      let two = front-set (set first w x) rest (L + w) (fed t (tap 1 t.sine1 t s first)) (omega (arith, inside, lines-long, length-set first w x)) one in
-      accepts flanger (tick t) s m (sym (tick_row flanger t s m passed g))
-      (rw k at does.state)
-      (ap (λ (q : List Float). q ++ rest) (rw k at does.memory) ∙ two ∙ (λ i. set (set m w (fed t (left i))) (L + w) (fed t (right i))))
-      ((rw k at does.answer)
-      ∙ (λ i. played (blended (input t) (left i) (mix t) ∷ blended (input t) (left i) (mix t) ∷ blended (input t) (right i) (mix t) ∷ [])))
+      let one = front-set first rest w x (omega (arith, e, inside, long)) (take-append-drop n m) in
+      let two = front-set (set first w x) rest (L + w) (fed t (tap 1 t.sine1 t s first)) (omega (arith, e, inside, long, length-set first w x)) one in
+      first-does flanger s m e passed t g does refl
+      (two ∙ (λ i. set (set m w (fed t (left i))) (L + w) (fed t (right i))))
+      (λ i. blended (input t) (left i) (mix t) ∷ blended (input t) (left i) (mix t) ∷ blended (input t) (right i) (mix t) ∷ [])
 
 -- ---- ports: a tick is the one with all ports set to the values that it takes from them
 

@@ -23,16 +23,16 @@ use Rattle.port.specs.Answer.{Reply, played}
 use Rattle.port.proofs.Laws.{nan_is}
 use Rattle.common.specs.Signal.{blended, advanced, cause_number}
 use Rattle.common.specs.Line.{next_place, line_at, read_at}
-use Rattle.common.proofs.Slices.{part_length, front-set}
+use Rattle.common.proofs.Slices.{front-set}
 use Rattle.common.proofs.Ring.{front-line}
 use Rattle.common.proofs.Sweep.{size-tests, no-cause, neither, control-in}
 use Rattle.effect.specs.Effect.{laid}
 use Rattle.effect.specs.Lines.{in_each}
 use Rattle.effect.specs.Run.{tick, reset, number_in}
 use Rattle.effect.specs.Contract.{Does}
-use Rattle.effect.proofs.Table.{Accepted, accepted, tick-accepted, enough, memory-enough}
-use Rattle.effect.proofs.Contract.{accepts, tick-number}
-use Rattle.effect.proofs.Rows.{tick_row}
+use Rattle.effect.proofs.Table.{accepted, tick-accepted}
+use Rattle.effect.proofs.Contract.{accepts}
+use Rattle.effect.proofs.Rows.{tick_row, unit, first-long, first-does}
 use Rattle.vibrato.specs.declared.Vibrato.{Vibrato}
 use Rattle.vibrato.specs.Vibrato.{Tick, tick_of, vibrato, line_length, state_fits, tick_number, input, depth, mix, distance_in, distance, delayed, next, writes}
 use Rattle.vibrato.specs.Vibrato as page
@@ -166,34 +166,18 @@ module _ (t : Tick) (s : Vibrato) (m : List Float) (e : length m ≡ line_length
 -- ---- an accepted tick: what it does in the line, which is the first n places of the memory, it does in the memory
 
 module _ (t : Tick) (s : Vibrato) (m : List Float) {n : ℕ} (e : n ≡ line_length s.sample_rate) (passed : 0 ≡ number_in vibrato reset (length m) s) where
-  abbrev unit : Accepted vibrato (length m) reset s
-  unit = accepted vibrato (length m) reset s (sym passed)
-
-  room : n ≤ length m
-  room = omega (arith, e, enough (line_length s.sample_rate) (length m) unit.number)
-
-  pub line-long : length (take n m) ≡ line_length s.sample_rate
-  line-long = part_length 0 n m n refl (omega (arith, room)) ∙ e
-
-  -- past causes 4 and 3 there, the line passes them too
-  pub line-row : {k : ℕ} → k ≡ tick_number t → k ≡ number_in vibrato (tick t) (length (take n m)) s
-  line-row g = tick-number vibrato (length (take n m)) s t unit.state_fits (memory-enough (omega (arith, line-long))) g
-
   pub line-does : {s' : Vibrato} {l : List Float} {a : Reply} → 0 ≡ tick_number t → Does vibrato (tick t) s (take n m) s' l a
       → Does vibrato (tick t) s m s' (l ++ drop n m) a
   unfolding next writes page.samples delayed
   line-does g does =
-      let k = sym (line-row g) in
       let rate = s.sample_rate in
       let L = line_length rate in
       let w = s.write_pos in
-      let inside = (fits-parts s unit.state_fits).inside in
+      let inside = (fits-parts s (unit vibrato s m e passed).state_fits).inside in
       let heard = front-line 0 L w m n (omega (arith, e)) inside in
-      accepts vibrato (tick t) s m (sym (tick_row vibrato t s m passed g))
-      (rw k at does.state)
-      (ap (λ (q : List Float). q ++ drop n m) (rw k at does.memory)
-      ∙ front-set (take n m) (drop n m) (0 * L + w) (input t) (omega (arith, line-long)) (take-append-drop n m))
-      ((rw k at does.answer) ∙ (λ i. played (blended (input t) (read_at (heard i) (distance rate (depth t) t.sine)) (mix t) ∷ [])))
+      first-does vibrato s m e passed t g does refl
+      (front-set (take n m) (drop n m) (0 * L + w) (input t) (omega (arith, e, inside, first-long vibrato s m e passed)) (take-append-drop n m))
+      (λ i. blended (input t) (read_at (heard i) (distance rate (depth t) t.sine)) (mix t) ∷ [])
 
 -- ---- ports: a tick is the one with all ports set to the values that it takes from them
 

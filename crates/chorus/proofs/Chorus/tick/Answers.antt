@@ -8,9 +8,9 @@ use Rattle.port.specs.Answer.{number}
 use Rattle.port.proofs.Laws.{number-some}
 use Rattle.effect.specs.Run.{tick}
 use Rattle.effect.proofs.Contract.{refuses}
-use Rattle.effect.proofs.Rows.{tick_row}
+use Rattle.effect.proofs.Rows.{tick_row, first-long, first-row}
 use Rattle.chorus.specs.Chorus.{chorus, tick_of, tick_number}
-use Rattle.chorus.proofs.Laws.{all_set, set_number, set_does, line-long, line-row, line-does}
+use Rattle.chorus.proofs.Laws.{all_set, set_number, set_does, line-does}
 use Rattle.chorus.proofs.Chorus.tick.Goals as goal
 
 pub returns-in-Err-causes : goal.returns-in-Err-causes
@@ -28,14 +28,14 @@ returns-in-Err-causes c =
 pub advance-requires-clause-places_value : goal.advance-requires-clause-places_value
 advance-requires-clause-places_value c =
     let a = c.args in
-    line-long (tick_of a.audio a.depth a.mix a.frequency a.sines) a.self a.mem.now c.in-Ok.ensures.needed c.in-Ok.ensures.number
+    first-long chorus a.self a.mem.now c.in-Ok.ensures.needed c.in-Ok.ensures.number ∙ c.in-Ok.ensures.needed
 
 pub advance-requires-clause-tick_accepted : goal.advance-requires-clause-tick_accepted
 unfolding tick_number
 advance-requires-clause-tick_accepted c =
     let a = c.args in
     let t = tick_of (Set c.match-audio.audio) (Set c.match-depth.depth) (Set c.match-mix.mix) a.frequency a.sines in
-    sym (line-row t a.self a.mem.now c.in-Ok.ensures.needed c.in-Ok.ensures.number (cc c.in_default-causes.ensures))
+    sym (first-row chorus a.self a.mem.now c.in-Ok.ensures.needed c.in-Ok.ensures.number t (cc c.in_default-causes.ensures))
 
 pub returns : goal.returns
 unfolding tick_number of_bits round

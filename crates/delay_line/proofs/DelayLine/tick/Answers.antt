@@ -12,9 +12,9 @@ use Rattle.port.specs.Answer.{number, number_of}
 use Rattle.port.proofs.Laws.{number-some}
 use Rattle.effect.specs.Run.{tick}
 use Rattle.effect.proofs.Contract.{refuses, accepts}
-use Rattle.effect.proofs.Rows.{tick_row}
+use Rattle.effect.proofs.Rows.{tick_row, first-long}
 use Rattle.delay_line.specs.DelayLine.{delay_line, tick_of}
-use Rattle.delay_line.proofs.Laws.{set-row, set-number, no_nan, meets-none, line-long, next-is, stored_is, played-is}
+use Rattle.delay_line.proofs.Laws.{set-row, set-number, no_nan, meets-none, next-is, stored_is, played-is}
 use Rattle.delay_line.proofs.DelayLine.tick.Goals as goal
 
 is-err : {A : Type 0} (r : Result A Refusal) → number_of r ≢ 0 → IsErr r
@@ -43,7 +43,7 @@ returns-then-is_nan c =
 pub advance-requires-clause-places_value : goal.advance-requires-clause-places_value
 advance-requires-clause-places_value c =
     let a = c.args in
-    line-long (tick_of a.audio a.time a.feedback a.mix a.milliseconds) a.self a.mem.now c.in-Ok.ensures.needed c.in-Ok.ensures.number
+    first-long delay_line a.self a.mem.now c.in-Ok.ensures.needed c.in-Ok.ensures.number ∙ c.in-Ok.ensures.needed
 
 pub returns : goal.returns
 unfolding of_bits round

@@ -8,9 +8,9 @@ use Rattle.port.specs.Answer.{number}
 use Rattle.port.proofs.Laws.{number-some}
 use Rattle.effect.specs.Run.{tick}
 use Rattle.effect.proofs.Contract.{refuses}
-use Rattle.effect.proofs.Rows.{tick_row}
+use Rattle.effect.proofs.Rows.{tick_row, first-long, first-row}
 use Rattle.flanger.specs.Flanger.{flanger, tick_of, tick_number}
-use Rattle.flanger.proofs.Laws.{filled, filled_number, filled_does, lines-long, lines-row, lines-do}
+use Rattle.flanger.proofs.Laws.{filled, filled_number, filled_does, lines-do}
 use Rattle.flanger.proofs.Flanger.tick.Goals as goal
 
 pub returns-in-Err-causes : goal.returns-in-Err-causes
@@ -31,14 +31,14 @@ pub advance-requires-clause-lines_value : goal.advance-requires-clause-lines_val
 advance-requires-clause-lines_value c =
     let a = c.args in
     let t = tick_of a.audio a.depth a.feedback a.mix a.frequency a.sine0 a.sine1 in
-    lines-long t a.self a.mem.now c.in-Ok.ensures.needed c.in-Ok.ensures.number
+    first-long flanger a.self a.mem.now c.in-Ok.ensures.needed c.in-Ok.ensures.number ∙ c.in-Ok.ensures.needed
 
 pub advance-requires-clause-tick_accepted : goal.advance-requires-clause-tick_accepted
 unfolding tick_number
 advance-requires-clause-tick_accepted c =
     let a = c.args in
     let t = tick_of (Set c.match-audio.audio) (Set c.match-depth.depth) (Set c.match-feedback.feedback) (Set c.match-mix.mix) a.frequency a.sine0 a.sine1 in
-    sym (lines-row t a.self a.mem.now c.in-Ok.ensures.needed c.in-Ok.ensures.number (cc c.in_default-causes.ensures))
+    sym (first-row flanger a.self a.mem.now c.in-Ok.ensures.needed c.in-Ok.ensures.number t (cc c.in_default-causes.ensures))
 
 pub returns : goal.returns
 unfolding tick_number of_bits round
