@@ -6,7 +6,10 @@ use mathlib.Core.Bool.{Bool, true, false}
 use mathlib.Core.List.{List}
 use lib.Ieee.{Float}
 use Rattle.std.specs.Int.{from_bool}
-use Rattle.port.specs.Answer.{Reply, reply_number}
+use Rattle.port.specs.declared.Refusal.{Refusal}
+use Rattle.port.specs.declared.Answer.{Answer}
+use Rattle.port.specs.declared.Answer.TheVariants.{One, Two, Three, Refused}
+use Rattle.port.specs.Answer.{Reply, answer_reply, reply_number}
 use Rattle.effect.specs.Effect.{Effect}
 use Rattle.effect.specs.Run.{tick, Device, number_at, step}
 use Rattle.effect.specs.Contract.{Does}
@@ -26,6 +29,13 @@ written true e = rw e
 written false e = rw e
 
 -- ---- an accepted tick
+
+-- an answer that is no refusal has the number 0
+pub not-refused : {a : Answer} → ((cause : Refusal) → a ≡ Refused cause → ⊥) → 0 ≡ reply_number (answer_reply a)
+not-refused {a = One x} h = refl
+not-refused {a = Two x y} h = refl
+not-refused {a = Three x y z} h = refl
+not-refused {a = Refused cause} h = absurd (h cause refl)
 
 module _ (E : Effect) (laws : Laws E) where
   -- the settings of the state that is left are those of h

@@ -9,7 +9,7 @@ ghost use Rattle.std.specs.Prelude.{◌≡◌, [], ◌∷◌};
 use crate::shared::{port_at, put_samples};
 use chorus::Chorus;
 use effect::{InMemory, InOnePart};
-use port::{number_of, silent_flag};
+use port::{Answer, number_of, silent_flag};
 
 // A chorus's position and phases into lent numbers; the rate is written, or kept, beside.
 fn put_chorus(state: Chorus, write_pos: &mut u64, lfo_phases: &mut [f64; 3])
@@ -121,11 +121,9 @@ pub extern "C" fn room_raw_chorus_tick(
         frequency,
         [sine0, sine1, sine2],
     );
-    let answer = ticked.answer;
-    let number = answer.number();
-    put_samples(answer, out);
-    if number != 0 {
-        return number;
+    put_samples(ticked.answer, out);
+    if let Answer::Refused(cause) = ticked.answer {
+        return u32::from(cause);
     }
     put_chorus(ticked.state, write_pos, lfo_phases);
     0

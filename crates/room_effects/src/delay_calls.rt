@@ -10,7 +10,7 @@ ghost use Rattle.room_effects.specs.Ports.{port_at};
 use crate::shared::port_at;
 use delay_line::{DelayLine, Retune};
 use effect::{InMemory, InOnePart};
-use port::{number_of, silent_flag};
+use port::{Answer, number_of, silent_flag};
 
 // A delay's state from lent numbers.
 fn delay_of(
@@ -194,11 +194,9 @@ pub extern "C" fn room_raw_delay_tick(
         port_at(set, 8, mix),
         milliseconds,
     );
-    let answer = ticked.answer;
-    let number = answer.number();
-    *out = answer.first();
-    if number != 0 {
-        return number;
+    *out = ticked.answer.first();
+    if let Answer::Refused(cause) = ticked.answer {
+        return u32::from(cause);
     }
     *write_pos = ticked.state.write_pos;
     *smoothed_delay = ticked.state.smoothed_delay;

@@ -8,7 +8,7 @@ ghost use Rattle.room_effects.specs.Ports.{port_at};
 use crate::shared::{port_at, put_samples};
 use effect::{InMemory, InOnePart};
 use flanger::Flanger;
-use port::{number_of, silent_flag};
+use port::{Answer, number_of, silent_flag};
 
 // Start of a flanger. A refused one writes the state of zeros too, and leaves the memory as it was.
 #[unsafe(no_mangle)]
@@ -116,11 +116,9 @@ pub extern "C" fn room_raw_flanger_tick(
         sine0,
         sine1,
     );
-    let answer = ticked.answer;
-    let number = answer.number();
-    put_samples(answer, out);
-    if number != 0 {
-        return number;
+    put_samples(ticked.answer, out);
+    if let Answer::Refused(cause) = ticked.answer {
+        return u32::from(cause);
     }
     *write_pos = ticked.state.write_pos;
     *lfo_phase = ticked.state.lfo_phase;

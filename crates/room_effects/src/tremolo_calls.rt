@@ -8,7 +8,7 @@ ghost use Rattle.std.specs.Prelude.{[], ◌∷◌};
 
 use crate::shared::port_at;
 use effect::WithoutMemory;
-use port::{number_of, silent_flag};
+use port::{Answer, number_of, silent_flag};
 use tremolo::Tremolo;
 
 // Start of a tremolo. A refused one writes the state of zeros too.
@@ -72,11 +72,9 @@ pub extern "C" fn room_raw_tremolo_tick(
         frequency,
         sine,
     );
-    let answer = ticked.answer;
-    let number = answer.number();
-    *out = answer.first();
-    if number != 0 {
-        return number;
+    *out = ticked.answer.first();
+    if let Answer::Refused(cause) = ticked.answer {
+        return u32::from(cause);
     }
     *lfo_phase = ticked.state.lfo_phase;
     0

@@ -8,7 +8,7 @@ ghost use Rattle.std.specs.Prelude.{[], ◌∷◌};
 
 use crate::shared::port_at;
 use effect::{InMemory, InOnePart};
-use port::{number_of, silent_flag};
+use port::{Answer, number_of, silent_flag};
 use vibrato::Vibrato;
 
 // Start of a vibrato. A refused one writes the state of zeros too, and leaves the memory as it was.
@@ -113,11 +113,9 @@ pub extern "C" fn room_raw_vibrato_tick(
         frequency,
         sine,
     );
-    let answer = ticked.answer;
-    let number = answer.number();
-    *out = answer.first();
-    if number != 0 {
-        return number;
+    *out = ticked.answer.first();
+    if let Answer::Refused(cause) = ticked.answer {
+        return u32::from(cause);
     }
     *write_pos = ticked.state.write_pos;
     *lfo_phase = ticked.state.lfo_phase;

@@ -1,9 +1,9 @@
 -- `room_raw_chorus_tick`, accepted: the ports are the mask's, and the rate, which is not written back, is the tick's too. Assumes nothing.
-use Rattle.std.proofs.Common.{ap, sym, ◌∙◌, [], ◌∷◌}
+use Rattle.std.proofs.Common.{ap, ◌∙◌, [], ◌∷◌}
 use Rattle.effect.specs.Run.{device_of}
 use Rattle.chorus.specs.Chorus.{chorus, tick_of, state_of}
 use Rattle.chorus.proofs.Demand1.{laws}
-use Rattle.room_effects.proofs.Laws.{ticked}
+use Rattle.room_effects.proofs.Laws.{ticked, not-refused}
 use Rattle.room_effects.proofs.chorus_calls.room_raw_chorus_tick.Goals as goal
 
 pub returns : goal.returns
@@ -12,6 +12,6 @@ returns c =
     let left = c.put_chorus.new in
     ticked chorus laws 3 (device_of (state_of a.write_pos.now a.lfo_phases.now a.sample_rate) a.memory.now)
     (λ i. tick_of (c.port_at.ensures i) (c.port_at-2.ensures i) (c.port_at-3.ensures i) a.frequency (a.sine0 ∷ a.sine1 ∷ a.sine2 ∷ [])) c.tick-ticked.ensures
-    (sym c.if-number-ne0.false ∙ c.number-number.ensures)
+    (not-refused c.in_default.not-Refused)
     (λ kept. ap (state_of left.write_pos left.lfo_phases) kept ∙ c.put_chorus.ensures)
     c.put_samples.ensures

@@ -1,9 +1,9 @@
 -- `room_raw_flanger_tick`, accepted: the ports are the mask's, and the rate, which is not written back, is the tick's too. Assumes nothing.
-use Rattle.std.proofs.Common.{ap, sym, ◌∙◌}
+use Rattle.std.proofs.Common.{ap}
 use Rattle.effect.specs.Run.{device_of}
 use Rattle.flanger.specs.Flanger.{flanger, tick_of, state_of}
 use Rattle.flanger.proofs.Demand1.{laws}
-use Rattle.room_effects.proofs.Laws.{ticked}
+use Rattle.room_effects.proofs.Laws.{ticked, not-refused}
 use Rattle.room_effects.proofs.flanger_calls.room_raw_flanger_tick.Goals as goal
 
 pub returns : goal.returns
@@ -12,6 +12,6 @@ returns c =
     let next = c.tick-ticked.result.state in
     ticked flanger laws 3 (device_of (state_of a.write_pos.now a.lfo_phase.now a.sample_rate) a.memory.now)
     (λ i. tick_of (c.port_at.ensures i) (c.port_at-2.ensures i) (c.port_at-3.ensures i) (c.port_at-4.ensures i) a.frequency a.sine0 a.sine1) c.tick-ticked.ensures
-    (sym c.if-number-ne0.false ∙ c.number-number.ensures)
+    (not-refused c.in_default.not-Refused)
     (ap (state_of next.write_pos next.lfo_phase))
     c.put_samples.ensures

@@ -1,9 +1,9 @@
 -- `room_raw_tremolo_tick`, accepted: the ports are the mask's, and the rate, which is not written back, is the tick's too. Assumes nothing.
-use Rattle.std.proofs.Common.{ap, sym, ◌∙◌, [], ◌∷◌}
+use Rattle.std.proofs.Common.{ap, [], ◌∷◌}
 use Rattle.effect.specs.Run.{device_of}
 use Rattle.tremolo.specs.Tremolo.{tremolo, tick_of, state_of}
 use Rattle.tremolo.proofs.Demand1.{laws}
-use Rattle.room_effects.proofs.Laws.{ticked}
+use Rattle.room_effects.proofs.Laws.{ticked, not-refused}
 use Rattle.room_effects.proofs.tremolo_calls.room_raw_tremolo_tick.Goals as goal
 
 pub returns : goal.returns
@@ -11,6 +11,6 @@ returns c =
     let a = c.args in
     ticked tremolo laws 1 (device_of (state_of a.lfo_phase.now a.sample_rate) [])
     (λ i. tick_of (c.port_at.ensures i) (c.port_at-2.ensures i) (c.port_at-3.ensures i) a.frequency a.sine) c.tick-ticked.ensures
-    (sym c.if-number-ne0.false ∙ c.number-number.ensures)
+    (not-refused c.in_default.not-Refused)
     (ap (state_of c.tick-ticked.result.state.lfo_phase))
     (λ i. c.first.ensures i ∷ [])
