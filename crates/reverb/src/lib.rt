@@ -143,7 +143,8 @@ impl Reverb {
         common::all_zero(&self.comb_filter_state_l) & common::all_zero(&self.comb_filter_state_r)
     }
 
-    // Silent? Whether every damping store and every place in use is +0 or -0: a store alone would bring the sound back.
+    // Silent? Whether every damping store and every place in use is +0 or -0: a store alone would bring the sound back. Its own, and no trait's: the places in use
+    // are 25 parts of the tank, by lengths that the state test has found.
     pub fn silent(self, mem: &[f64]) -> Result<bool, Refusal>
         ensures { Does reverb ask self mem.now self mem.now (silence_reply result) }
     {
