@@ -16,7 +16,7 @@ const FIELD_BEYOND_U64: u64 = 1087;
 pub fn is_nan(x: f64) -> bool
     ensures { result ≡ not (is_number x) }
 {
-    x != x
+    x.is_nan()
 }
 
 // Whether x is neither a NaN nor an infinity.
@@ -187,7 +187,7 @@ pub fn whole_part(x: f64) -> u64
             return significand_of(bits) << (field - FIELD_WITHOUT_FRACTION);
         }
         // and from 2^64 on, an infinity too, the largest u64.
-        return 18446744073709551615;
+        return u64::MAX;
     }
     0
 }
