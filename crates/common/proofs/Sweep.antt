@@ -1,16 +1,16 @@
--- What the effects with swept lines share: the length of a line that is 0 for a refused rate, distances clamped to a line, controls that are not NaN, and
--- reads in the part of the memory that is a line. Assumes nothing.
-use Prim.Native.Nat.{ℕ, ◌+◌, ◌^◌, ◌≤◌, ◌<◌, zero-le}
+-- What the effects with swept lines share: how long a line is, distances clamped to a line, controls that are not NaN, and reads in the part of the memory that
+-- is a line. Assumes nothing.
+use Prim.Native.Nat.{ℕ, ◌+◌, ◌^◌, ◌≤◌, ◌<◌}
 use native.Mathlib.Omega.{arith}
 use Rattle.std.proofs.Common.{lit<}
 use Rattle.std.proofs.lemmas.Float as floats
 use mathlib.Core.Path.{◌≡◌, refl, ap, ◌∙◌}
 use mathlib.Core.Bool.{Bool, true, false, ◌&&◌, ◌||◌, cond}
 use mathlib.Core.List.{List}
-use lib.Dec.{T, ltb, leb}
+use lib.Dec.{T, leb}
 use lib.ListN.{length, take, drop}
 use lib.Ieee.{Float, binary64, fits, is_nan, mul, div, to_unsigned, le, lt, of_int}
-use borrow.Author.Tests.{not-false, le-ltb}
+use borrow.Author.Tests.{not-false}
 use Rattle.float64.specs.Number.{plus_zero, float_of, is_number, whole_part, rate_fits, clamp_of, at_least, at_most}
 use Rattle.float64.proofs.Order.{le→not-lt}
 use Rattle.float64.proofs.Interval.{In, hi-fits, point, widen, cut_in, mul_in, div-in}
@@ -25,17 +25,8 @@ use Rattle.common.specs.Line.{sweep_fits, line_at, read_at}
 use Rattle.common.proofs.Slices.{part_length}
 use Rattle.common.proofs.Ring.{part-line}
 
--- ---- a line's length L where the rate fits, and 0 where it does not
+-- ---- the samples of a swept line: rate × milliseconds / 1000
 
-pub size_is : {n : ℕ} (b : Bool) (L : ℕ) → n ≡ cond b L 0 → b ≡ true → n ≡ L
-size_is b L e h = e ∙ ap (λ (c : Bool). cond c L 0) h
-
--- no position is below 0, so that the length alone tests the rate too; p is what else is tested, by the length
-pub size-tests : {n : ℕ} (b : Bool) (L w : ℕ) (p : ℕ → Bool) → n ≡ cond b L 0 → b && (ltb w L && p L) ≡ ltb w n && p n
-size-tests true L w p e = rw e
-size-tests false L w p e = rw (e, le-ltb w 0 zero-le)
-
--- rate × milliseconds / 1000
 module _ (rate milliseconds : Float) (h : rate_fits rate ≡ true) (k : sweep_fits milliseconds ≡ true) where
   swept-in : In binary64 (float_of 8) (float_of 19200) (div binary64 (mul binary64 rate milliseconds) (float_of 1000))
   unfolding fits le lt mul div of_int

@@ -30,7 +30,7 @@ use Rattle.common.specs.Signal.{sanitized, blended, cause_number}
 use Rattle.common.specs.Line.{line_at, read_at}
 use Rattle.common.proofs.Slices.{front-set}
 use Rattle.common.proofs.Ring.{front-line}
-use Rattle.common.proofs.Sweep.{size_is, no-cause, value-number}
+use Rattle.common.proofs.Sweep.{no-cause, value-number}
 use Rattle.effect.specs.Effect.{laid}
 use Rattle.effect.specs.Run.{tick, reset, first, memory_number, number_in}
 use Rattle.effect.proofs.Table.{accepted, tick-accepted}
@@ -110,10 +110,6 @@ module _ (s : DelayLine) where
   pub fit : Fits s → state_fits s ≡ true
   unfolding state_fits
   fit f = rw (f.rate, f.maximum, lt-ltb s.write_pos (size s) f.inside, f.coefficient, f.glide)
-
-  -- past the test n is the length of the line
-  pub fits-size : {n : ℕ} → n ≡ cond (size_fits (settings s)) (size s) 0 → state_fits s ≡ true → n ≡ size s
-  fits-size e h = let f = fits-parts h in size_is (size_fits (settings s)) (size s) e (rw (f.rate, f.maximum))
 
   pub size-fits : Fits s → (9 ≤ size s) × (size s ≤ 11520001)
   size-fits f = length-fits (settings s) (rw (f.rate, f.maximum))
