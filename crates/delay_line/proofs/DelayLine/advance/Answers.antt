@@ -5,12 +5,8 @@ use lib.Ieee.{binary64, add, mul, of_bits, of_int, round}
 use Rattle.port.specs.Answer.{played}
 use Rattle.common.specs.Signal.{blended}
 use Rattle.delay_line.specs.DelayLine.{settings, state_of, reads_at, delayed_by}
-use Rattle.delay_line.proofs.Laws.{fits-parts, ready, in-line, reads-is, delayed-is}
+use Rattle.delay_line.proofs.Laws.{fits-parts, in-line, reads-is, delayed-is}
 use Rattle.delay_line.proofs.DelayLine.advance.Goals as goal
-
-pub invariant_of-line : goal.invariant_of-line
-invariant_of-line c =
-    let r = ready c.requires.places_value c.requires.self_fits in record { inside = r.inside; some = r.some; short = r.short }
 
 pub read-delayed-requires : goal.read-delayed-requires
 read-delayed-requires c =
