@@ -27,7 +27,7 @@ use Rattle.port.specs.Port.{value_or, is_nan_set}
 use Rattle.port.specs.Answer.{Reply, played}
 use Rattle.port.proofs.Laws.{nan_is}
 use Rattle.common.specs.Signal.{sanitized, blended, cause_number}
-use Rattle.common.specs.Line.{line_at, read_at}
+use Rattle.common.specs.Line.{read_at}
 use Rattle.common.proofs.Slices.{front-set}
 use Rattle.common.proofs.Ring.{front-line}
 use Rattle.common.proofs.Sweep.{no-cause, value-number}
@@ -214,9 +214,9 @@ module _ (s : DelayLine) (f : Fits s) (x : Float) (k : is_number x ≡ true) whe
       (λ e. glide-in (size s - 1) s.delay_smooth_coef short target-in (range-in (whole-ends (size s - 1) short) (rw e at glide)) f.coefficient)
       (λ e. target-in)
 
-  -- by the length n of the line and the distance d that the code works out
-  pub in-line : {n : ℕ} {d : Float} → n ≡ size s → d ≡ reads_at s x → in_range d (float_of 1) (float_of (n - 1)) ≡ true
-  in-line e g = (λ i. in_range (g i) (float_of 1) (float_of (e i - 1))) ∙ in-range reads_in
+-- so that a read at it is allowed
+pub read_on_line : (s : DelayLine) (x : Float) → state_fits s ≡ true → is_number x ≡ true → in_range (reads_at s x) (float_of 1) (float_of (size s - 1)) ≡ true
+read_on_line s x f k = in-range (reads_in s (fits-parts s f) x k)
 
 pub distance-in : (t : Tick) (s : DelayLine) → Fits s → TickFits t s.linear_time → In binary64 (float_of 1) (float_of (size s - 1)) (distance t s)
 unfolding distance
@@ -235,19 +235,6 @@ ready {s} e k =
     let f = fits-parts s k in
     let l = size-fits s f in
     record { inside = omega (arith, e, f.inside); some = omega (arith, e, l.0); short = omega (arith, e, l.1) }
-
--- from its steps
-module _ (s : DelayLine) (x : Float) (m : List Float) (e : length m ≡ size s) where
-  pub reads-is : {target d : Float} → target ≡ clamp_of x (float_of 1) (float_of (length m - 1))
-      → d ≡ glided s.delay_primed s.smoothed_delay s.delay_smooth_coef target
-      → d ≡ reads_at s x
-  unfolding reads_at
-  reads-is b c =
-      c ∙ (λ i. glided s.delay_primed s.smoothed_delay s.delay_smooth_coef ((b ∙ (λ j. clamp_of x (float_of 1) (float_of (e j - 1)))) i))
-
-  pub delayed-is : {d y : Float} → d ≡ reads_at s x → y ≡ read_at (line_at 0 (length m) s.write_pos m) d → y ≡ delayed_by s x m
-  unfolding delayed_by
-  delayed-is a r = r ∙ (λ i. read_at (line_at 0 (e i) s.write_pos m) (a i))
 
 -- ---- an accepted tick: what it does in the line, which is the first n places of the memory, it does in the memory. It is as its page has it, from the
 -- numbers that it takes from its ports and its delay in samples

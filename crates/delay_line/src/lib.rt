@@ -323,7 +323,7 @@ impl DelayLine {
 
     // An accepted tick with its ports' numbers and its delay in samples, of the line by itself, which is read before the store. The glide goes to the samples,
     // held to the line.
-    #[tactic(auto, using(crate::proofs::Laws::ready))]
+    #[tactic(auto, using(crate::proofs::Laws::ready, crate::proofs::Laws::read_on_line), unfolding(crate::specs::DelayLine::reads_at, crate::specs::DelayLine::delayed_by, float64::proofs::Literals::of_bits, float64::proofs::Literals::of_int, float64::proofs::Literals::round))]
     fn advance(
         self,
         places: &mut [f64],
