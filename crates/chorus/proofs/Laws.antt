@@ -3,7 +3,7 @@
 use Prim.Native.Nat.{ℕ, ◌+◌, ◌-◌, ◌*◌, ◌≤◌, ◌<◌}
 use native.Mathlib.Omega.{arith}
 use mathlib.Core.Path.{◌≡◌, refl, sym, ap, ◌∙◌}
-use mathlib.Core.Bool.{Bool, true, false, ◌&&◌, ◌||◌, cond}
+use mathlib.Core.Bool.{true, false, ◌&&◌, ◌||◌}
 use mathlib.Core.List.{List, [], ◌∷◌, ◌++◌}
 use lib.IntN.{negsuc}
 use lib.Dec.{ltb}
@@ -11,13 +11,11 @@ use lib.ListN.{length, take, drop, set}
 use lib.Ieee.{Float, fin, binary64, add, sub, mul, div, neg, is_nan, le, lt, of_int, round}
 use lib.Ieee as Ieee
 use borrow.Author.Tests.{ltb-true, lt-ltb}
-use Rattle.std.specs.List.{list_all}
-use Rattle.std.proofs.Math.Bool.{and-true}
 use Rattle.std.proofs.lemmas.List.{take-append-drop}
 use Rattle.float64.specs.Number.{plus_zero, float_of, fraction, half, is_number, in_range, rate_fits, phase_fits, frequency_fits, sine_fits, clamp_of}
 use Rattle.float64.proofs.Tests.{both}
 use Rattle.float64.proofs.Interval.{In, point, add-in, mul_in, div-in, scale_in}
-use Rattle.float64.proofs.Ranges.{in-range, rate-in, sine-in, in-number}
+use Rattle.float64.proofs.Ranges.{in-range, range-in, rate-in, sine-in, in-number}
 use Rattle.float64.proofs.Parts.{clamp-whole-in}
 use Rattle.float64.proofs.Lengths.{length-32}
 use Rattle.port.specs.declared.Port.TheVariants.{Set}
@@ -28,7 +26,7 @@ use Rattle.common.specs.Signal.{sanitized, cause_number}
 use Rattle.common.specs.Line.{next_place, line_at, read_at}
 use Rattle.common.proofs.Slices.{front-set}
 use Rattle.common.proofs.Ring.{front-line}
-use Rattle.common.proofs.Sweep.{neither, no-cause, control-in, size-tests}
+use Rattle.common.proofs.Sweep.{neither, no-cause, control-in}
 use Rattle.effect.specs.Effect.{laid}
 use Rattle.effect.specs.Lines.{in_each}
 use Rattle.effect.specs.Run.{tick, reset, number_in}
@@ -46,9 +44,6 @@ module _ (rate : Float) (h : rate_fits rate ≡ true) where
   pub length-fits : (266 ≤ line_length rate) × (line_length rate ≤ 6154)
   unfolding line_length
   length-fits = let l = length-32 rate h in (omega arith, omega arith)
-
-  pub some-places : 1 ≤ line_length rate
-  some-places = omega (arith, length-fits.0)
 
 -- ---- the factors of the voices, as the code has them. Each side is computed by itself: against each other they are compared step by step
 
@@ -84,26 +79,13 @@ factor-1 = refl
 pub factor-2 : factor 2 ≡ fraction 11 10
 factor-2 = factor-high ∙ sym tenths-high
 
-pub phases-by : (frequency rate : Float) (p : Phases)
+pub phases_by : (frequency rate : Float) (p : Phases)
     → stepped (phase_at 0 p) frequency (fraction 9 10) rate ∷ stepped (phase_at 1 p) frequency (float_of 1) rate ∷ stepped (phase_at 2 p) frequency (fraction 11 10) rate ∷ []
     ≡ next_phases frequency rate p
 unfolding next_phases
-phases-by frequency rate p = rw (factor-0, factor-1, factor-2)
+phases_by frequency rate p = rw (factor-0, factor-1, factor-2)
 
 -- ---- the state test
-
--- an array's phases, tested from first to last
-pub each-phase : (p : Phases) → length p ≡ 3 → list_all phase_fits p ≡ phases_fit p
-each-phase (x ∷ y ∷ z ∷ []) e = ap (λ (b : Bool). phase_fits x && (phase_fits y && b)) (and-true (phase_fits z))
-each-phase (x ∷ y ∷ z ∷ w ∷ p) e = absurd (omega arith)
-each-phase (x ∷ y ∷ []) e = absurd (omega arith)
-each-phase (x ∷ []) e = absurd (omega arith)
-each-phase [] e = absurd (omega arith)
-
--- by the length n of the line, as `line_length` answers it
-pub fits_by : (s : Chorus) {n : ℕ} → n ≡ cond (rate_fits s.sample_rate) (line_length s.sample_rate) 0 → state_fits s ≡ ltb s.write_pos n && phases_fit (phases_of s)
-unfolding state_fits
-fits_by s e = size-tests (rate_fits s.sample_rate) (line_length s.sample_rate) s.write_pos (λ n. phases_fit (phases_of s)) e
 
 pub record Fits (s : Chorus) : Type 0 where
   pub rate : rate_fits s.sample_rate ≡ true
@@ -177,6 +159,12 @@ module _ (rate depth sine : Float) (h : rate_fits rate ≡ true) (d : In binary6
 
   pub distance-in : In binary64 (float_of 1) (float_of (line_length rate - 1)) (distance rate depth sine)
   distance-in = let l = length-fits rate h in distance-held (line_length rate) (omega (arith, l.0)) (omega (arith, l.1))
+
+-- the same, as tests
+pub held_to_line : (L : ℕ) (rate depth sine : Float) → rate_fits rate ≡ true → in_range depth (float_of 0) (float_of 1) ≡ true → sine_fits sine ≡ true → 2 ≤ L → L ≤ 16777217
+    → in_range (distance_in L rate depth sine) (float_of 1) (float_of (L - 1)) ≡ true
+unfolding Ieee.fits le of_int
+held_to_line L rate depth sine h d k some short = in-range (distance-held rate depth sine h (range-in tt d) k L some short)
 
 -- ---- an accepted tick of the line by itself: m is the line's places, no more
 

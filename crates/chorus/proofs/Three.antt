@@ -15,11 +15,12 @@ use Rattle.float64.specs.Number.{plus_zero, rate_fits}
 use Rattle.port.specs.Answer.{played, done, silent, refused}
 use Rattle.common.specs.Line.{zeros, line_at, read_at, all_zero}
 use Rattle.common.proofs.Ring.{newest-clear, part-line, same-places}
-use Rattle.common.proofs.Zeros.{drop_more, zeros-split}
+use Rattle.std.proofs.lemmas.List.{drop-drop}
+use Rattle.common.proofs.Zeros.{zeros-split}
 use Rattle.effect.specs.Run.{tick, retune, reset, ask, CallOf, Device, device_of, if_none, first, memory_number, number_in, number_at, start_number, started, start, start_reply, changed, says, step, reply, after, replies, Run}
 use Rattle.effect.specs.Demand1.{initial}
 use Rattle.effect.specs.Demand3.{Demand3}
-use Rattle.effect.proofs.Parts.{first-zeros, first_in_order, within_first}
+use Rattle.effect.proofs.Parts.{first_zeros, first_in_order, within_first}
 use Rattle.effect.proofs.Laws.{Laws, Below}
 use Rattle.effect.proofs.LineLaws.{LineLaws}
 use Rattle.effect.proofs.Demand3.{demand-3}
@@ -142,7 +143,7 @@ module _ (s : Chorus) (m n : List Float) (r : Corresponds (device_of s m) (devic
       ap (λ (k : ℕ). all_zero (take k n)) parts
       ∙ zeros-split L (L + L) n
       ∙ ap (λ (b : Bool). all_zero (take L n) && b) (zeros-split L L (drop L n))
-      ∙ ap (λ (q : List Float). all_zero (take L n) && (all_zero (take L (drop L n)) && all_zero (take L q))) (drop_more L L n)
+      ∙ ap (λ (q : List Float). all_zero (take L n) && (all_zero (take L (drop L n)) && all_zero (take L q))) (drop-drop L L n)
       ∙ (λ j. all_zero (each 0 0 (omega arith) (omega arith) j) && (all_zero (each 1 L (omega arith) (omega arith) j) && all_zero (each 2 (L + L) (omega arith) (omega arith) j)))
       ∙ and_self_left (all_zero (take L m)) (all_zero (take L m))
       ∙ and_self (all_zero (take L m))
@@ -169,7 +170,7 @@ module _ (s : Chorus) (m n : List Float) (r : Corresponds (device_of s m) (devic
   says-alike reset e = refl
   says-alike ask e =
       let a = accepted chorus (length m) ask s e in
-      ap silent (first-zeros (3 * L) n ∙ silence-alike (fits-parts s a.state_fits).inside (enough L (length m) a.number) ∙ sym (first-zeros L m))
+      ap silent (first_zeros (3 * L) n ∙ silence-alike (fits-parts s a.state_fits).inside (enough L (length m) a.number) ∙ sym (first_zeros L m))
 
   -- any call: it is accepted, or refused with the same number, of both
   same-call-alike : (c : CallOf chorus) → CallAlike c h g

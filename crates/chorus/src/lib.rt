@@ -87,6 +87,7 @@ impl Chorus {
     const BASE_MS: u32 = 7;
 
     // The places of the line; none at a refused rate.
+    #[tactic(auto, using(common::proofs::Sweep::sweep_whole), unfolding(crate::specs::Chorus::line_length))]
     fn line_length(rate: f64) -> Option<u64>
         ensures { result ≡ then_some (rate_fits rate) (line_length rate) }
     {
@@ -112,6 +113,7 @@ impl Chorus {
     }
 
     // The start phases, with the rate.
+    #[tactic(auto, unfolding(float64::proofs::Literals::of_bits, float64::proofs::Literals::round))]
     fn fresh(rate: f64) -> Chorus
         ensures { result ≡ fresh rate }
     {
@@ -119,6 +121,7 @@ impl Chorus {
     }
 
     // 7 x rate / 1000 + (sine x 0.5 + 0.5) x (depth x 25 x rate / 1000), held to the line.
+    #[tactic(auto, unfolding(crate::specs::Chorus::distance_in, float64::proofs::Literals::of_bits, float64::proofs::Literals::of_int, float64::proofs::Literals::round))]
     fn distance(line: Line, rate: f64, depth: f64, sine: f64) -> f64
         ensures { result ≡ distance_in (length line.entry.places.now) rate depth sine }
     {
@@ -128,6 +131,7 @@ impl Chorus {
     }
 
     // What a voice with this sine reads in the line, at its own distance, which is a number.
+    #[tactic(auto, using(crate::proofs::Laws::held_to_line))]
     fn voice(line: Line, rate: f64, depth: f64, sine: f64) -> f64
         requires rate_in_range { rate_fits rate ≡ true }
         requires depth_in_range { in_range depth (float_of 0) (float_of 1) ≡ true }
@@ -139,6 +143,7 @@ impl Chorus {
     }
 
     // The phases after a tick: each voice's moves on by its own factor of the frequency.
+    #[tactic(auto, using(crate::proofs::Laws::phases_by), unfolding(float64::proofs::Literals::of_bits, float64::proofs::Literals::of_int, float64::proofs::Literals::round))]
     fn next_phases(self, frequency: f64) -> [f64; 3]
         ensures { result ≡ next_phases frequency self.sample_rate (phases_of self) }
     {
@@ -152,6 +157,7 @@ impl Chorus {
     }
 
     // Mono, left and right of the three voices, each mixed with the audio.
+    #[tactic(auto, unfolding(crate::specs::Chorus::mixed, float64::proofs::Literals::of_bits, float64::proofs::Literals::of_int, float64::proofs::Literals::round))]
     fn mixed(input: f64, mix: f64, d0: f64, d1: f64, d2: f64) -> Answer
         ensures { answer_reply result ≡ played (mixed input mix d0 d1 d2) }
     {
@@ -166,7 +172,7 @@ impl Chorus {
     }
 
     // An accepted tick with all its ports set, of the line by itself. All three voices read it before the one store.
-    #[tactic(auto, using(crate::proofs::Laws::ready))]
+    #[tactic(auto, using(crate::proofs::Laws::ready), unfolding(float64::proofs::Literals::of_bits, float64::proofs::Literals::of_int))]
     fn advance(
         self,
         places: &mut [f64],
@@ -207,6 +213,7 @@ impl Chorus {
     }
 
     // One sample. Frequency and sines are the host's curve numbers, the sines at the state's phases.
+    #[tactic(auto, using(effect::proofs::Rows::first_places), unfolding(crate::specs::Chorus::tick_number))]
     pub fn tick(
         self,
         mem: &mut [f64],

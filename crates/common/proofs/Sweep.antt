@@ -1,23 +1,22 @@
--- What the effects with swept lines share: the length of a line that is 0 for a refused rate, distances clamped to a line, controls that are not NaN, and
--- reads in the part of the memory that is a line. Assumes nothing.
-use Prim.Native.Nat.{ℕ, ◌+◌, ◌*◌, ◌^◌, ◌≤◌, ◌<◌, zero-le}
-use native.Mathlib.Nat.{mul-zero}
+-- What the effects with swept lines share: how long a line is, distances clamped to a line, controls that are not NaN, and reads in the part of the memory that
+-- is a line. Assumes nothing.
+use Prim.Native.Nat.{ℕ, ◌+◌, ◌^◌, ◌≤◌, ◌<◌}
 use native.Mathlib.Omega.{arith}
 use Rattle.std.proofs.Common.{lit<}
+use Rattle.std.proofs.lemmas.Float as floats
 use mathlib.Core.Path.{◌≡◌, refl, ap, ◌∙◌}
-use mathlib.Core.Logic.{◌≢◌}
 use mathlib.Core.Bool.{Bool, true, false, ◌&&◌, ◌||◌, cond}
 use mathlib.Core.List.{List}
-use lib.Dec.{ltb, leb}
+use lib.Dec.{T, leb}
 use lib.ListN.{length, take, drop}
-use lib.Ieee.{Float, binary64, fits, is_nan, mul, div, le, lt, of_int}
-use borrow.Author.Tests.{not-false, le-ltb}
-use Rattle.float64.specs.Number.{plus_zero, float_of, is_number, rate_fits, clamp_of, at_least, at_most}
-use Rattle.float64.proofs.Order.{le-transitive, le→not-lt}
-use Rattle.float64.proofs.Interval.{In, hi-fits, point, mul_in, div-in}
+use lib.Ieee.{Float, binary64, fits, is_nan, mul, div, to_unsigned, le, lt, of_int}
+use borrow.Author.Tests.{not-false}
+use Rattle.float64.specs.Number.{plus_zero, float_of, is_number, whole_part, rate_fits, clamp_of, at_least, at_most}
+use Rattle.float64.proofs.Order.{le→not-lt}
+use Rattle.float64.proofs.Interval.{In, hi-fits, point, widen, cut_in, mul_in, div-in}
 use Rattle.float64.proofs.Ranges.{rate-in, range-in}
 use Rattle.float64.proofs.Clamped.{clamp-in, clamp-halves}
-use Rattle.float64.proofs.Parts.{clamp-whole-in, range-whole}
+use Rattle.float64.proofs.Parts.{small-in, clamp-whole-in, range-whole}
 use Rattle.port.specs.declared.Port.{Port}
 use Rattle.port.specs.declared.Port.TheVariants.{Set, Unset}
 use Rattle.port.specs.Port.{value_or, is_nan_set}
@@ -26,47 +25,31 @@ use Rattle.common.specs.Line.{sweep_fits, line_at, read_at}
 use Rattle.common.proofs.Slices.{part_length}
 use Rattle.common.proofs.Ring.{part-line}
 
--- ---- a line's length L where the rate fits, and 0 where it does not
+-- ---- the samples of a swept line: rate × milliseconds / 1000
 
-pub size_is : {n : ℕ} (b : Bool) (L : ℕ) → n ≡ cond b L 0 → b ≡ true → n ≡ L
-size_is b L e h = e ∙ ap (λ (c : Bool). cond c L 0) h
+module _ (rate milliseconds : Float) (h : rate_fits rate ≡ true) (k : sweep_fits milliseconds ≡ true) where
+  swept-in : In binary64 (float_of 8) (float_of 19200) (div binary64 (mul binary64 rate milliseconds) (float_of 1000))
+  unfolding fits le lt mul div of_int
+  swept-in = div-in (float_of 8) (float_of 19200) tt tt tt (mul_in (float_of 8000) (float_of 19200000) tt tt tt (rate-in h) (range-in tt k)) (point (float_of 1000) tt)
 
-pub size-some : {n : ℕ} (b : Bool) (L : ℕ) → n ≡ cond b L 0 → n ≢ 0 → b ≡ true
-size-some true L e f = refl
-size-some false L e f = absurd (f e)
+  -- so that its whole part may be asked for, and is small
+  pub swept-low : T (le (float_of 1) (div binary64 (mul binary64 rate milliseconds) (float_of 1000)))
+  unfolding fits le of_int
+  swept-low = (widen (float_of 1) (float_of 19200) tt swept-in).lower
 
-pub size_none : {n : ℕ} (b : Bool) (L : ℕ) → n ≡ cond b L 0 → (b ≡ true → 1 ≤ L) → n ≡ 0 → b ≡ false
-size_none true L e some z = absurd (omega (arith, some refl))
-size_none false L e some z = refl
+  pub swept-high : T (lt (div binary64 (mul binary64 rate milliseconds) (float_of 1000)) (float_of 4503599627370496))
+  unfolding fits le of_int
+  swept-high = (small-in (widen (float_of 1) (float_of 16777216) tt swept-in)).1
 
--- no position is below 0, so that the length alone tests the rate too; p is what else is tested, by the length
-pub size-tests : {n : ℕ} (b : Bool) (L w : ℕ) (p : ℕ → Bool) → n ≡ cond b L 0 → b && (ltb w L && p L) ≡ ltb w n && p n
-size-tests true L w p e = rw e
-size-tests false L w p e = rw (e, le-ltb w 0 zero-le)
+  pub swept-whole : whole_part (div binary64 (mul binary64 rate milliseconds) (float_of 1000)) ≤ 19200
+  unfolding to_unsigned le of_int
+  swept-whole = (cut_in 64 tt swept-in).1
 
--- also where the milliseconds are tested beside the rate, and pass
-pub size-swept : {n : ℕ} (b c : Bool) (L : ℕ) → c ≡ true → n ≡ cond (b && c) L 0 → n ≡ cond b L 0
-size-swept true c L h e = rw h at e
-size-swept false c L h e = e
-
-pub size-most : {n : ℕ} (b : Bool) (L most : ℕ) → n ≡ cond b L 0 → (b ≡ true → L ≤ most) → n ≤ most
-size-most true L most e h = omega (arith, h refl)
-size-most false L most e h = omega arith
-
--- k lines of that length
-pub size-times : {n : ℕ} (k : ℕ) (b : Bool) (L : ℕ) → n ≡ cond b L 0 → k * n ≡ cond b (k * L) 0
-size-times k true L e = ap (λ (x : ℕ). k * x) e
-size-times k false L e = rw e (mul-zero k)
-
--- rate × milliseconds / 1000
-pub swept-in : (rate milliseconds : Float) → rate_fits rate ≡ true → sweep_fits milliseconds ≡ true
-    → In binary64 (float_of 8) (float_of 19200) (div binary64 (mul binary64 rate milliseconds) (float_of 1000))
-unfolding fits le lt mul div of_int
-swept-in rate milliseconds h k = div-in (float_of 8) (float_of 19200) tt tt tt (mul_in (float_of 8000) (float_of 19200000) tt tt tt (rate-in h) (range-in tt k)) (point (float_of 1000) tt)
+pub ruleset swept_cases = (swept-low, swept-high, swept-whole)
 
 -- of whole milliseconds the test of their number is that of the float
-pub sweep-whole : (n : ℕ) → n < 2 ^ 32 → sweep_fits (float_of n) ≡ leb 1 n && leb n 100
-sweep-whole n h = range-whole 1 n 100 (lit< tt) (omega (arith, h)) (lit< tt)
+pub sweep_whole : (n : ℕ) → n < 2 ^ 32 → sweep_fits (float_of n) ≡ leb 1 n && leb n 100
+sweep_whole n h = range-whole 1 n 100 (lit< tt) (omega (arith, h)) (lit< tt)
 
 -- ---- distances
 
@@ -76,11 +59,11 @@ unfolding fits is_number is_nan of_int
 last-above M h k =
     let i = clamp-whole-in M h (float_of 1) k refl in
     let u = hi-fits binary64 (float_of 1) (float_of M) i.ends-ok in
-    le→not-lt binary64 (float_of 1) (float_of M) tt u (le-transitive binary64 (float_of 1) _ (float_of M) tt i.fit u i.lower i.upper)
+    le→not-lt binary64 (float_of 1) (float_of M) tt u (floats.le_trans (float_of 1) _ (float_of M) i.lower i.upper)
 
 -- the clamp to 1 to M in two halves
-pub clamped-halves : (x : Float) (M : ℕ) → M ≤ 2 ^ 24 → 1 ≤ M → at_most (at_least x (float_of 1)) (float_of M) ≡ clamp_of x (float_of 1) (float_of M)
-clamped-halves x M h k = clamp-halves x (float_of 1) (float_of M) (last-above M h k)
+pub clamped_halves : (x : Float) (M : ℕ) → M ≤ 2 ^ 24 → 1 ≤ M → at_most (at_least x (float_of 1)) (float_of M) ≡ clamp_of x (float_of 1) (float_of M)
+clamped_halves x M h k = clamp-halves x (float_of 1) (float_of M) (last-above M h k)
 
 -- ---- controls
 

@@ -1,9 +1,9 @@
 -- Zeros in, zeros out: blends of zeros, zeros fed back, and reads of zeros. Assumes nothing.
 use Rattle.std.proofs.Common.{◌≡◌, ℕ, ◌+◌, ◌^◌, ◌≤◌, false, T, refl, arith}
+use Rattle.std.proofs.lemmas.Float as floats
 use lib.Ieee.{Float, binary64, fits, is_nan, le, lt, add, sub, mul, neg, of_int}
 use Rattle.float64.specs.Number.{plus_zero, float_of, is_number, clamp_of, whole_part, fraction_part}
 use Rattle.float64.proofs.Interval.{In, ends, box, point, widen, sub_in, in-finite}
-use Rattle.float64.proofs.Order.{le-transitive}
 use Rattle.float64.proofs.Parts.{parts-of, whole-between}
 use Rattle.float64.proofs.Clamped.{clamp-in}
 use Rattle.float64.proofs.Zeros.{Zero, zero-times, zero-plus}
@@ -44,7 +44,7 @@ unfolding fits le lt add sub neg of_int
 fraction-in M x h i =
     let n = parts-of M h i in
     let top = whole-between 1 M 16777216 (omega (arith, n.at_least, n.at-most)) h (omega arith) in
-    let below = le-transitive binary64 x (float_of M) (float_of 16777216) i.fit top.fit tt i.upper top.upper in
+    let below = floats.le_trans x (float_of M) (float_of 16777216) i.upper top.upper in
     let wide : In binary64 (float_of 1) (float_of 16777216) x = box tt i.fit i.lower below in
     sub_in (neg (float_of 16777216)) (float_of 16777216) tt wide
     (whole-between 1 (whole_part x) 16777216 n.at_least (omega (arith, n.at-most)) (omega arith))

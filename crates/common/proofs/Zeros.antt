@@ -1,11 +1,11 @@
 -- Zeros place by place and part by part: a list is zeros where both its parts are, and parts of zeros are zeros. Assumes nothing.
-use Prim.Native.Nat.{ℕ, zero, suc, ◌+◌, ◌-◌, ◌≤◌, ◌<◌}
-use native.Mathlib.Nat.{zero-add, suc-add, not-suc-le-zero, le_of_suc-le-suc}
+use Prim.Native.Nat.{ℕ, zero, suc, ◌+◌, ◌<◌}
+use native.Mathlib.Nat.{not-suc-le-zero, le_of_suc-le-suc}
 use native.Mathlib.Omega.{arith}
 use mathlib.Core.Path.{◌≡◌, refl, sym, ap, ◌∙◌}
 use mathlib.Core.Bool.{Bool, true, false, ◌&&◌, and_assoc}
 use mathlib.Core.List.{List, [], ◌∷◌, ◌++◌}
-use lib.ListN.{length, get_or, set, take, drop, take-append-drop}
+use lib.ListN.{length, get_or, set, take, drop}
 use lib.Seq.{take-add}
 use lib.Dec.{eqb}
 use borrow.Author.Tests.{eqb-true}
@@ -36,22 +36,7 @@ unfolding all_zero
 zeros-append [] b = refl
 zeros-append (x ∷ a) b = ap (λ (c : Bool). is_zero x && c) (zeros-append a b) ∙ sym (and_assoc (is_zero x) (all_zero a) (all_zero b))
 
-drop-none : (n : ℕ) → drop {A = Float} n [] ≡ []
-drop-none zero = refl
-drop-none (suc n) = refl
-
-pub drop_more : (i n : ℕ) (l : List Float) → drop n (drop i l) ≡ drop (i + n) l
-drop_more zero n l = rw (zero-add n)
-drop_more (suc i) n [] = drop-none n ∙ sym (drop-none (suc i + n))
-drop_more (suc i) n (x ∷ l) = drop_more i n l ∙ ap (λ (k : ℕ). drop k (x ∷ l)) (sym (suc-add i n))
-
--- the places from i on: those before e, and those from e on
-pub zeros-part : (i e : ℕ) (l : List Float) → i ≤ e → all_zero (drop i l) ≡ all_zero (take (e - i) (drop i l)) && all_zero (drop e l)
-zeros-part i e l h =
-    let k : i + (e - i) ≡ e = omega arith in
-    ap all_zero (sym (take-append-drop (e - i) (drop i l)))
-    ∙ zeros-append (take (e - i) (drop i l)) (drop (e - i) (drop i l))
-    ∙ ap (λ (r : List Float). all_zero (take (e - i) (drop i l)) && all_zero r) (drop_more i (e - i) l ∙ ap (λ (n : ℕ). drop n l) k)
+pub ruleset part_cases = (no-places, zeros-append)
 
 -- the first a + b places: the first a, and the b after them
 pub zeros-split : (a b : ℕ) (l : List Float) → all_zero (take (a + b) l) ≡ all_zero (take a l) && all_zero (take b (drop a l))

@@ -21,6 +21,7 @@ pub struct Sides<T> {
 }
 
 // The input rule: non-finite audio becomes +0. Only a finite number less itself is 0; in this form it compiles without a branch.
+#[tactic(auto, using(crate::proofs::Finite::itself, crate::proofs::Finite::not_itself), unfolding(float64::proofs::Literals::of_bits))]
 pub fn sanitize_audio(x: f64) -> f64
     ensures { result ≡ sanitized x }
 {
@@ -28,6 +29,7 @@ pub fn sanitize_audio(x: f64) -> f64
 }
 
 // a x (1 - f) + b x f.
+#[tactic(auto, unfolding(crate::specs::Signal::blended, float64::proofs::Literals::of_bits, float64::proofs::Literals::of_int))]
 pub fn blend(a: f64, b: f64, f: f64) -> f64
     ensures { result ≡ blended a b f }
 {
@@ -35,6 +37,7 @@ pub fn blend(a: f64, b: f64, f: f64) -> f64
 }
 
 // The phase after one step: add; at 1 or more, subtract 1.
+#[tactic(auto, unfolding(crate::specs::Signal::advanced, float64::proofs::Literals::of_bits, float64::proofs::Literals::of_int))]
 pub fn advance_phase(phase: f64, step: f64) -> f64
     ensures { result ≡ advanced phase step }
 {
@@ -56,6 +59,7 @@ pub fn tick_causes(control_nan: bool, curves_fit: bool) -> Result<(), Refusal>
 }
 
 // The places of a swept line whose rate and milliseconds are in range.
+#[tactic(auto, using(crate::proofs::Sweep::swept_cases), unfolding(float64::proofs::Literals::of_bits, float64::proofs::Literals::of_int))]
 fn swept_length(rate: f64, milliseconds: f64) -> u64
     requires rate_in_range { rate_fits rate ≡ true }
     requires milliseconds_in_range { sweep_fits milliseconds ≡ true }
@@ -65,6 +69,7 @@ fn swept_length(rate: f64, milliseconds: f64) -> u64
 }
 
 // The places of a swept line; none for a rate or milliseconds out of range.
+#[tactic(auto, using(float64::proofs::Tests::both), unfolding(float64::proofs::Literals::of_bits, float64::proofs::Literals::of_int))]
 pub fn line_length(rate: f64, milliseconds: f64) -> Option<u64>
     ensures { result ≡ then_some (rate_fits rate && sweep_fits milliseconds) (swept_length milliseconds rate) }
 {
@@ -76,6 +81,7 @@ pub fn line_length(rate: f64, milliseconds: f64) -> Option<u64>
 
 // The same for whole milliseconds. They are a constant of an effect's, and the test of a constant is gone in the compiled code, where that of a float would stay: no
 // one function of both, by which the ticks took six to nine instructions more.
+#[tactic(auto, using(float64::proofs::Tests::both, crate::proofs::Sweep::sweep_whole))]
 pub fn line_length_whole(rate: f64, milliseconds: u32) -> Option<u64>
     ensures { result ≡ then_some (rate_fits rate && sweep_fits (float_of milliseconds)) (swept_length (float_of milliseconds) rate) }
 {
@@ -86,6 +92,7 @@ pub fn line_length_whole(rate: f64, milliseconds: u32) -> Option<u64>
 }
 
 // A distance held to a line: at least 1, and at most the last place.
+#[tactic(auto, unfolding(float64::proofs::Literals::of_bits, float64::proofs::Literals::of_int))]
 pub fn held_to_line(distance: f64, last: u32) -> f64
     ensures { result ≡ at_most (at_least distance (float_of 1)) (float_of last) }
 {
@@ -143,6 +150,7 @@ pub struct Line<'a> {
 
 impl<'a> Line<'a> {
     // What stands `distance` samples back from the write position. Both places are multiplied, also where the fraction is 0.
+    #[tactic(auto, using(crate::proofs::Reading::distance_cases))]
     pub fn read(self, distance: f64) -> f64
         requires { in_range distance (float_of 1) (float_of (length self.places.now - 1)) ≡ true }
         ensures { result ≡ read_at (line_at 0 (length self.entry.places.now) self.entry.write_pos self.entry.places.now) distance }
@@ -158,6 +166,7 @@ impl<'a> Line<'a> {
     }
 
     // A distance held to this line: 1 to its last place.
+    #[tactic(auto, using(crate::proofs::Sweep::clamped_halves))]
     pub fn hold(self, distance: f64) -> f64
         ensures { result ≡ clamp_of distance (float_of 1) (float_of (length self.entry.places.now - 1)) }
     {
@@ -173,6 +182,7 @@ impl<'a> Line<'a> {
 }
 
 // A clearing: +0 in every place. A loop and no `fill`, whose last store of its own took 16 bytes more of stack in a delay's start.
+#[tactic(auto, using(crate::proofs::Fill::fill_more), unfolding(float64::proofs::Literals::of_bits))]
 pub fn clear(mem: &mut [f64])
     ensures { mem.new ≡ zeros (length mem.old) }
 {
@@ -189,6 +199,7 @@ fn part_zero(part: &[f64]) -> bool
 }
 
 // Whether every place is +0 or -0: part by part, so that it stops soon after a place that is not.
+#[tactic(auto, using(crate::proofs::Zeros::part_cases))]
 pub fn all_zero(places: &[f64]) -> bool
     ensures { result ≡ all_zero places.now }
 {

@@ -16,7 +16,7 @@ use Rattle.effect.proofs.Demand1.{demand-1}
 use Rattle.delay_line.specs.declared.DelayLine.{DelayLine}
 use Rattle.delay_line.specs.declared.Settings.{Settings}
 use Rattle.delay_line.specs.DelayLine.{Tick, delay_line, state_fits, settings, settings_number, maximum_fits, cleared, blank, glide_fits, tick_number, next, writes, places}
-use Rattle.delay_line.proofs.Laws.{fits-parts, fit, held_fits, length-fits, size, tick-fits, distance-in}
+use Rattle.delay_line.proofs.Laws.{fits-parts, fit, held_fits, length-low, size, tick-fits, distance-in}
 
 -- ---- the laws
 
@@ -28,7 +28,7 @@ blank-refused = refl
 cleared-fits : (k : Settings) → rate_fits k.rate ≡ true → coefficient_fits k.coefficient ≡ true → maximum_fits k.maximum ≡ true → state_fits (cleared k) ≡ true
 unfolding glide_fits is_plus_zero Ieee.fits to_bits
 cleared-fits k r c m =
-    fit (cleared k) (record { rate = r; maximum = m; inside = omega (arith, (length-fits k (rw (r, m))).0); coefficient = c; glide = refl })
+    fit (cleared k) (record { rate = r; maximum = m; inside = omega (arith, length-low k.rate k.maximum (rw (r, m))); coefficient = c; glide = refl })
 
 -- the row of settings that are accepted
 row : (rate coefficient : Float) → settings_number rate coefficient ≡ 0 → (rate_fits rate ≡ true) × (coefficient_fits coefficient ≡ true)

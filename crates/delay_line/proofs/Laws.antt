@@ -11,11 +11,11 @@ use lib.Ieee.{Float, binary64, add, mul, le, lt, of_int, round, is_nan}
 use lib.Ieee as Ieee
 use lib.Ieee.Positive.{positive, between}
 use borrow.Author.Tests.{ltb-true, lt-ltb}
-use Rattle.float64.specs.Number.{plus_zero, float_of, fraction, half, is_number, is_finite, in_range, rate_fits, coefficient_fits, clamp_of, Small}
+use Rattle.float64.specs.Number.{plus_zero, float_of, fraction, half, is_number, is_finite, in_range, in_unit, rate_fits, coefficient_fits, clamp_of}
 use Rattle.std.proofs.lemmas.Bool.{not-false, cond_both, and_parts, or_parts}
 use Rattle.std.proofs.lemmas.List.{take-append-drop}
 use Rattle.float64.proofs.Tests.{clash}
-use Rattle.float64.proofs.Interval.{In, mul_in}
+use Rattle.float64.proofs.Interval.{In, widen, mul_in}
 use Rattle.float64.proofs.Ranges.{rate-in, range-in, in-range, in-number, finite_number}
 use Rattle.float64.proofs.Clamped.{clamp-in, clamp-number}
 use Rattle.float64.proofs.Scaled.{mul-number, div-number}
@@ -27,16 +27,15 @@ use Rattle.port.specs.Port.{value_or, is_nan_set}
 use Rattle.port.specs.Answer.{Reply, played}
 use Rattle.port.proofs.Laws.{nan_is}
 use Rattle.common.specs.Signal.{sanitized, blended, cause_number}
-use Rattle.common.specs.Line.{line_at, read_at}
+use Rattle.common.specs.Line.{read_at}
 use Rattle.common.proofs.Slices.{front-set}
 use Rattle.common.proofs.Ring.{front-line}
-use Rattle.common.proofs.Sweep.{size_is, no-cause, value-number}
+use Rattle.common.proofs.Sweep.{no-cause, value-number}
 use Rattle.effect.specs.Effect.{laid}
 use Rattle.effect.specs.Run.{tick, reset, first, memory_number, number_in}
 use Rattle.effect.proofs.Table.{accepted, tick-accepted}
 use Rattle.effect.proofs.Rows.{unit, first-long}
 use Rattle.delay_line.specs.declared.DelayLine.{DelayLine}
-use Rattle.delay_line.specs.declared.Settings.{Settings}
 use Rattle.delay_line.specs.DelayLine.{Tick, delay_line, tick_of, settings, places, held_maximum, settings_number, maximum_fits, line_length, glide_fits, state_fits, tick_number, delay_ms, samples_of, glided, reads_at, distance, delayed_by, delayed, next_state, next, writes}
 use Rattle.delay_line.specs.DelayLine as page
 
@@ -51,36 +50,34 @@ pub held_fits : (x : Float) → maximum_fits (held_maximum x) ≡ true
 unfolding held_maximum in_range Ieee.fits le of_int round
 held_fits x = cond_both (is_finite x) _ _ (λ (y : Float). maximum_fits y ≡ true) (λ f. in-range (clamp-in x tt tt (finite_number x f))) (λ f. refl)
 
-abbrev pub size_fits : Settings → Bool
-size_fits k = rate_fits k.rate && maximum_fits k.maximum
-
-module _ (k : Settings) (h : size_fits k ≡ true) where
-  pub length-fits : (9 ≤ places k) × (places k ≤ 11520001)
-  unfolding line_length
-  length-fits =
-      let f = and_parts (rate_fits k.rate) (maximum_fits k.maximum) h in let l = line-length k.rate f.0 (maximum-in f.1) in (omega (arith, l.0), l.1)
-
-  -- rate × maximum is small enough for `whole_part_small`
-  pub samples-small : Small (mul binary64 k.rate k.maximum)
+-- the length, and that rate × maximum is small enough for `whole_part_small`
+module _ (rate maximum : Float) (h : rate_fits rate && maximum_fits maximum ≡ true) where
+  samples-in : In binary64 (float_of 8) (float_of 11520000) (mul binary64 rate maximum)
   unfolding Ieee.fits le lt mul of_int round
-  samples-small =
-      let f = and_parts (rate_fits k.rate) (maximum_fits k.maximum) h in
-      small-in (mul_in (float_of 1) (float_of 16777216) tt tt tt (rate-in f.0) (maximum-in f.1))
+  samples-in = let f = and_parts (rate_fits rate) (maximum_fits maximum) h in mul_in (float_of 8) (float_of 11520000) tt tt tt (rate-in f.0) (maximum-in f.1)
 
--- where the maximum fits, what `refusal` answers is the table's row: causes 1, 2 and 3
-pub settings-row : (k : Settings) (n : ℕ) {j : ℕ} → maximum_fits k.maximum ≡ true
-    → j ≡ cond (size_fits k) (cond (coefficient_fits k.coefficient) (memory_number (places k) n) 2) 1
-    → j ≡ first (settings_number k.rate k.coefficient) (memory_number (places k) n)
-unfolding settings_number
-settings-row k n h e = e ∙ (rw h (go (rate_fits k.rate) (coefficient_fits k.coefficient)))
-  where
-    m : ℕ
-    m = memory_number (places k) n
+  pub samples-low : T (le (float_of 1) (mul binary64 rate maximum))
+  unfolding Ieee.fits le of_int
+  samples-low = (widen (float_of 1) (float_of 16777216) tt samples-in).lower
 
-    go : (r c : Bool) → cond (r && true) (cond c m 2) 1 ≡ first (cond r (cond c 0 2) 1) m
-    go true true = refl
-    go true false = refl
-    go false c = refl
+  pub samples-high : T (lt (mul binary64 rate maximum) (float_of 4503599627370496))
+  unfolding Ieee.fits le of_int
+  samples-high = (small-in (widen (float_of 1) (float_of 16777216) tt samples-in)).1
+
+  pub length-low : 9 ≤ line_length rate maximum
+  unfolding line_length
+  length-low = let f = and_parts (rate_fits rate) (maximum_fits maximum) h in omega (arith, (line-length rate f.0 (maximum-in f.1)).0)
+
+  pub length-high : line_length rate maximum ≤ 11520001
+  unfolding line_length
+  length-high = let f = and_parts (rate_fits rate) (maximum_fits maximum) h in (line-length rate f.0 (maximum-in f.1)).1
+
+pub ruleset size_cases = (samples-low, samples-high, length-low, length-high)
+
+-- a start that only counts places is handed +0 for its coefficient
+pub zero_fits : coefficient_fits plus_zero ≡ true
+unfolding in_unit le lt of_int Ieee.fits
+zero_fits = refl
 
 -- ---- the state test
 
@@ -101,7 +98,7 @@ module _ (s : DelayLine) where
       let w = ltb s.write_pos (size s) in
       let c = coefficient_fits s.delay_smooth_coef in
       let g = glide_fits s.delay_primed s.smoothed_delay (size s) in
-      let a = and_parts (size_fits (settings s)) (w && (c && g)) e in
+      let a = and_parts (rate_fits s.sample_rate && maximum_fits s.max_delay_secs) (w && (c && g)) e in
       let k = and_parts (rate_fits s.sample_rate) (maximum_fits s.max_delay_secs) a.0 in
       let b = and_parts w (c && g) a.1 in
       let d = and_parts c g b.1 in
@@ -111,12 +108,13 @@ module _ (s : DelayLine) where
   unfolding state_fits
   fit f = rw (f.rate, f.maximum, lt-ltb s.write_pos (size s) f.inside, f.coefficient, f.glide)
 
-  -- past the test n is the length of the line
-  pub fits-size : {n : ℕ} → n ≡ cond (size_fits (settings s)) (size s) 0 → state_fits s ≡ true → n ≡ size s
-  fits-size e h = let f = fits-parts h in size_is (size_fits (settings s)) (size s) e (rw (f.rate, f.maximum))
-
   pub size-fits : Fits s → (9 ≤ size s) × (size s ≤ 11520001)
-  size-fits f = length-fits (settings s) (rw (f.rate, f.maximum))
+  size-fits f =
+      let h : rate_fits s.sample_rate && maximum_fits s.max_delay_secs ≡ true = rw (f.rate, f.maximum) in
+      (length-low s.sample_rate s.max_delay_secs h, length-high s.sample_rate s.max_delay_secs h)
+
+  pub state_maximum : state_fits s ≡ true → maximum_fits s.max_delay_secs ≡ true
+  state_maximum e = (fits-parts e).maximum
 
 -- ---- causes 5 and 6
 
@@ -216,9 +214,9 @@ module _ (s : DelayLine) (f : Fits s) (x : Float) (k : is_number x ≡ true) whe
       (λ e. glide-in (size s - 1) s.delay_smooth_coef short target-in (range-in (whole-ends (size s - 1) short) (rw e at glide)) f.coefficient)
       (λ e. target-in)
 
-  -- by the length n of the line and the distance d that the code works out
-  pub in-line : {n : ℕ} {d : Float} → n ≡ size s → d ≡ reads_at s x → in_range d (float_of 1) (float_of (n - 1)) ≡ true
-  in-line e g = (λ i. in_range (g i) (float_of 1) (float_of (e i - 1))) ∙ in-range reads_in
+-- so that a read at it is allowed
+pub read_on_line : (s : DelayLine) (x : Float) → state_fits s ≡ true → is_number x ≡ true → in_range (reads_at s x) (float_of 1) (float_of (size s - 1)) ≡ true
+read_on_line s x f k = in-range (reads_in s (fits-parts s f) x k)
 
 pub distance-in : (t : Tick) (s : DelayLine) → Fits s → TickFits t s.linear_time → In binary64 (float_of 1) (float_of (size s - 1)) (distance t s)
 unfolding distance
@@ -237,19 +235,6 @@ ready {s} e k =
     let f = fits-parts s k in
     let l = size-fits s f in
     record { inside = omega (arith, e, f.inside); some = omega (arith, e, l.0); short = omega (arith, e, l.1) }
-
--- from its steps
-module _ (s : DelayLine) (x : Float) (m : List Float) (e : length m ≡ size s) where
-  pub reads-is : {target d : Float} → target ≡ clamp_of x (float_of 1) (float_of (length m - 1))
-      → d ≡ glided s.delay_primed s.smoothed_delay s.delay_smooth_coef target
-      → d ≡ reads_at s x
-  unfolding reads_at
-  reads-is b c =
-      c ∙ (λ i. glided s.delay_primed s.smoothed_delay s.delay_smooth_coef ((b ∙ (λ j. clamp_of x (float_of 1) (float_of (e j - 1)))) i))
-
-  pub delayed-is : {d y : Float} → d ≡ reads_at s x → y ≡ read_at (line_at 0 (length m) s.write_pos m) d → y ≡ delayed_by s x m
-  unfolding delayed_by
-  delayed-is a r = r ∙ (λ i. read_at (line_at 0 (e i) s.write_pos m) (a i))
 
 -- ---- an accepted tick: what it does in the line, which is the first n places of the memory, it does in the memory. It is as its page has it, from the
 -- numbers that it takes from its ports and its delay in samples

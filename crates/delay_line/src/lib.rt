@@ -56,6 +56,7 @@ impl Settings {
     };
 
     // The places of the line; none where the rate or the maximum is out of range.
+    #[tactic(auto, using(crate::proofs::Laws::size_cases), unfolding(crate::specs::DelayLine::line_length))]
     fn line_length(self) -> Option<u64>
         ensures { result ≡ then_some (rate_fits self.rate && maximum_fits self.maximum) (line_length self.rate self.maximum) }
     {
@@ -140,10 +141,12 @@ impl Unit for DelayLine {
         self.settings().cleared()
     }
 
+    #[tactic(auto, using(crate::proofs::Laws::held_fits), unfolding(crate::specs::DelayLine::settings_number))]
     fn start_refusal(handed: Settings, places: usize) -> Result<(), Refusal> {
         handed.held().refusal(places)
     }
 
+    #[tactic(auto, using(crate::proofs::Laws::size_cases), unfolding(crate::specs::DelayLine::state_fits))]
     fn fitting_places(self) -> Option<u64> {
         let n = self.settings().line_length()?;
         if self.write_pos >= n {
@@ -161,6 +164,7 @@ impl InMemory for DelayLine {
         self.settings().retuned(handed).cleared()
     }
 
+    #[tactic(auto, using(crate::proofs::Laws::state_maximum), unfolding(crate::specs::DelayLine::settings_number))]
     fn retune_refusal(self, handed: Retune, places: usize) -> Result<(), Refusal> {
         self.settings().retuned(handed).refusal(places)
     }
@@ -180,6 +184,7 @@ impl DelayLine {
     pub const MIN_DELAY_SECS: f64 = 0.001;
 
     // The maximum in seconds: not finite means 2, else clamped.
+    #[tactic(auto, unfolding(crate::specs::DelayLine::held_maximum, float64::proofs::Literals::of_bits, float64::proofs::Literals::of_int, float64::proofs::Literals::round))]
     pub fn held_maximum(seconds: f64) -> f64
         ensures { result ≡ held_maximum seconds }
     {
@@ -190,6 +195,7 @@ impl DelayLine {
         float64::clamp(seconds, DelayLine::MIN_DELAY_SECS, most)
     }
 
+    #[tactic(auto, unfolding(float64::proofs::Literals::of_bits, float64::proofs::Literals::of_int, float64::proofs::Literals::round))]
     fn maximum_fits(seconds: f64) -> bool
         ensures { result ≡ maximum_fits seconds }
     {
@@ -201,6 +207,7 @@ impl DelayLine {
     }
 
     // The places that a start needs at the rate, with a maximum still to be held; none for a rate that is refused. The coefficient has no part in it.
+    #[tactic(auto, using(crate::proofs::Laws::held_fits, crate::proofs::Laws::zero_fits), unfolding(crate::specs::DelayLine::settings_number))]
     pub fn places_needed(rate: f64, seconds: f64) -> Option<u64>
         ensures { result ≡ places_if_accepted delay_line (start_settings (handing rate plus_zero seconds false)) }
     {
@@ -244,6 +251,7 @@ impl DelayLine {
     }
 
     // The glide distance in a line of n places: +0 while unprimed, else 1 to n - 1.
+    #[tactic(auto, unfolding(crate::specs::DelayLine::glide_fits, float64::proofs::Literals::of_bits, float64::proofs::Literals::of_int))]
     fn glide_fits(self, n: u64) -> bool
         requires n_at_least { 1 ≤ n }
         requires n_bound { n ≤ 11520001 }
@@ -269,6 +277,7 @@ impl DelayLine {
 
     // The delay in samples, not yet held to the line: milliseconds x rate / 1000, in linear mode of the time port's seconds, else of those handed. It is
     // NaN where what it is read from is.
+    #[tactic(auto, unfolding(crate::specs::DelayLine::samples_of, float64::proofs::Literals::of_bits, float64::proofs::Literals::of_int))]
     fn delay_samples(self, time: f64, milliseconds: f64) -> f64
         ensures value { result ≡ samples_of self.sample_rate
             (cond self.linear_time (mul binary64 (clamp_of time plus_zero self.max_delay_secs) (float_of 1000)) milliseconds) }
@@ -314,6 +323,7 @@ impl DelayLine {
 
     // An accepted tick with its ports' numbers and its delay in samples, of the line by itself, which is read before the store. The glide goes to the samples,
     // held to the line.
+    #[tactic(auto, using(crate::proofs::Laws::ready, crate::proofs::Laws::read_on_line), unfolding(crate::specs::DelayLine::reads_at, crate::specs::DelayLine::delayed_by, float64::proofs::Literals::of_bits, float64::proofs::Literals::of_int, float64::proofs::Literals::round))]
     fn advance(
         self,
         places: &mut [f64],
@@ -354,6 +364,7 @@ impl DelayLine {
 
     // One sample. The milliseconds are the host's curve number, from its time control; linear mode reads the time port in their place. The delay is worked
     // out and asked for NaN before the state is tested, as it takes longest; where there is a NaN, the table's order decides.
+    #[tactic(auto, using(effect::proofs::Rows::first_places))]
     pub fn tick(
         self,
         mem: &mut [f64],

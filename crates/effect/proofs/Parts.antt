@@ -1,5 +1,5 @@
 -- Parts of a memory in order: which places are theirs, when they hold zeros, and what a zero put anywhere leaves of these. Assumes nothing.
-use Rattle.std.proofs.Common.{◌≡◌, ℕ, ◌+◌, ◌-◌, ◌^◌, ◌≤◌, ◌<◌, Bool, true, false, ◌&&◌, List, [], ◌∷◌, ◌++◌, length, get_or, set, take, drop, refl, sym, ap, ◌∙◌, arith, length-take, length-drop, append-nil}
+use Rattle.std.proofs.Common.{◌≡◌, ℕ, ◌+◌, ◌-◌, ◌^◌, ◌≤◌, ◌<◌, Bool, true, ◌&&◌, List, [], ◌∷◌, ◌++◌, length, get_or, set, take, drop, refl, sym, ap, ◌∙◌, arith, length-take, length-drop, append-nil}
 use mathlib.Core.Bool.{and_assoc}
 use lib.Seq.{get_or-take, get_or-drop, length-take-le}
 use lib.Ieee.{Float, nan, binary64}
@@ -57,18 +57,12 @@ held-append (p ∷ ps) qs m =
     ∙ sym (and_assoc (all_zero part) (all_zero (held_in ps m)) (all_zero (held_in qs m)))
     ∙ ap (λ (b : Bool). b && all_zero (held_in qs m)) (sym (zeros-append part (held_in ps m)))
 
--- where there are none, the state's own numbers decide
-pub no_places : (b : Bool) → b ≡ b && all_zero (held_in [] [])
-unfolding held_in all_zero
-no_places true = refl
-no_places false = refl
-
 pub one_part : (q : Part) (m : List Float) → all_zero (held_in (q ∷ []) m) ≡ all_zero (take q.size (drop q.start m))
 unfolding held_in
 one_part q m = ap all_zero (append-nil (take q.size (drop q.start m)))
 
-pub first-zeros : (n : ℕ) (m : List Float) → all_zero (held_in (first_places n) m) ≡ all_zero (take n m)
-first-zeros n m = one_part (part 0 n) m
+pub first_zeros : (n : ℕ) (m : List Float) → all_zero (held_in (first_places n) m) ≡ all_zero (take n m)
+first_zeros n m = one_part (part 0 n) m
 
 pub cleared-parts : (qs : List Part) (n : ℕ) → all_zero (held_in qs (zeros n)) ≡ true
 unfolding held_in all_zero

@@ -6,19 +6,31 @@ use mathlib.Core.Path.{◌≡◌, refl, sym, ap, ◌∙◌}
 use mathlib.Core.List.{List, ◌++◌}
 use lib.ListN.{length, take, drop}
 use lib.Ieee.{Float}
-use Rattle.port.specs.Answer.{Reply, played}
+use Rattle.port.specs.Answer.{Reply, number, answer_reply, played}
+use Rattle.port.specs.declared.Answer.{Answer}
+use Rattle.port.specs.declared.Answer.TheVariants.{Refused}
+use Rattle.port.specs.declared.Refusal.{Refusal}
+use Rattle.port.proofs.Laws.{number-some}
 use Rattle.common.proofs.Slices.{part_length}
 use Rattle.effect.specs.Effect.{Effect, laid}
 use Rattle.effect.specs.Run.{tick, reset, number_in}
 use Rattle.effect.specs.Contract.{Does}
 use Rattle.effect.proofs.Table.{Accepted, accepted, enough, memory-enough}
-use Rattle.effect.proofs.Contract.{accepts, tick-number}
+use Rattle.effect.proofs.Contract.{refuses, accepts, tick-number}
 
 -- past causes 4 and 3 a tick's number is that of causes 5 and 6
 pub tick_row : (E : Effect) (t : E.Tick) (s : E.State) (m : List Float) {k : ℕ} → 0 ≡ number_in E reset (length m) s → k ≡ E.tick_number t (E.settings s)
     → k ≡ number_in E (tick t) (length m) s
 tick_row E t s m passed e =
     let unit = accepted E (length m) reset s (sym passed) in tick-number E (length m) s t unit.state_fits (sym unit.number) e
+
+-- so that a tick with one of these causes is refused
+pub row_refuses : (E : Effect) (t : E.Tick) (s : E.State) (m : List Float) (cause : Refusal) {s' : E.State} {a : Answer} → 0 ≡ number_in E reset (length m) s
+    → number cause ≡ E.tick_number t (E.settings s)
+    → s' ≡ s
+    → a ≡ Refused cause
+    → Does E (tick t) s m s' m (answer_reply a)
+row_refuses E t s m cause passed e p q = rw (p, q) (refuses E (tick t) s m (number cause) (tick_row E t s m passed e) (number-some cause))
 
 -- ---- the first n places of a memory, which are the places needed, where state and memory pass causes 4 and 3
 
@@ -48,3 +60,5 @@ module _ (E : Effect) (s : E.State) (m : List Float) {n : ℕ} (e : n ≡ E.plac
       ((rw k at does.state) ∙ state)
       (ap (λ (q : List Float). q ++ drop n m) (rw k at does.memory) ∙ memory)
       ((rw k at does.answer) ∙ ap played samples)
+
+pub ruleset first_places = (first-long, first-row)

@@ -89,6 +89,7 @@ pub fn clear<T: Copy>(tested: Result<T, Refusal>, mem: &mut [f64])
 }
 
 // The answer to "silent?" of a unit whose tests passed with so many places in use, or did not: whether the first `used` places are +0 or -0.
+#[tactic(auto, using(std::proofs::lemmas::List::take_min, crate::proofs::Parts::first_zeros))]
 pub fn silence(used: Result<u64, Refusal>, mem: &[f64]) -> Result<bool, Refusal>
     ensures { silence_reply result ≡ silence_of used mem.now }
 {

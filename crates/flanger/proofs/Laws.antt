@@ -87,15 +87,23 @@ module _ (rate depth sine : Float) (h : rate_fits rate ≡ true) (d : in_range d
       div-in plus_zero (float_of 1920) tt tt tt (mul_in plus_zero (float_of 1920000) tt tt tt delay (rate-in h)) (point (float_of 1000) tt)
 
   -- after the clamp both places that are read lie in the line
-  pub distance-in : In binary64 (float_of 1) (float_of (line_length rate - 1)) (distance rate depth sine)
+  pub distance-held : (L : ℕ) → 2 ≤ L → L ≤ 16777217 → In binary64 (float_of 1) (float_of (L - 1)) (distance_in L rate depth sine)
   unfolding distance_in
-  distance-in =
-      let l = length_fits rate h in
-      clamp-whole-in (line_length rate - 1) (omega arith) (swept rate depth sine) (omega arith) (in-number swept-in)
+  distance-held L some short = clamp-whole-in (L - 1) (omega arith) (swept rate depth sine) (omega arith) (in-number swept-in)
+
+  pub distance-in : In binary64 (float_of 1) (float_of (line_length rate - 1)) (distance rate depth sine)
+  distance-in = let l = length_fits rate h in distance-held (line_length rate) (omega (arith, l.0)) (omega (arith, l.1))
+
+-- the same, as tests
+pub held_to_line : (L : ℕ) (rate depth sine : Float) → rate_fits rate ≡ true → in_range depth (float_of 0) (float_of 1) ≡ true → sine_fits sine ≡ true → 2 ≤ L → L ≤ 16777217
+    → in_range (distance_in L rate depth sine) (float_of 1) (float_of (L - 1)) ≡ true
+unfolding of_int
+held_to_line L rate depth sine h d k some short = in-range (distance-held rate depth sine h d k L some short)
 
 -- ---- an accepted tick of the lines by themselves: m is their places, no more
 
--- the left line is the first half, the right line the second; state and lines are what reads and stores ask for
+-- the left line is the first half, the right line the second; state and lines are what reads and stores ask for, and what the distances are
+-- worked out from is in range
 pub record Ready (t : Tick) (s : Flanger) (m : List Float) (n : ℕ) : Type 0 where
   pub long : n ≡ line_length s.sample_rate
   pub room : n + n ≤ length m
@@ -104,8 +112,10 @@ pub record Ready (t : Tick) (s : Flanger) (m : List Float) (n : ℕ) : Type 0 wh
   pub inside : s.write_pos < n
   pub some : 2 ≤ n
   pub short : n ≤ 16777217
-  pub left_distance : in_range (distance_in n s.sample_rate (depth t) t.sine0) (float_of 1) (float_of (n - 1)) ≡ true
-  pub right_distance : in_range (distance_in n s.sample_rate (depth t) t.sine1) (float_of 1) (float_of (n - 1)) ≡ true
+  pub rate : rate_fits s.sample_rate ≡ true
+  pub depth : in_range (depth t) plus_zero (float_of 1) ≡ true
+  pub sine0 : sine_fits t.sine0 ≡ true
+  pub sine1 : sine_fits t.sine1 ≡ true
 
 pub ready : {t : Tick} {s : Flanger} {m : List Float} → length m ≡ 2 * line_length s.sample_rate → number_in flanger (tick t) (length m) s ≡ 0
     → Ready t s m (length m / 2)
@@ -118,8 +128,6 @@ ready {t} {s} {m} e k =
     let places = length_fits rate f.rate in
     let n = length m / 2 in
     let long : n ≡ line_length rate = omega (arith, e) in
-    let far = distance-in rate (depth t) in
-    let amount = in-range (control-in t.depth half curves.depth refl) in
     record {
       long = long;
       room = omega (arith, e, long);
@@ -128,8 +136,10 @@ ready {t} {s} {m} e k =
       inside = omega (arith, long, f.inside);
       some = omega (arith, long, places.0);
       short = omega (arith, long, places.1);
-      left_distance = rw long (in-range (far t.sine0 f.rate amount curves.sine0));
-      right_distance = rw long (in-range (far t.sine1 f.rate amount curves.sine1));
+      rate = f.rate;
+      depth = in-range (control-in t.depth half curves.depth refl);
+      sine0 = curves.sine0;
+      sine1 = curves.sine1;
     }
 
 -- from its steps

@@ -80,6 +80,7 @@ impl Flanger {
     const LINE_MS: u32 = 10;
 
     // The places of a line; none at a refused rate.
+    #[tactic(auto, using(common::proofs::Sweep::sweep_whole), unfolding(crate::specs::Flanger::line_length))]
     fn line_length(rate: f64) -> Option<u64>
         ensures { result ≡ then_some (rate_fits rate) (line_length rate) }
     {
@@ -114,6 +115,7 @@ impl Flanger {
     }
 
     // An accepted tick with all its ports set, of the two lines by themselves, left and right. Each is read before its own store, which feeds it its own read.
+    #[tactic(auto, using(crate::proofs::Laws::ready, crate::proofs::Laws::held_to_line), unfolding(float64::proofs::Literals::of_bits, float64::proofs::Literals::of_int))]
     fn advance(
         self,
         lines: &mut [f64],
@@ -166,6 +168,7 @@ impl Flanger {
     }
 
     // One sample. Frequency and sines are the host's curve numbers, the sines at the state's phase and at that plus half the spread.
+    #[tactic(auto, using(effect::proofs::Rows::first_places), unfolding(crate::specs::Flanger::tick_number))]
     pub fn tick(
         self,
         mem: &mut [f64],

@@ -3,7 +3,7 @@
 use Prim.Native.Nat.{ℕ, ◌+◌, ◌-◌, ◌*◌, ◌≤◌, ◌<◌}
 use native.Mathlib.Omega.{arith}
 use mathlib.Core.Path.{◌≡◌, refl, sym, ap, ◌∙◌}
-use mathlib.Core.Bool.{true, false, ◌&&◌, ◌||◌, cond}
+use mathlib.Core.Bool.{true, false, ◌&&◌, ◌||◌}
 use mathlib.Core.List.{List, [], ◌∷◌, ◌++◌}
 use lib.Dec.{ltb}
 use lib.ListN.{length, take, drop, set}
@@ -14,7 +14,7 @@ use Rattle.std.proofs.lemmas.List.{take-append-drop}
 use Rattle.float64.specs.Number.{plus_zero, float_of, fraction, half, is_number, in_range, rate_fits, phase_fits, frequency_fits, sine_fits, clamp_of}
 use Rattle.float64.proofs.Tests.{both}
 use Rattle.float64.proofs.Interval.{In, point, add-in, mul_in, div-in, scale_in}
-use Rattle.float64.proofs.Ranges.{in-range, rate-in, sine-in, in-number}
+use Rattle.float64.proofs.Ranges.{in-range, range-in, rate-in, sine-in, in-number}
 use Rattle.float64.proofs.Parts.{clamp-whole-in}
 use Rattle.float64.proofs.Lengths.{length-20}
 use Rattle.port.specs.declared.Port.TheVariants.{Set}
@@ -25,7 +25,7 @@ use Rattle.common.specs.Signal.{blended, advanced, cause_number}
 use Rattle.common.specs.Line.{next_place, line_at, read_at}
 use Rattle.common.proofs.Slices.{front-set}
 use Rattle.common.proofs.Ring.{front-line}
-use Rattle.common.proofs.Sweep.{size-tests, no-cause, neither, control-in}
+use Rattle.common.proofs.Sweep.{no-cause, neither, control-in}
 use Rattle.effect.specs.Effect.{laid}
 use Rattle.effect.specs.Lines.{in_each}
 use Rattle.effect.specs.Run.{tick, reset, number_in}
@@ -44,15 +44,7 @@ module _ (rate : Float) (h : rate_fits rate ≡ true) where
   unfolding line_length
   length-fits = let l = length-20 rate h in (omega arith, omega arith)
 
-  pub some-places : 1 ≤ line_length rate
-  some-places = omega (arith, length-fits.0)
-
 -- ---- the state test
-
--- by the length n of the line, as `line_length` answers it
-pub fits_by : (s : Vibrato) {n : ℕ} → n ≡ cond (rate_fits s.sample_rate) (line_length s.sample_rate) 0 → state_fits s ≡ ltb s.write_pos n && phase_fits s.lfo_phase
-unfolding state_fits
-fits_by s e = size-tests (rate_fits s.sample_rate) (line_length s.sample_rate) s.write_pos (λ n. phase_fits s.lfo_phase) e
 
 pub record Fits (s : Vibrato) : Type 0 where
   pub rate : rate_fits s.sample_rate ≡ true
@@ -105,20 +97,29 @@ module _ (rate depth sine : Float) (h : rate_fits rate ≡ true) (d : In binary6
       div-in plus_zero (float_of 3840) tt tt tt (mul_in plus_zero (float_of 3840000) tt tt tt delay (rate-in h)) (point (float_of 1000) tt)
 
   -- after the clamp both places that are read lie in the line
-  pub distance-in : In binary64 (float_of 1) (float_of (line_length rate - 1)) (distance rate depth sine)
+  pub distance-held : (L : ℕ) → 2 ≤ L → L ≤ 16777217 → In binary64 (float_of 1) (float_of (L - 1)) (distance_in L rate depth sine)
   unfolding distance_in
-  distance-in =
-      let l = length-fits rate h in
-      clamp-whole-in (line_length rate - 1) (omega arith) (swept rate depth sine) (omega arith) (in-number swept-in)
+  distance-held L some short = clamp-whole-in (L - 1) (omega arith) (swept rate depth sine) (omega arith) (in-number swept-in)
+
+  pub distance-in : In binary64 (float_of 1) (float_of (line_length rate - 1)) (distance rate depth sine)
+  distance-in = let l = length-fits rate h in distance-held (line_length rate) (omega (arith, l.0)) (omega (arith, l.1))
+
+-- the same, as tests
+pub held_to_line : (L : ℕ) (rate depth sine : Float) → rate_fits rate ≡ true → in_range depth (float_of 0) (float_of 1) ≡ true → sine_fits sine ≡ true → 2 ≤ L → L ≤ 16777217
+    → in_range (distance_in L rate depth sine) (float_of 1) (float_of (L - 1)) ≡ true
+unfolding Ieee.fits le of_int
+held_to_line L rate depth sine h d k some short = in-range (distance-held rate depth sine h (range-in tt d) k L some short)
 
 -- ---- an accepted tick of the line by itself: m is the line's places, no more
 
--- the state and the line are what a read and a store ask for
+-- the state and the line are what a read and a store ask for, and what the distance is worked out from is in range
 pub record Ready (t : Tick) (s : Vibrato) (m : List Float) : Type 0 where
+  pub rate : rate_fits s.sample_rate ≡ true
+  pub sine : sine_fits t.sine ≡ true
   pub inside : s.write_pos < length m
   pub some : 2 ≤ length m
   pub short : length m ≤ 16777217
-  pub distance : in_range (distance_in (length m) s.sample_rate (depth t) t.sine) (float_of 1) (float_of (length m - 1)) ≡ true
+  pub depth : in_range (depth t) plus_zero (float_of 1) ≡ true
 
 pub ready : {t : Tick} {s : Vibrato} {m : List Float} → length m ≡ line_length s.sample_rate → number_in vibrato (tick t) (length m) s ≡ 0 → Ready t s m
 unfolding is_number Ieee.fits is_nan round
@@ -129,10 +130,12 @@ ready {t} {s} {m} e k =
     let curves = tick-fits t (tick-accepted vibrato (length m) t rate taken.number).number in
     let long = length-fits rate f.rate in
     record {
+      rate = f.rate;
+      sine = curves.sine;
       inside = omega (arith, e, f.inside);
       some = omega (arith, e, long.0);
       short = omega (arith, e, long.1);
-      distance = rw e (in-range (distance-in rate (depth t) t.sine f.rate (control-in t.depth half curves.depth refl) curves.sine));
+      depth = in-range (control-in t.depth half curves.depth refl);
     }
 
 -- from its steps

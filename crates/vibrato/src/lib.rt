@@ -80,6 +80,7 @@ impl Vibrato {
     const LINE_MS: u32 = 20;
 
     // The places of the line; none at a refused rate.
+    #[tactic(auto, using(common::proofs::Sweep::sweep_whole), unfolding(crate::specs::Vibrato::line_length))]
     fn line_length(rate: f64) -> Option<u64>
         ensures { result ≡ then_some (rate_fits rate) (line_length rate) }
     {
@@ -114,6 +115,7 @@ impl Vibrato {
     }
 
     // An accepted tick with all its ports set, of the line by itself, which is read before the store. The phase comes first, as the next tick waits for it.
+    #[tactic(auto, using(crate::proofs::Laws::ready, crate::proofs::Laws::held_to_line), unfolding(float64::proofs::Literals::of_bits, float64::proofs::Literals::of_int))]
     fn advance(
         self,
         places: &mut [f64],
@@ -151,6 +153,7 @@ impl Vibrato {
     }
 
     // One sample. Frequency and sine are the host's curve numbers, the sine at the state's phase.
+    #[tactic(auto, using(effect::proofs::Rows::first_places), unfolding(crate::specs::Vibrato::tick_number))]
     pub fn tick(
         self,
         mem: &mut [f64],

@@ -5,24 +5,8 @@ use Rattle.port.specs.declared.Port.TheVariants.{Set}
 use Rattle.effect.specs.Run.{tick}
 use Rattle.effect.proofs.Contract.{accepts}
 use Rattle.chorus.specs.Chorus.{chorus, tick_of}
-use Rattle.chorus.proofs.Laws.{ready, voice-is, next-is, stored_is, played-is}
+use Rattle.chorus.proofs.Laws.{voice-is, next-is, stored_is, played-is}
 use Rattle.chorus.proofs.Chorus.advance.Goals as goal
-
-pub invariant_of-line : goal.invariant_of-line
-invariant_of-line c =
-    let r = ready c.requires.places_value c.requires.tick_accepted in record { inside = r.inside; some = r.some; short = r.short }
-
-pub voice-d0-requires-clause-depth_in_range : goal.voice-d0-requires-clause-depth_in_range
-unfolding of_bits of_int
-voice-d0-requires-clause-depth_in_range c = rw c.clamp-depth.ensures (ready c.requires.places_value c.requires.tick_accepted).depth
-
-pub voice-d1-requires-clause-depth_in_range : goal.voice-d1-requires-clause-depth_in_range
-unfolding of_bits of_int
-voice-d1-requires-clause-depth_in_range c = rw c.clamp-depth.ensures (ready c.requires.places_value c.requires.tick_accepted).depth
-
-pub voice-d2-requires-clause-depth_in_range : goal.voice-d2-requires-clause-depth_in_range
-unfolding of_bits of_int
-voice-d2-requires-clause-depth_in_range c = rw c.clamp-depth.ensures (ready c.requires.places_value c.requires.tick_accepted).depth
 
 pub returns : goal.returns
 unfolding of_bits of_int

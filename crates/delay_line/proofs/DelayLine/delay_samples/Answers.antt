@@ -37,10 +37,6 @@ nan-clamped : (maximum : Float) → ms_of maximum nan ≡ nan
 unfolding clamp_of lt mul
 nan-clamped maximum = rw (below_nan maximum)
 
-pub returns-then-self-clause-value : goal.returns-then-self-clause-value
-unfolding samples_of of_bits of_int
-returns-then-self-clause-value c = rw (c.if-self.true, c.clamp.ensures)
-
 pub returns-then-self-clause-from_numbers : goal.returns-then-self-clause-from_numbers
 unfolding samples_of of_bits of_int
 returns-then-self-clause-from_numbers c = λ e.
@@ -49,10 +45,6 @@ returns-then-self-clause-from_numbers c = λ e.
     let read = λ (x : Float). samples_are_number rate (ms_of s.max_delay_secs x) in
     let none = ap (samples_are_number rate) (nan-clamped s.max_delay_secs) ∙ nan-none rate in
     rw c.if-self.true (number-from read c.args.time none (yes c.well_formed.1.0.1) ((rw c.clamp.ensures at e)))
-
-pub returns-clause-value : goal.returns-clause-value
-unfolding samples_of of_bits of_int
-returns-clause-value c = rw c.if-self.false
 
 pub returns-clause-from_numbers : goal.returns-clause-from_numbers
 unfolding samples_of of_bits of_int

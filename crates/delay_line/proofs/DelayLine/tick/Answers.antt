@@ -12,7 +12,7 @@ use Rattle.port.specs.Answer.{number, number_of}
 use Rattle.port.proofs.Laws.{number-some}
 use Rattle.effect.specs.Run.{tick}
 use Rattle.effect.proofs.Contract.{refuses, accepts}
-use Rattle.effect.proofs.Rows.{tick_row, first-long}
+use Rattle.effect.proofs.Rows.{tick_row}
 use Rattle.delay_line.specs.DelayLine.{delay_line, tick_of}
 use Rattle.delay_line.proofs.Laws.{set-row, set-number, no_nan, meets-none, next-is, stored_is, played-is}
 use Rattle.delay_line.proofs.DelayLine.tick.Goals as goal
@@ -39,11 +39,6 @@ returns-then-is_nan c =
     let cause = c.unwrap_err.result in
     let e = sym (ap number_of c.unwrap_err.ensures) ∙ c.nan_refusal-met.ensures ∙ set-number t a.self.linear_time time back wet (length a.mem.now) a.self refl in
     rw (c.refused.ensures.state, c.refused.ensures.answer) (refuses delay_line (tick t) a.self a.mem.now (number cause) e (number-some cause))
-
-pub advance-requires-clause-places_value : goal.advance-requires-clause-places_value
-advance-requires-clause-places_value c =
-    let a = c.args in
-    first-long delay_line a.self a.mem.now c.in-Ok.ensures.needed c.in-Ok.ensures.number ∙ c.in-Ok.ensures.needed
 
 pub returns : goal.returns
 unfolding of_bits round

@@ -9,26 +9,6 @@ use Rattle.flanger.specs.Flanger.{flanger, tick_of}
 use Rattle.flanger.proofs.Laws.{ready, tap-is, next-is, stored_is, played-is}
 use Rattle.flanger.proofs.Flanger.advance.Goals as goal
 
-pub invariant_of-left_line : goal.invariant_of-left_line
-invariant_of-left_line c =
-    let r = ready c.requires.lines_value c.requires.tick_accepted in
-    record { inside = rw r.left r.inside; some = rw r.left r.some; short = rw r.left r.short }
-
-pub invariant_of-right_line : goal.invariant_of-right_line
-invariant_of-right_line c =
-    let r = ready c.requires.lines_value c.requires.tick_accepted in
-    record { inside = rw r.right r.inside; some = rw r.right r.some; short = rw r.right r.short }
-
-pub read-d0-requires : goal.read-d0-requires
-unfolding of_bits of_int
-read-d0-requires c =
-    let r = ready c.requires.lines_value c.requires.tick_accepted in rw (c.distance.ensures, r.left, c.clamp-amount.ensures) r.left_distance
-
-pub read-d1-requires : goal.read-d1-requires
-unfolding of_bits of_int
-read-d1-requires c =
-    let r = ready c.requires.lines_value c.requires.tick_accepted in rw (c.distance-2.ensures, r.right, c.clamp-amount.ensures) r.right_distance
-
 pub returns : goal.returns
 unfolding of_bits of_int round neg
 returns c =

@@ -1,14 +1,10 @@
 -- `Flanger::tick`: causes 4 and 3, then the ports or their defaults, causes 5 and 6, then the tick with all its ports set. Assumes nothing.
-use Rattle.std.proofs.Common.{◌≡◌, sym, ◌∙◌, arith}
+use Rattle.std.proofs.Common.{◌≡◌, ◌∙◌, arith}
 use lib.Ieee.{of_bits, round}
 use Rattle.float64.specs.Number.{plus_zero, half}
-use Rattle.port.specs.declared.Port.TheVariants.{Set}
 use Rattle.port.specs.Port.{value_or}
 use Rattle.port.specs.Answer.{number}
-use Rattle.port.proofs.Laws.{number-some}
-use Rattle.effect.specs.Run.{tick}
-use Rattle.effect.proofs.Contract.{refuses}
-use Rattle.effect.proofs.Rows.{tick_row, first-long, first-row}
+use Rattle.effect.proofs.Rows.{row_refuses}
 use Rattle.flanger.specs.Flanger.{flanger, tick_of, tick_number}
 use Rattle.flanger.proofs.Laws.{filled, filled_number, filled_does, lines-do}
 use Rattle.flanger.proofs.Flanger.tick.Goals as goal
@@ -24,21 +20,7 @@ returns-in-Err-causes c =
     let cause = c.in-Err-causes.cause in
     let e : number cause ≡ tick_number (filled t) = cc c.in-Err-causes.ensures in
     let told = c.refused-in-Err-causes.ensures in
-    rw (told.state, told.answer)
-    (refuses flanger (tick t) a.self a.mem.now (number cause) (tick_row flanger t a.self a.mem.now c.in-Ok.ensures.number (e ∙ filled_number t)) (number-some cause))
-
-pub advance-requires-clause-lines_value : goal.advance-requires-clause-lines_value
-advance-requires-clause-lines_value c =
-    let a = c.args in
-    let t = tick_of a.audio a.depth a.feedback a.mix a.frequency a.sine0 a.sine1 in
-    first-long flanger a.self a.mem.now c.in-Ok.ensures.needed c.in-Ok.ensures.number ∙ c.in-Ok.ensures.needed
-
-pub advance-requires-clause-tick_accepted : goal.advance-requires-clause-tick_accepted
-unfolding tick_number
-advance-requires-clause-tick_accepted c =
-    let a = c.args in
-    let t = tick_of (Set c.match-audio.audio) (Set c.match-depth.depth) (Set c.match-feedback.feedback) (Set c.match-mix.mix) a.frequency a.sine0 a.sine1 in
-    sym (first-row flanger a.self a.mem.now c.in-Ok.ensures.needed c.in-Ok.ensures.number t (cc c.in_default-causes.ensures))
+    row_refuses flanger t a.self a.mem.now cause c.in-Ok.ensures.number (e ∙ filled_number t) told.state told.answer
 
 pub returns : goal.returns
 unfolding tick_number of_bits round

@@ -3,11 +3,10 @@ use Rattle.std.proofs.Common.{rules, ◌≡◌, [], sym, ap, ◌∙◌, refl}
 use lib.Ieee.{of_bits, of_int, round}
 use Rattle.float64.specs.Number.{plus_zero, half}
 use Rattle.port.specs.Port.{value_or}
-use Rattle.port.specs.Answer.{number, played}
-use Rattle.port.proofs.Laws.{number-some}
+use Rattle.port.specs.Answer.{played}
 use Rattle.effect.specs.Run.{tick}
-use Rattle.effect.proofs.Contract.{refuses, accepts}
-use Rattle.effect.proofs.Rows.{tick_row}
+use Rattle.effect.proofs.Contract.{accepts}
+use Rattle.effect.proofs.Rows.{row_refuses, tick_row}
 use Rattle.tremolo.specs.Tremolo.{tremolo, tick_of, next}
 use Rattle.tremolo.proofs.Laws.{number-is, samples-are}
 use Rattle.tremolo.proofs.Tremolo.tick.Goals as goal
@@ -21,8 +20,8 @@ returns-in-Err-causes c =
     let amount : c.match-depth.amount ≡ value_or a.depth half = search rules in
     let blend : c.match-shape.blend ≡ value_or a.shape plus_zero = search rules in
     let causes = number-is t amount blend c.is_nan.ensures c.is_nan-2.ensures c.frequency_fits.ensures c.sine_fits.ensures in
-    rw (c.refused-in-Err-causes.ensures.state, c.refused-in-Err-causes.ensures.answer)
-    (refuses tremolo (tick t) a.self [] (number cause) (tick_row tremolo t a.self [] c.in_default.ensures.number (c.in-Err-causes.ensures ∙ causes)) (number-some cause))
+    let told = c.refused-in-Err-causes.ensures in
+    row_refuses tremolo t a.self [] cause c.in_default.ensures.number (c.in-Err-causes.ensures ∙ causes) told.state told.answer
 
 pub returns : goal.returns
 unfolding next of_bits of_int round

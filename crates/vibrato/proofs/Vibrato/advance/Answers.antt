@@ -5,16 +5,8 @@ use Rattle.port.specs.declared.Port.TheVariants.{Set}
 use Rattle.effect.specs.Run.{tick}
 use Rattle.effect.proofs.Contract.{accepts}
 use Rattle.vibrato.specs.Vibrato.{vibrato, tick_of}
-use Rattle.vibrato.proofs.Laws.{ready, delayed-is, next-is, stored_is, played-is}
+use Rattle.vibrato.proofs.Laws.{delayed-is, next-is, stored_is, played-is}
 use Rattle.vibrato.proofs.Vibrato.advance.Goals as goal
-
-pub invariant_of-line : goal.invariant_of-line
-invariant_of-line c =
-    let r = ready c.requires.places_value c.requires.tick_accepted in record { inside = r.inside; some = r.some; short = r.short }
-
-pub read-delayed-requires : goal.read-delayed-requires
-unfolding of_bits of_int round
-read-delayed-requires c = rw (c.distance.ensures, c.clamp-amount.ensures) (ready c.requires.places_value c.requires.tick_accepted).distance
 
 pub returns : goal.returns
 unfolding of_bits of_int round

@@ -1,14 +1,10 @@
 -- `Vibrato::tick`: causes 5 and 6 by the values taken from the ports; where none applies, it is the tick with these values set. Assumes nothing.
-use Rattle.std.proofs.Common.{rules, ◌≡◌, sym, refl, ◌∙◌}
+use Rattle.std.proofs.Common.{rules, ◌≡◌, refl, ◌∙◌}
 use lib.Ieee.{of_bits, of_int, round}
 use Rattle.float64.specs.Number.{plus_zero, float_of, half}
-use Rattle.port.specs.declared.Port.TheVariants.{Set}
 use Rattle.port.specs.Port.{value_or}
 use Rattle.port.specs.Answer.{number}
-use Rattle.port.proofs.Laws.{number-some}
-use Rattle.effect.specs.Run.{tick}
-use Rattle.effect.proofs.Contract.{refuses}
-use Rattle.effect.proofs.Rows.{tick_row, first-long, first-row}
+use Rattle.effect.proofs.Rows.{row_refuses}
 use Rattle.vibrato.specs.Vibrato.{vibrato, tick_of, tick_number}
 use Rattle.vibrato.proofs.Laws.{all_set, set_number, set_does, line-does}
 use Rattle.vibrato.proofs.Vibrato.tick.Goals as goal
@@ -22,20 +18,8 @@ returns-in-Err-causes c =
     let mix : c.match-mix.mix ≡ value_or a.mix (float_of 1) = search rules in
     let cause = c.in-Err-causes.cause in
     let e : number cause ≡ tick_number (all_set t refl depth mix) = cc c.in-Err-causes.ensures in
-    rw (c.refused-in-Err-causes.ensures.state, c.refused-in-Err-causes.ensures.answer)
-    (refuses vibrato (tick t) a.self a.mem.now (number cause) (tick_row vibrato t a.self a.mem.now c.in-Ok.ensures.number (e ∙ set_number t refl depth mix)) (number-some cause))
-
-pub advance-requires-clause-places_value : goal.advance-requires-clause-places_value
-advance-requires-clause-places_value c =
-    let a = c.args in
-    first-long vibrato a.self a.mem.now c.in-Ok.ensures.needed c.in-Ok.ensures.number ∙ c.in-Ok.ensures.needed
-
-pub advance-requires-clause-tick_accepted : goal.advance-requires-clause-tick_accepted
-unfolding tick_number
-advance-requires-clause-tick_accepted c =
-    let a = c.args in
-    let t = tick_of (Set c.match-audio.audio) (Set c.match-depth.depth) (Set c.match-mix.mix) a.frequency a.sine in
-    sym (first-row vibrato a.self a.mem.now c.in-Ok.ensures.needed c.in-Ok.ensures.number t (cc c.in_default-causes.ensures))
+    let told = c.refused-in-Err-causes.ensures in
+    row_refuses vibrato t a.self a.mem.now cause c.in-Ok.ensures.number (e ∙ set_number t refl depth mix) told.state told.answer
 
 pub returns : goal.returns
 unfolding tick_number of_bits of_int round
