@@ -66,7 +66,7 @@ impl Settings {
         Some(float64::whole_part_small(self.rate * self.maximum) + 1)
     }
 
-    // Causes 1, 2 and 3. A maximum out of range, which only a state that fails its test has, counts as a refused rate: the state
+    // Causes 1, 2 and 3, the second of which no other effect has. A maximum out of range, which only a state that fails its test has, counts as a refused rate: the state
     // test stands before these, and gives 4.
     fn refusal(self, places: usize) -> Result<(), Refusal>
         ensures { number_of result ≡ cond (rate_fits self.rate && maximum_fits self.maximum)

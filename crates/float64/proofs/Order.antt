@@ -11,9 +11,6 @@ use Rattle.float64.proofs.Round.{rounded, rounded-mono, rounded-zero, difference
 use Rattle.float64.proofs.Keys.{At, at, rekeyed, le_of, of_le, le-of-size, size-of-le, size-of-lt, Fin, inf-key, signed-fin, add_at, sub_at, mul_at, div-at, to_unsigned-at}
 
 -- ---- the order: the library's laws, asked nothing of what fits
-pub le-transitive : (f : Format) (x y z : Float) → T (fits f x) → T (fits f y) → T (fits f z) → T (le x y) → T (le y z) → T (le x z)
-le-transitive f x y z a b c h k = floats.le_trans x y z h k
-
 pub le→not-lt : (f : Format) (x y : Float) → T (fits f x) → T (fits f y) → T (le x y) → lt y x ≡ false
 le→not-lt f x y a b h = false_from_ne_true (lt y x) (λ e. floats.lt_irrefl x (floats.lt_of_le_of_lt x y x h (floats.T_from_true (lt y x) e)))
 
