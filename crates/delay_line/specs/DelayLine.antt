@@ -13,7 +13,7 @@ use Rattle.delay_line.specs.declared.DelayLine.{DelayLine}
 use Rattle.delay_line.specs.declared.Settings.{Settings}
 use Rattle.delay_line.specs.declared.Retune.{Retune}
 
--- what a retune is handed; it keeps the maximum and the mode
+-- what a retune is handed, in one; it keeps the maximum and the mode
 abbrev pub retuning : Float → Float → Retune
 retuning rate coefficient = record { rate = rate; coefficient = coefficient }
 

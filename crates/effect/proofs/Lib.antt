@@ -2,6 +2,7 @@ pub mod Laws
 pub mod Parts
 pub mod Memory
 pub mod Table
+pub mod Outcomes
 pub mod Contract
 pub mod Needed
 pub mod Rows

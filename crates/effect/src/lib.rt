@@ -1,4 +1,5 @@
-// One machine for all effects: its definitions are in specs/, its theorems in proofs/. The functions are the parts of the calls that all effects share.
+// One machine for all effects: its definitions are in specs/, its theorems in proofs/. The traits of unit.rt are the calls of every effect but its tick; the functions
+// are the parts that calls share.
 #![tactic(auto)]
 
 ghost use Rattle.std.specs.Prelude.{◌≡◌, cond, length, Ok};
@@ -15,14 +16,14 @@ mod unit;
 use port::{Answer, Refusal};
 pub use unit::{InMemory, InOnePart, Unit, WithoutMemory};
 
-// What a start, a retune or a reset returns: the state beside its outcome.
+// What a start, a retune or a reset returns: the state beside its outcome. No `Result` of the state: a refused start leaves one too, which C writes.
 #[derive(Clone, Copy)]
 pub struct Cleared<S> {
     pub state: S,
     pub outcome: Result<(), Refusal>,
 }
 
-// What a tick returns: the state beside its answer.
+// What a tick returns: the state beside its answer, an enum that has the refusal.
 #[derive(Clone, Copy)]
 pub struct Ticked<S> {
     pub state: S,

@@ -1,4 +1,5 @@
-// Helpers on f64 that the Rust has in its library: clamp, whole part, rounding, range tests.
+// Helpers on f64 that the Rust has in its library: clamp, whole part, rounding, range tests. From comparisons and bits, so that each contract names the answer for every
+// float: the library's `clamp` asks that lo <= hi, and its `max` and `min` drop a NaN.
 #![tactic(auto)]
 
 ghost use Rattle.std.specs.Prelude.{◌≡◌, not};

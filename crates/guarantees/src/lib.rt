@@ -10,6 +10,23 @@ ghost use Rattle.guarantees.specs.WholePart.{WholePart};
 ghost use Rattle.guarantees.specs.OneLine.{OneLine};
 ghost use Rattle.guarantees.specs.IdleStages.{IdleStages};
 ghost use Rattle.guarantees.specs.Lamp.{Lamp};
+ghost use Rattle.std.specs.Prelude.{◌≡◌};
+ghost use Rattle.tremolo.specs.Tremolo as tremolo_page;
+ghost use Rattle.vibrato.specs.Vibrato as vibrato_page;
+ghost use Rattle.chorus.specs.Chorus as chorus_page;
+ghost use Rattle.flanger.specs.Flanger as flanger_page;
+ghost use Rattle.delay_line.specs.DelayLine as delay_page;
+ghost use Rattle.reverb.specs.Reverb as reverb_page;
+ghost use Rattle.phaser.specs.Phaser as phaser_page;
+
+use chorus::Chorus;
+use delay_line::DelayLine;
+use effect::Unit;
+use flanger::Flanger;
+use phaser::Phaser;
+use reverb::Reverb;
+use tremolo::Tremolo;
+use vibrato::Vibrato;
 
 // Lent memory holds only what accepted calls put there, over whole runs of each effect.
 pub fn clean_memory()
@@ -49,4 +66,15 @@ pub fn idle_stages()
 // A silent unit of any effect, given zero audio, answers zeros and stays silent.
 pub fn lamp()
     ensures { Lamp }
+{}
+
+// The page by which each effect's start, retune, reset and question go is its own.
+pub fn pages()
+    ensures of_tremolo { ⟦<Tremolo as Unit>⟧.page ≡ tremolo_page.page }
+    ensures of_vibrato { ⟦<Vibrato as Unit>⟧.page ≡ vibrato_page.page }
+    ensures of_chorus { ⟦<Chorus as Unit>⟧.page ≡ chorus_page.page }
+    ensures of_flanger { ⟦<Flanger as Unit>⟧.page ≡ flanger_page.page }
+    ensures of_delay { ⟦<DelayLine as Unit>⟧.page ≡ delay_page.page }
+    ensures of_reverb { ⟦<Reverb as Unit>⟧.page ≡ reverb_page.page }
+    ensures of_phaser { ⟦<Phaser as Unit>⟧.page ≡ phaser_page.page }
 {}

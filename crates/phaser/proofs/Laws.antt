@@ -1,5 +1,5 @@
 -- The laws of the phaser: its clamp changes no count of stages, and what tests an accepted tick passed. Assumes nothing.
-use Rattle.std.proofs.Common.{◌≡◌, true, false, T, refl, arith}
+use Rattle.std.proofs.Common.{◌≡◌, ℕ, List, true, false, T, refl, ◌∙◌, arith}
 use lib.Ieee.{Float, nan, binary64, div, le, lt, of_int, round, neg, is_nan}
 use Rattle.std.proofs.lemmas.Float as floats
 use lib.Ieee.Bits.{is_true}
@@ -8,7 +8,8 @@ use Rattle.float64.specs.Number.{plus_zero, float_of, fraction, frequency_fits, 
 use Rattle.float64.proofs.Ranges.{yes}
 use Rattle.float64.proofs.Order.{le→not-lt}
 use Rattle.port.specs.Port.{is_nan_set}
-use Rattle.phaser.specs.Phaser.{Tick, tick_number, stages_at}
+use Rattle.phaser.specs.Allpass.{Chain, chain_of, passed}
+use Rattle.phaser.specs.Phaser.{Tick, tick_number, stages_at, input, feedback, stages, fed, chain_after}
 
 -- ---- the stages control: its clamp moves it over neither threshold
 
@@ -56,3 +57,13 @@ pub record TickFits (t : Tick) : Type 0 where
 pub tick-fits : (t : Tick) → tick_number t ≡ 0 → TickFits t
 unfolding tick_number
 tick-fits t e = record { feedback = grind arith; mix = grind arith; frequency = grind arith; coef_l = grind arith; coef_r = grind arith }
+
+-- ---- a chain's steps, from the clamped controls
+
+pub chain-is : (t : Tick) {x f g : Float} {n : ℕ} {c : Chain} (coef : Float) (x1 y1 : List Float) → x ≡ input t → f ≡ feedback t → n ≡ stages t
+    → g ≡ fed x f n y1
+    → c ≡ passed coef n (chain_of x1 y1 g)
+    → c ≡ chain_after t coef x1 y1
+unfolding chain_after
+chain-is t coef x1 y1 audio back running enters e =
+    e ∙ (λ i. passed coef (running i) (chain_of x1 y1 ((enters ∙ (λ j. fed (audio j) (back j) (running j) y1)) i)))

@@ -180,7 +180,7 @@ impl Unit for Reverb {
         effect::check_rate(Reverb::places_needed(rate), places)
     }
 
-    // Put in line, as a call would be handed a copy of the state: a reset took 872 bytes of stack.
+    // Put in line, as a call would be handed a copy of the state: a reset took 752 bytes of stack of its own in place of 144.
     #[inline(always)]
     fn fitting_places(self) -> Option<u64> {
         let n = tunings::scaled_lengths(self.sample_rate);

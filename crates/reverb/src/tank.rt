@@ -20,7 +20,7 @@ fn all_below<const N: usize>(positions: &[u64; N], lengths: [u16; N]) -> bool
         .fold(true, |below, (w, n)| below & (*w < *n as u64))
 }
 
-// Whether every position is in its line.
+// Whether every position is in its line. Five arguments and no struct: a state by value hands its own, and a lent one what it borrows.
 pub fn positions_fit(
     comb_l: &[u64; 8],
     comb_r: &[u64; 8],
@@ -55,6 +55,7 @@ pub fn combs(
     ensures { CombsStep input damping feedback (comb_lines o pos.old lengths) filter_state.old mem.old pos.new filter_state.new mem.new result }
 {
     let mut sum = 0.0;
+    // By index: a zip of positions, stores, lengths and the tank's chunks from o on would say no more.
     for i in 0..8 {
         let start = o + i * Reverb::MAX_COMB_SIZE;
         let line = &mut mem[start..start + lengths[i] as usize];

@@ -68,6 +68,7 @@ fn scale<const N: usize>(tunings: [u32; N], ratio: f64, wide: u32, most: u16) ->
     ensures left { result.left ≡ map (scaled most ratio) tunings.entry }
     ensures right { result.right ≡ map (λ base. beside most wide (scaled most ratio base)) tunings.entry }
 {
+    // Both sides in one go: by a `map` for each, every tuning would be scaled twice.
     let mut left = [0; N];
     let mut right = [0; N];
     for (i, base) in tunings.iter().enumerate() {
@@ -78,7 +79,7 @@ fn scale<const N: usize>(tunings: [u32; N], ratio: f64, wide: u32, most: u16) ->
     Sides { left, right }
 }
 
-// Every line's length, worked out. A refused rate gives 0 for each, so that no position fits.
+// Every line's length, worked out. A refused rate gives 0 for each, and no `None`: the state test, which asks every position, then refuses it with no test more.
 pub fn scaled_lengths(rate: f64) -> Lengths
     ensures { result ≡ lengths_for rate }
 {
