@@ -28,7 +28,7 @@ use Rattle.common.proofs.Ring.{part-line}
 -- ---- the samples of a swept line: rate × milliseconds / 1000
 
 module _ (rate milliseconds : Float) (h : rate_fits rate ≡ true) (k : sweep_fits milliseconds ≡ true) where
-  swept-in : In binary64 (float_of 8) (float_of 19200) (div binary64 (mul binary64 rate milliseconds) (float_of 1000))
+  pub swept-in : In binary64 (float_of 8) (float_of 19200) (div binary64 (mul binary64 rate milliseconds) (float_of 1000))
   unfolding fits le lt mul div of_int
   swept-in = div-in (float_of 8) (float_of 19200) tt tt tt (mul_in (float_of 8000) (float_of 19200000) tt tt tt (rate-in h) (range-in tt k)) (point (float_of 1000) tt)
 

@@ -99,6 +99,7 @@ pub fn held_to_line(distance: f64, last: u32) -> f64
     float64::at_most(float64::at_least(distance, 1.0), f64::from(last))
 }
 
+// This and the leaves below ask that a position lies in its line, and so do the reverb's: each of another line, so that a struct of both would be built for each.
 // The place d samples behind w in a line of n places. A comparison in place of the `%` of the definition.
 fn place_back(n: usize, w: usize, d: usize) -> usize
     requires w_lt_n { w < n }
@@ -114,7 +115,7 @@ fn place_back(n: usize, w: usize, d: usize) -> usize
     w + n - d
 }
 
-// The place before p in a line of n places.
+// The place before p in a line of n places. By `place_back` a vibrato's tick took 160 instructions in place of 158, and a chorus's 318 in place of 314.
 fn place_before(n: usize, p: usize) -> usize
     requires { p < n }
     ensures value { result ≡ place n p 1 }

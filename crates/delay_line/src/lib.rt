@@ -309,7 +309,7 @@ impl DelayLine {
         )
     }
 
-    // The state after a tick that moved to the position and read at the distance.
+    // The state after a tick that moved to the position and read at the distance: no other effect keeps one.
     fn next(self, write_pos: u64, distance: f64) -> DelayLine
         ensures { result ≡ state_of write_pos distance true (settings self) }
     {

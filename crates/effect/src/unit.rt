@@ -10,8 +10,8 @@ ghost use Rattle.effect.specs.Contract.{Does, Starts};
 use crate::{Cleared, check_memory, check_state, clear, silence};
 use port::Refusal;
 
-// What an effect gives: its page, the states that a start and a reset leave, and its own tests, one expression each. A trait below, of the six effects that are handed
-// a rate alone, would ask of each as many functions (its state at a rate, its rate, its places) and laws of its page, and give back three.
+// What an effect gives: its page, the states that a start and a reset leave, and its own tests, a few lines each. A trait below, of the six effects that are handed a
+// rate alone, would ask of each its state at a rate, its rate, its places and two laws of its page, and give back three functions, or four: no fewer lines, and one trait more.
 pub trait Unit: Copy {
     // What a start and a retune are handed: of most effects the rate.
     type Start: Copy;

@@ -21,7 +21,7 @@ const LEFT_OUTPUTS: u64 = 5;
 
 const RIGHT_OUTPUTS: u64 = 6;
 
-// The numbers that a record is a look at; none, where it is of a call.
+// The numbers that a record is a look at; none, where it is of a call. No `Option`: that none are to be held is true of no numbers, as the definition has it.
 fn looked(p: &Phaser, code: u64) -> &[f64]
     ensures { result.now ≡ phaser_looked code p.now }
 {

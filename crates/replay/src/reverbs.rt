@@ -43,7 +43,7 @@ fn are_eight_stored(positions: &[u64; 8], stored: &Record, i: u8) -> bool
         && are_four_stored(&positions[4..], stored.word(at + 1))
 }
 
-// The numbers that a record is a look at; none, where it is of a call.
+// The numbers that a record is a look at; none, where it is of a call. No `Option`: that none are to be held is true of no numbers, as the definition has it.
 fn looked(r: &Reverb, code: u64) -> &[f64]
     ensures { result.now ≡ reverb_looked code r.now }
 {

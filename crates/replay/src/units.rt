@@ -106,7 +106,7 @@ pub fn port(stored: &Record, mask: u64, weight: u64, i: usize) -> Port
 pub fn is_one_sample(answer: Answer, stored: &Record, i: usize) -> bool
     ensures { IsTrue result ↔ IsOneSample (answer_reply answer) stored.now.bytes i }
 {
-    answer.number() == 0 && stored.holds(i, answer.first())
+    !matches!(answer, Answer::Refused(_)) && stored.holds(i, answer.first())
 }
 
 // Whether a tick was accepted with the three samples stored from word i on; i is a byte, so that i + 2 is a number of a word too.

@@ -106,7 +106,7 @@ impl Reverb {
         }
     }
 
-    // The state test, by every line's length. The stores may hold any float.
+    // The state test, by every line's length, which the question goes on with. The stores may hold any float.
     #[tactic(auto, using(crate::proofs::Laws::fits_by))]
     fn state_fits(self, n: Lengths) -> bool
         requires { n ≡ lengths_for self.sample_rate }
@@ -197,7 +197,8 @@ impl InMemory for Reverb {
         Reverb::start_refusal(rate, places)
     }
 
-    // Start. It makes one state: by `Cleared::settled`, which is handed two, a start took 400 bytes of stack in place of 64.
+    // Start. It makes one state: by `Cleared::settled`, which is handed two, a start took 400 bytes of stack, over the
+    // bound of 376, in place of 64.
     fn new(rate: f64, mem: &mut [f64]) -> Cleared<Reverb> {
         let tested = Reverb::start_refusal(rate, mem.len());
         effect::clear(tested, mem);

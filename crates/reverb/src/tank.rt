@@ -55,7 +55,7 @@ pub fn combs(
     ensures { CombsStep input damping feedback (comb_lines o pos.old lengths) filter_state.old mem.old pos.new filter_state.new mem.new result }
 {
     let mut sum = 0.0;
-    // By index: a zip of positions, stores, lengths and the tank's chunks from o on would say no more.
+    // By index: a zip of positions, stores, lengths and the tank's chunks from o on would take four names apart, and still cut each line to its length.
     for i in 0..8 {
         let start = o + i * Reverb::MAX_COMB_SIZE;
         let line = &mut mem[start..start + lengths[i] as usize];
@@ -81,6 +81,7 @@ pub fn allpasses(
     ensures { AllpassesStep input (allpass_lines o pos.old lengths) mem.old pos.new mem.new result }
 {
     let mut output = input;
+    // By index, as the combs are.
     for i in 0..4 {
         let start = o + i * Reverb::MAX_ALLPASS_SIZE;
         let line = &mut mem[start..start + lengths[i] as usize];

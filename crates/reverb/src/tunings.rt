@@ -10,7 +10,7 @@ use common::Sides;
 // The longest all-pass, for the rows of `lengths_at`.
 const LONGEST: u16 = Reverb::MAX_ALLPASS_LENGTH;
 
-// Sixteen bits hold every length, and make the 24 of them three moves.
+// A side at a time, as the positions that they are measured against. Sixteen bits hold every length, and make the 24 of them three moves.
 #[derive(Clone, Copy)]
 pub struct Lengths {
     pub comb_l: [u16; 8],
