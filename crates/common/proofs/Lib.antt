@@ -6,5 +6,6 @@ pub mod Tables
 pub mod Slices
 pub mod Ring
 pub mod Reading
+pub mod Ages
 pub mod Phases
 pub mod Sweep

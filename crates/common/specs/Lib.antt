@@ -1,2 +1,3 @@
 pub mod Signal
 pub mod Line
+pub mod Reads

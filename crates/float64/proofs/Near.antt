@@ -18,11 +18,11 @@ low-pos : (f : Format) → 1 ≤ low f
 low-pos binary32 = lit≤ tt
 low-pos binary64 = lit≤ tt
 
-pow-gap : (k l : ℕ) → k ≤ l → 2 ^ l ≡ 2 ^ (l - k) * 2 ^ k
+pub pow-gap : (k l : ℕ) → k ≤ l → 2 ^ l ≡ 2 ^ (l - k) * 2 ^ k
 pow-gap k l h = ap (λ (z : ℕ). 2 ^ z) (sym (sub-add_cancel h)) ∙ pow-add 2 (l - k) k
 
 -- ---- a whole number taken off a value is exact, as long as the value has no more digits before the point than the format keeps
-less-mul : (a b c : ℕ) → a * c - b * c ≡ (a - b) * c
+pub less-mul : (a b c : ℕ) → a * c - b * c ≡ (a - b) * c
 less-mul a b c = ap (λ (z : ℕ). z - b * c) (mul_comm a c) ∙ ap (λ (z : ℕ). c * a - z) (mul_comm b c) ∙ sym (mul-sub c a b) ∙ mul_comm c (a - b)
 
 pub rep-sub : (f : Format) (n w : ℕ) → Rep f n → n < 2 ^ prec f * one f → Rep f (n - w * one f)
