@@ -180,8 +180,17 @@ int chain_start(chain *c, unsigned channels, uint32_t rate, trouble *why)
     return 1;
 }
 
+/* One tick of a unit. The chain keeps the largest age: ages of effects in a row are not added up. */
+static uint32_t tick(chain *c, unit *u, double audio, double out[3])
+{
+    const uint32_t number = u->kind->tick(u, audio, out);
+    if (u->age > c->oldest)
+        c->oldest = u->age;
+    return number;
+}
+
 /* One channel in: both sides are the unit's. */
-static uint32_t play_one(stage *s, block *sound)
+static uint32_t play_one(chain *c, stage *s, block *sound)
 {
     const effect *kind = s->unit[0].kind;
     const int left = effect_left(kind);
@@ -189,7 +198,7 @@ static uint32_t play_one(stage *s, block *sound)
     double out[3];
     uint32_t number = 0;
     for (size_t i = 0; i < sound->frames && number == 0; i++) {
-        number = kind->tick(&s->unit[0], sound->side[0][i], out);
+        number = tick(c, &s->unit[0], sound->side[0][i], out);
         sound->side[0][i] = out[left];
         sound->side[1][i] = out[right];
     }
@@ -199,7 +208,7 @@ static uint32_t play_one(stage *s, block *sound)
 }
 
 /* Two channels in: the left unit gives its left side and the right unit its right, so that the channels never mix. */
-static uint32_t play_two(stage *s, block *sound)
+static uint32_t play_two(chain *c, stage *s, block *sound)
 {
     const effect *kind = s->unit[0].kind;
     const int left = effect_left(kind);
@@ -207,10 +216,10 @@ static uint32_t play_two(stage *s, block *sound)
     double out[3];
     uint32_t number = 0;
     for (size_t i = 0; i < sound->frames && number == 0; i++) {
-        number = kind->tick(&s->unit[0], sound->side[0][i], out);
+        number = tick(c, &s->unit[0], sound->side[0][i], out);
         sound->side[0][i] = out[left];
         if (number == 0)
-            number = kind->tick(&s->unit[1], sound->side[1][i], out);
+            number = tick(c, &s->unit[1], sound->side[1][i], out);
         sound->side[1][i] = out[right];
     }
     return number;
@@ -220,11 +229,16 @@ int chain_play(chain *c, block *sound, trouble *why)
 {
     for (unsigned i = 0; i < c->stages; i++) {
         stage *s = &c->stage[i];
-        const uint32_t number = s->units == 1 ? play_one(s, sound) : play_two(s, sound);
+        const uint32_t number = s->units == 1 ? play_one(c, s, sound) : play_two(c, s, sound);
         if (number != 0)
             return refused(&s->unit[0], "tick", number, why);
     }
     return 1;
+}
+
+double chain_oldest_ms(const chain *c, uint32_t rate)
+{
+    return c->oldest * 1000.0 / rate;
 }
 
 void chain_free(chain *c)

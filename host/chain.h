@@ -19,6 +19,7 @@ typedef struct chain {
     unsigned channels; /* that come out */
     double *memory;    /* of all units, lent once */
     uint64_t places;
+    uint32_t oldest; /* the largest age of any unit's ticks so far; 0 while none was answered */
 } chain;
 
 /* Reads "chorus,delay,reverb"; "none" is a chain without effects. */
@@ -32,6 +33,9 @@ int chain_start(chain *c, unsigned channels, uint32_t rate, trouble *why);
 
 /* Plays the block through; it may come out with two channels where it went in with one. */
 int chain_play(chain *c, block *sound, trouble *why);
+
+/* How far back the oldest sample lies that any unit's reads weighed above 0 so far, in milliseconds at this rate. */
+double chain_oldest_ms(const chain *c, uint32_t rate);
 
 void chain_free(chain *c);
 

@@ -38,10 +38,13 @@ static int set_up(chain *c, const showing *s, trouble *why)
     return 1;
 }
 
-static void print_row(const showing *s, const level *loud, uint64_t places)
+static void print_row(const showing *s, const level *loud, const chain *c)
 {
-    printf("  %-8s %6.4f  %6.4f  %11llu  --chain %s", s->name, loud->peak, level_rms(loud), (unsigned long long)places,
-           s->chain);
+    char age[20] = "-";
+    if (c->oldest > 0)
+        snprintf(age, sizeof age, "%.6g", chain_oldest_ms(c, DEMO_RATE));
+    printf("  %-8s %6.4f  %6.4f  %9s  %11llu  --chain %s", s->name, loud->peak, level_rms(loud), age,
+           (unsigned long long)c->places, s->chain);
     for (int i = 0; s->settings[i] != NULL; i++)
         printf(" %s", s->settings[i]);
     putchar('\n');
@@ -60,7 +63,7 @@ static int show(const char *folder, const showing *s, trouble *why)
     const int good = chain_start(&c, from.channels, from.rate, why) &&
                      render(&from, &c, path, 4, (uint64_t)TAIL_SECONDS * DEMO_RATE, &loud, why);
     if (good)
-        print_row(s, &loud, c.places);
+        print_row(s, &loud, &c);
     source_close(&from);
     chain_free(&c);
     return good;
@@ -150,7 +153,7 @@ int demo(const char *folder, trouble *why)
     int good = song != NULL || trouble_say(why, "not enough memory for the phrase");
     printf("A plucked phrase of 4 s at %d, with a tail of %d s, through each effect into %s\n\n", DEMO_RATE, TAIL_SECONDS,
            folder);
-    puts("  effect     peak     RMS  places lent  asked for by");
+    puts("  effect     peak     RMS    age, ms  places lent  asked for by");
     for (int i = 0; i < SHOWING_COUNT && good; i++)
         good = show(folder, &showings[i], why);
     puts("\nThe next hirer: a song, then a reset (or a retune or start at another rate), then a take of silence\n");

@@ -53,6 +53,7 @@ struct unit {
     double phase_offset;
     double depth; /* the phaser's, which its tick does not read */
     double milliseconds;
+    uint32_t age; /* what the last tick answered; 0 in an effect that answers none */
 };
 
 extern const effect effects[EFFECT_COUNT];

@@ -20,6 +20,8 @@ static void print_summary(const options *o, const source *from, const chain *c, 
     printf("%s: %u channel%s at %lu, %.2f s, peak %.4f, RMS %.4f, %llu places lent\n", o->out, c->channels,
            c->channels == 1 ? "" : "s", (unsigned long)from->rate,
            (double)loud->samples / c->channels / from->rate, loud->peak, level_rms(loud), (unsigned long long)c->places);
+    if (c->oldest > 0) /* there may be no effect that answers ages, and no frame to play */
+        printf("largest age of a read: %.9g ms\n", chain_oldest_ms(c, from->rate));
     /* No error: the effects take any audio, and what they make of it is theirs to say. */
     if (loud->not_finite > 0)
         fprintf(stderr, "room: %s: %llu samples are NaN or infinite\n", o->out, (unsigned long long)loud->not_finite);

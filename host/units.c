@@ -42,7 +42,7 @@ static uint32_t delay_silent(const unit *u, int *silent)
 static uint32_t delay_tick(unit *u, double audio, double out[3])
 {
     return room_delay_tick(&u->state.delay, u->memory, u->places, room_set(audio), u->controls[DELAY_SECONDS],
-                           u->controls[DELAY_FEEDBACK], u->controls[DELAY_MIX], u->milliseconds, out);
+                           u->controls[DELAY_FEEDBACK], u->controls[DELAY_MIX], u->milliseconds, out, &u->age);
 }
 
 /* Chorus */
@@ -77,7 +77,7 @@ static uint32_t chorus_tick(unit *u, double audio, double out[3])
     for (int voice = 0; voice < 3; voice++)
         sines[voice] = phase_sine(state->lfo_phases[voice]);
     return room_chorus_tick(state, u->memory, u->places, room_set(audio), u->controls[CHORUS_DEPTH], u->controls[CHORUS_MIX],
-                            u->frequency, sines, out);
+                            u->frequency, sines, out, &u->age);
 }
 
 /* Flanger. The spread is the host's: the second sine runs ahead by half of it, up to half a turn. */
@@ -111,7 +111,7 @@ static uint32_t flanger_tick(unit *u, double audio, double out[3])
     room_flanger *state = &u->state.flanger;
     const double sines[2] = {phase_sine(state->lfo_phase), phase_sine(state->lfo_phase + u->phase_offset)};
     return room_flanger_tick(state, u->memory, u->places, room_set(audio), u->controls[FLANGER_DEPTH],
-                             u->controls[FLANGER_FEEDBACK], u->controls[FLANGER_MIX], u->frequency, sines, out);
+                             u->controls[FLANGER_FEEDBACK], u->controls[FLANGER_MIX], u->frequency, sines, out, &u->age);
 }
 
 /* Vibrato */
@@ -143,7 +143,7 @@ static uint32_t vibrato_tick(unit *u, double audio, double out[3])
 {
     room_vibrato *state = &u->state.vibrato;
     return room_vibrato_tick(state, u->memory, u->places, room_set(audio), u->controls[VIBRATO_DEPTH],
-                             u->controls[VIBRATO_MIX], u->frequency, phase_sine(state->lfo_phase), out);
+                             u->controls[VIBRATO_MIX], u->frequency, phase_sine(state->lfo_phase), out, &u->age);
 }
 
 /* Tremolo. It has no lines and no retune. */

@@ -11,16 +11,16 @@
  *   double memory[...];                  likewise, for an effect with lines: see "Memory"
  *   room_E_start(&state, memory, places, ...)
  *                                        makes a state at a sample rate
- *   room_E_tick(&state, memory, places, ports..., curve numbers..., out)
- *                                        one sample in, one, two or three out
+ *   room_E_tick(&state, memory, places, ports..., curve numbers..., out, &age)
+ *                                        one sample in, one, two or three out; see "Ages"
  *   room_E_retune(&state, memory, places, ...)
  *                                        goes to another sample rate, its lines cleared (effects with lines)
  *   room_E_reset(&state, memory, places) back to what start left, at the same rate
  *   room_E_silent(&state, memory, places, &silent)
  *                                        asks whether the unit still sounds
  *
- * Calls of an effect without lines, as the tremolo and the phaser, have no `memory, places`. Between calls the host leaves the
- * state as the last call returned it.
+ * Calls of an effect without lines, as the tremolo and the phaser, have no `memory, places`; the ticks of tremolo, reverb and
+ * phaser have no age. Between calls the host leaves the state as the last call returned it.
  *
  * What a call returns
  *
@@ -38,14 +38,14 @@
  *
  * A refused call changes nothing: every field of the state and every place of the memory is left as it was, to the bit. What
  * it puts out is written all the same, so that a host that overlooks the number plays silence and not noise: a refused tick
- * puts +0 into every sample of `out`, a refused silent puts 0, for no, and a refused start, which has no state to leave, writes
- * a state of zeros, which every later call refuses with 4.
+ * puts +0 into every sample of `out` and 0 into the age, a refused silent puts 0, for no, and a refused start, which has no
+ * state to leave, writes a state of zeros, which every later call refuses with 4.
  *
  * Memory
  *
  * An effect with lines is lent its places with each call: `memory` is the address of the first, `places` how many there are.
  * The host keeps them. It lends a unit the same places each time, writes nothing there between calls, and keeps them apart
- * from the state and from `out`, and those from each other. What they hold before a start is of no account.
+ * from the state, from `out` and from the age, and those from each other. What they hold before a start is of no account.
  *
  * A line has L places, by the sample rate: the whole part of n x rate / 1000, plus 10, with n as the effect says; the delay's
  * has the whole part of rate x maximum, plus 1. A unit's lines follow each other from place 0. The reverb's lie in a tank of
@@ -53,12 +53,28 @@
  * tick writes one place of each line and never a spare one. room_places_needed says how many places an effect needs.
  *
  * With 0 places the address is not used and may be NULL: an effect with lines refuses that as any memory that is too short.
- * Every other address that a call is handed is that of an object of its type, never NULL.
+ * Every other address that a call is handed is that of an object of its type, never NULL: that of the age too, where a host
+ * has no use for it.
  *
  * Ports
  *
  * A port carries a number or is unset. An unset port takes the effect's default, and its number is not read. Controls are
  * clamped to their range, infinities too; -0 stays -0. The audio port is no control: any float is accepted there.
+ *
+ * Ages
+ *
+ * A tick of delay, chorus, flanger or vibrato answers, beside its samples, an age: how many ticks back the oldest sample lies
+ * that its reads weigh above 0. A read between two places weighs both, the older one by the fraction of its distance; so the
+ * age of a read is the whole part of its distance, plus 1 where the fraction is not 0. That of a tick is the largest over its
+ * reads: one in delay and vibrato, two in the flanger, three in the chorus. It is 1 to L - 1, where 1 is what the tick before
+ * stored. Where it is more than the accepted ticks made between the last clearing and this one, that sample is a +0 that the
+ * clearing left. In milliseconds it is age x 1000.0 / rate: age x 1000 may be too large for 32 bits. A refused tick answers 0.
+ *
+ * It speaks of reads. A mix of 0 hides none. While a delay glides, its age is that of the glide, where the tick reads, and not
+ * of the target. Where a line feeds back, a sample carries older sound on: the age is the sample's.
+ *
+ * It says nothing of which samples the output depends on. A distance without a fraction multiplies the place behind it by 0,
+ * and 0 x NaN is NaN, as is 0 x infinity: a place of weight 0 still counts there, and for the sign of a zero.
  *
  * Silence
  *
@@ -141,11 +157,12 @@
 /*
  * The version of this interface: MAJOR moves where a struct or a call's form is changed or goes, so that a host has to be
  * looked over; MINOR where an effect or a call is added; PATCH where neither is, as where a call answers otherwise in some
- * case. The archive does not tell its version: a controller is built with the header and the archive of one version.
+ * case. The archive does not tell its version: a controller is built with the header and the archive of one version. One that
+ * mixes 1.x and 2.x links without a word, and its ticks then write an age to an address that nobody gave them.
  */
-#define ROOM_EFFECTS_VERSION_MAJOR 1
-#define ROOM_EFFECTS_VERSION_MINOR 1
-#define ROOM_EFFECTS_VERSION_PATCH 1
+#define ROOM_EFFECTS_VERSION_MAJOR 2
+#define ROOM_EFFECTS_VERSION_MINOR 0
+#define ROOM_EFFECTS_VERSION_PATCH 0
 
 /* The effects by their numbers, for room_places_needed. */
 enum room_effect {
@@ -219,7 +236,7 @@ static inline uint32_t room_set_mask(room_port first, room_port second, room_por
  * a field has `new_` before that name. Ports come as a mask of those that are set and their numbers; memory comes as the
  * address of its first place and the count of places. Numbers returned, and what is written on a refusal, are as said above.
  * Masks: 1 is the tick's first port, 2 the second, 4 the third, 8 the fourth, 16 the fifth; bits beyond its ports are not
- * read. A silent's `out` gets 1 for yes, else 0; 0 on a refusal.
+ * read. A silent's `out` gets 1 for yes, else 0; 0 on a refusal. A tick's `age` is as said above.
  */
 #ifdef __cplusplus
 extern "C" {
@@ -238,7 +255,7 @@ uint32_t room_raw_vibrato_retune(double new_sample_rate, double *memory, uint64_
 uint32_t room_raw_vibrato_reset(double *memory, uint64_t places, uint64_t *write_pos, double *lfo_phase, double sample_rate);
 uint32_t room_raw_vibrato_tick(uint64_t *write_pos, double *lfo_phase, double sample_rate, double *memory, uint64_t places,
                                uint32_t set, double audio, double depth, double mix, double frequency, double sine,
-                               double *out);
+                               double *out, uint32_t *age);
 uint32_t room_raw_vibrato_silent(uint64_t write_pos, double lfo_phase, double sample_rate, const double *memory,
                                  uint64_t places, uint32_t *out);
 
@@ -250,7 +267,7 @@ uint32_t room_raw_chorus_reset(double *memory, uint64_t places, uint64_t *write_
                                double sample_rate);
 uint32_t room_raw_chorus_tick(uint64_t *write_pos, double lfo_phases[3], double sample_rate, double *memory, uint64_t places,
                               uint32_t set, double audio, double depth, double mix, double frequency, double sine0,
-                              double sine1, double sine2, double out[3]);
+                              double sine1, double sine2, double out[3], uint32_t *age);
 uint32_t room_raw_chorus_silent(uint64_t write_pos, const double lfo_phases[3], double sample_rate, const double *memory,
                                 uint64_t places, uint32_t *out);
 
@@ -261,7 +278,7 @@ uint32_t room_raw_flanger_retune(double new_sample_rate, double *memory, uint64_
 uint32_t room_raw_flanger_reset(double *memory, uint64_t places, uint64_t *write_pos, double *lfo_phase, double sample_rate);
 uint32_t room_raw_flanger_tick(uint64_t *write_pos, double *lfo_phase, double sample_rate, double *memory, uint64_t places,
                                uint32_t set, double audio, double depth, double feedback, double mix, double frequency,
-                               double sine0, double sine1, double out[3]);
+                               double sine0, double sine1, double out[3], uint32_t *age);
 uint32_t room_raw_flanger_silent(uint64_t write_pos, double lfo_phase, double sample_rate, const double *memory,
                                  uint64_t places, uint32_t *out);
 
@@ -278,7 +295,7 @@ uint32_t room_raw_delay_reset(double *memory, uint64_t places, uint64_t *write_p
 uint32_t room_raw_delay_tick(uint64_t *write_pos, double *smoothed_delay, uint32_t *delay_primed, double sample_rate,
                              double delay_smooth_coef, double max_delay_secs, uint32_t linear_time, double *memory,
                              uint64_t places, uint32_t set, double audio, double time, double feedback, double mix,
-                             double milliseconds, double *out);
+                             double milliseconds, double *out, uint32_t *age);
 uint32_t room_raw_delay_silent(uint64_t write_pos, double smoothed_delay, uint32_t delay_primed, double sample_rate,
                                double delay_smooth_coef, double max_delay_secs, uint32_t linear_time, const double *memory,
                                uint64_t places, uint32_t *out);
@@ -397,14 +414,15 @@ static inline uint32_t room_vibrato_reset(room_vibrato *state, double *memory, u
  * too. The phase moves on by frequency / rate.
  * depth: 0 to 1, how far the read moves; 0.5 if unset. mix: 0 dry to 1 wet; 1 if unset. Audio is 0 if unset. At mix 1 the
  * audio is still multiplied by 0, so that an infinite one gives NaN at once.
- * Refusals: 4, 3, 5, 6.
+ * *age is that of its read; 0 on a refusal. Refusals: 4, 3, 5, 6.
  */
 static inline uint32_t room_vibrato_tick(room_vibrato *state, double *memory, uint64_t places, room_port audio,
-                                         room_port depth, room_port mix, double frequency, double sine, double out[1])
+                                         room_port depth, room_port mix, double frequency, double sine, double out[1],
+                                         uint32_t *age)
 {
     return room_raw_vibrato_tick(&state->write_pos, &state->lfo_phase, state->sample_rate, memory, places,
                                  room_set_mask(audio, depth, mix), audio.value, depth.value, mix.value, frequency,
-                                 sine, out);
+                                 sine, out, age);
 }
 
 /* Whether the unit is silent: every place of its line is +0 or -0. On a refusal *silent is 0. Refusals: 4, 3. */
@@ -449,15 +467,15 @@ static inline uint32_t room_chorus_reset(room_chorus *state, double *memory, uin
  * frequency x (1 + (i - 1) x 0.1) / rate.
  * depth: 0 to 1, how far the reads move; 0.5 if unset. mix: 0 dry to 1 wet; 0.5 if unset. Audio is 0 if unset. sines[i] is
  * the sine of phase i.
- * Refusals: 4, 3, 5, 6.
+ * *age is the largest of the three voices'; 0 on a refusal. Refusals: 4, 3, 5, 6.
  */
 static inline uint32_t room_chorus_tick(room_chorus *state, double *memory, uint64_t places, room_port audio,
                                         room_port depth, room_port mix, double frequency, const double sines[3],
-                                        double out[3])
+                                        double out[3], uint32_t *age)
 {
     return room_raw_chorus_tick(&state->write_pos, state->lfo_phases, state->sample_rate, memory, places,
                                 room_set_mask(audio, depth, mix), audio.value, depth.value, mix.value, frequency,
-                                sines[0], sines[1], sines[2], out);
+                                sines[0], sines[1], sines[2], out, age);
 }
 
 /* Whether the unit is silent: every place of its line is +0 or -0. On a refusal *silent is 0. Refusals: 4, 3. */
@@ -503,15 +521,15 @@ static inline uint32_t room_flanger_reset(room_flanger *state, double *memory, u
  * depth: 0 to 1, how far the reads move; 0.5 if unset. feedback: -0.95 to 0.95; 0 if unset. mix: 0 dry to 1 wet; 0.5 if
  * unset. Audio is 0 if unset. sines[0] is the sine of the phase, sines[1] that of the phase plus half the spread, which is the
  * host's: 0 to 1, 0 to sweep both lines alike.
- * Refusals: 4, 3, 5, 6.
+ * *age is the larger of the two lines'; 0 on a refusal. Refusals: 4, 3, 5, 6.
  */
 static inline uint32_t room_flanger_tick(room_flanger *state, double *memory, uint64_t places, room_port audio,
                                          room_port depth, room_port feedback, room_port mix, double frequency,
-                                         const double sines[2], double out[3])
+                                         const double sines[2], double out[3], uint32_t *age)
 {
     return room_raw_flanger_tick(&state->write_pos, &state->lfo_phase, state->sample_rate, memory, places,
                                  room_set_mask(audio, depth, feedback) | room_set_bit(mix, 8u), audio.value, depth.value,
-                                 feedback.value, mix.value, frequency, sines[0], sines[1], out);
+                                 feedback.value, mix.value, frequency, sines[0], sines[1], out, age);
 }
 
 /* Whether the unit is silent: every place of its lines is +0 or -0. On a refusal *silent is 0. Refusals: 4, 3. */
@@ -584,15 +602,16 @@ static inline uint32_t room_delay_reset(room_delay *state, double *memory, uint6
  * first tick after a start, a retune or a reset reads there; later ones glide there, and read at that target +
  * (smoothed_delay - the target) x delay_smooth_coef.
  * feedback: 0 to 0.99; 0 if unset. mix: 0 dry to 1 wet; 0.5 if unset. Audio is 0 if unset.
- * Refusals: 4, 3, 5, 6.
+ * *age is that of its read, which glides; 0 on a refusal. Refusals: 4, 3, 5, 6.
  */
 static inline uint32_t room_delay_tick(room_delay *state, double *memory, uint64_t places, room_port audio, room_port time,
-                                       room_port feedback, room_port mix, double milliseconds, double out[1])
+                                       room_port feedback, room_port mix, double milliseconds, double out[1],
+                                       uint32_t *age)
 {
     return room_raw_delay_tick(&state->write_pos, &state->smoothed_delay, &state->delay_primed, state->sample_rate,
                                state->delay_smooth_coef, state->max_delay_secs, state->linear_time, memory, places,
                                room_set_mask(audio, time, feedback) | room_set_bit(mix, 8u), audio.value, time.value,
-                               feedback.value, mix.value, milliseconds, out);
+                               feedback.value, mix.value, milliseconds, out, age);
 }
 
 /* Whether the unit is silent: every place of its line is +0 or -0. On a refusal *silent is 0. Refusals: 4, 3. */

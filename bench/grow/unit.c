@@ -76,6 +76,7 @@ void start_unit(struct unit *u)
     {                                                                                                                   \
         uint32_t refused = 0;                                                                                           \
         double out[3] = {0.0, 0.0, 0.0};                                                                                \
+        uint32_t age = 0;                                                                                               \
         unsigned i;                                                                                                     \
         for (i = 0; i < ticks; i++) {                                                                                   \
             const room_port audio = room_set(inputs[i % INPUTS].audio);                                                 \
@@ -84,6 +85,7 @@ void start_unit(struct unit *u)
             const double *sines = inputs[i % INPUTS].sines;                                                             \
             (void)frequency;                                                                                            \
             (void)sines;                                                                                                \
+            (void)age;                                                                                                  \
             refused |= CALL;                                                                                            \
             *sum += out[0];                                                                                             \
         }                                                                                                               \
@@ -92,10 +94,10 @@ void start_unit(struct unit *u)
 
 /* In linear mode; where the time is swept the inputs' control, 0.25 to 0.75, is the part of the maximum. */
 TICKS_OF(delay, room_delay_tick(&u->delay, u->lent, u->places, audio, room_set((u->swept ? control.value : 0.5) * u->maximum),
-                                control, control, 0.0, out))
-TICKS_OF(chorus, room_chorus_tick(&u->chorus, u->lent, u->places, audio, control, control, frequency, sines, out))
-TICKS_OF(flanger, room_flanger_tick(&u->flanger, u->lent, u->places, audio, control, control, control, frequency, sines, out))
-TICKS_OF(vibrato, room_vibrato_tick(&u->vibrato, u->lent, u->places, audio, control, control, frequency, sines[0], out))
+                                control, control, 0.0, out, &age))
+TICKS_OF(chorus, room_chorus_tick(&u->chorus, u->lent, u->places, audio, control, control, frequency, sines, out, &age))
+TICKS_OF(flanger, room_flanger_tick(&u->flanger, u->lent, u->places, audio, control, control, control, frequency, sines, out, &age))
+TICKS_OF(vibrato, room_vibrato_tick(&u->vibrato, u->lent, u->places, audio, control, control, frequency, sines[0], out, &age))
 TICKS_OF(reverb, room_reverb_tick(&u->reverb, u->lent, u->places, audio, control, control, control, control, out))
 
 double tick_unit(struct unit *u, unsigned ticks)

@@ -72,13 +72,13 @@ impl<const LINEAR: bool> Effect<1> for Delay<LINEAR> {
 
     #[inline(always)]
     fn ours(&mut self, input: &Input) -> [f64; 1] {
-        let mut out = 0.0;
+        let (mut out, mut age) = (0.0, 0);
         let t = Tick {
             set: 15,
             ports: Self::ports(input),
             milliseconds: input.milliseconds,
         };
-        tick(&mut self.ours, &mut self.memory, &t, &mut out);
+        tick(&mut self.ours, &mut self.memory, &t, &mut out, &mut age);
         [out]
     }
 }

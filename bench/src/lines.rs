@@ -54,8 +54,9 @@ impl<E: Lined<N>, const N: usize> Effect<N> for Row<E, N> {
 
     #[inline(always)]
     fn ours(&mut self, input: &Input) -> [f64; N] {
-        let mut out = [0.0; MOST];
-        E::Ours::tick(&mut self.ours, &mut self.memory, &input.tick(), &mut out);
+        let (mut out, mut age) = ([0.0; MOST], 0);
+        let t = input.tick();
+        E::Ours::tick(&mut self.ours, &mut self.memory, &t, &mut out, &mut age);
         std::array::from_fn(|i| out[i])
     }
 }

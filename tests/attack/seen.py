@@ -189,7 +189,8 @@ fn line_calls() -> u64 {
         for d in 0..57 {
             let distance = 1.0 + d as f64 * 0.125;
             let line = Line { places: &mem[3..12], write_pos: w };
-            h = float(h, line.read(distance));
+            let heard = line.read(distance);
+            h = mix(float(h, heard.sample), heard.age as u64);
         }
     }
     common::clear(&mut mem[5..1100]);
@@ -251,7 +252,7 @@ fn NAME_each(h: u64, s: TYPE, mem: &mut [f64], k: u64) -> u64 {
     let t = s.tick(TICK);
     let a = t.answer;
     let next = t.state;
-    sum = NAME_left(answered(sum, a), next);
+    sum = NAME_left(mix(answered(sum, a), t.age as u64), next);
     sum = places(asked(sum, next.silent(READ)), mem);
     let c = s.reset(WRITE);
     let left = c.state;
@@ -284,7 +285,7 @@ fn NAME_calls() -> u64 {
             let t = s.tick(TICK);
             let a = t.answer;
             s = t.state;
-            h = NAME_left(answered(h, a), s);
+            h = NAME_left(mix(answered(h, a), t.age as u64), s);
         }
         h = places(asked(h, s.silent(READ)), mem);
 AGAIN
@@ -337,7 +338,7 @@ fn settings_calls() -> u64 {
         let e = DelayLine::with_max_delay(8000.0, 0.05, 0.5, k >= 16, mem);
         let s = e.state;
         let t = s.tick(mem, Port::Set(1.0), Port::Set(nan_if(0.01, k % 2 == 0)), Port::Set(nan_if(0.5, k / 2 % 2 == 0)), Port::Set(nan_if(0.5, k / 4 % 2 == 0)), nan_if(10.0, k / 8 % 2 == 0));
-        h = places(delay_line_left(answered(h, t.answer), t.state), mem);
+        h = places(delay_line_left(mix(answered(h, t.answer), t.age as u64), t.state), mem);
         let r = s.set_sample_rate(retuning(8000.0, special(k)), mem);
         h = places(delay_line_left(cleared(h, r.outcome), r.state), mem);
         h = needed(h, DelayLine::places_needed(8000.0, special(k)));
@@ -418,7 +419,7 @@ fn reverb_each(h: u64, s: Reverb, mem: &mut [f64], k: u64) -> u64 {
     let mut sum = asked(h, s.silent(mem));
     let t = s.tick(mem, audio(k), port(k + 1), port(k + 2), port(k + 3), port(k + 4));
     let a = t.answer;
-    sum = tank(reverb_left(answered(sum, a), t.state), mem);
+    sum = tank(reverb_left(mix(answered(sum, a), t.age as u64), t.state), mem);
     let c = s.reset(mem);
     sum = tank(reverb_left(cleared(sum, c.outcome), c.state), mem);
     dirty(mem);
@@ -470,7 +471,7 @@ fn reverb_calls() -> u64 {
         let t = s.tick(mem, audio(k), port(k + 1), port(k + 2), port(k + 3), port(k + 4));
         let a = t.answer;
         s = t.state;
-        h = reverb_left(answered(h, a), s);
+        h = reverb_left(mix(answered(h, a), t.age as u64), s);
     }
     h = tank(h, mem);
     let at: [u64; 6] = [0, 50, 202, 300, 5000, 1099511627776];

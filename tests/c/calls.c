@@ -57,6 +57,12 @@ int plays(double is, double should)
     return isnan(should) ? isnan(is) : same(is, should);
 }
 
+uint32_t age_at(double distance)
+{
+    const uint32_t whole = (uint32_t)distance;
+    return distance - whole == 0.0 ? whole : whole + 1u;
+}
+
 double farther(double x)
 {
     return of_bits(bits(x) + 1u);

@@ -30,6 +30,9 @@ int all_same(const double *a, const double *b, unsigned count);
 /* Equal to the bit or, where `should` is a NaN, any NaN. */
 int plays(double is, double should);
 
+/* The age of a read at this distance by document 02: the whole part, plus one where the fraction is not 0. */
+uint32_t age_at(double distance);
+
 /* The next float away from 0, the next one towards it. */
 double farther(double x);
 double nearer(double x);
@@ -38,6 +41,7 @@ double nearer(double x);
 #define SMALLEST of_bits(1u)
 #define ODD_NAN of_bits(UINT64_C(0xfff8000000001234))
 #define JUNK 12345.0
+#define JUNK_AGE 12345u
 
 /* Numbers that all effects get. */
 struct numbers {
@@ -66,6 +70,7 @@ void phaser(void);
 void places(void);
 void order_of_causes(void);
 void ends(void);
+void ages(void);
 void stuck(void);
 void float_mode(void);
 

@@ -22,11 +22,11 @@ static uint32_t put(struct unit *unit, const room_chorus *state, uint32_t number
 
 LINED_CALLS(chorus)
 
-static uint32_t tick(struct unit *unit, double *lent, uint64_t places, const struct tick *t, double out[MOST])
+static uint32_t tick(struct unit *unit, double *lent, uint64_t places, const struct tick *t, double out[MOST], uint32_t *age)
 {
     room_chorus state = state_of(unit);
     return put(unit, &state,
-               room_chorus_tick(&state, lent, places, t->audio, t->depth, t->mix, t->frequency, t->sines, out));
+               room_chorus_tick(&state, lent, places, t->audio, t->depth, t->mix, t->frequency, t->sines, out, age));
 }
 
 /* Lengths: 8,000 stands first. */
@@ -161,12 +161,13 @@ static void spare_places(void)
     const struct tick t = spread(1.0, 1.0);
     struct unit unit = unit_at(3u);
     double out[MOST] = {JUNK, JUNK, JUNK};
+    uint32_t age;
     unsigned i;
     line_from(3u, whole, 12.0, 24.0, 36.0);
     for (i = LENGTH; i < 3u * LENGTH; i++) {
         memory[i] = JUNK + i;
     }
-    check(tick(&unit, memory, 3u * LENGTH, &t, out) == 0, "a tick with spare places", 0);
+    check(tick(&unit, memory, 3u * LENGTH, &t, out, &age) == 0, "a tick with spare places", 0);
     check(same(out[0], 24.0) && same(out[1], 15.0) && same(out[2], 21.0), "spare places are not heard", 0);
     check(same(memory[3], 1.0), "the audio is stored in the line", 0);
     for (i = LENGTH; i < 3u * LENGTH; i++) {
@@ -255,7 +256,8 @@ static void echo(void)
         const double left = i == 56u ? 3.0 : i == 156u ? 6.0 : 0.0;
         const double right = i == 56u ? 3.0 : i == 256u ? 6.0 : 0.0;
         double out[MOST] = {JUNK, JUNK, JUNK};
-        check(tick(&unit, memory, LENGTH, &t, out) == 0, "tick of an echo", i);
+        uint32_t age;
+        check(tick(&unit, memory, LENGTH, &t, out, &age) == 0, "tick of an echo", i);
         check(same(out[0], mono) && same(out[1], left) && same(out[2], right), "echo", i);
         check(silent(&unit, memory, LENGTH, &yes) == 0 && yes == (i == 266u), "sounds until the line has gone round", i);
         t.audio = room_set(0.0);
@@ -268,12 +270,14 @@ static void mask(void)
     uint64_t pos = 3;
     double phases[3] = {0.0, 0.33, 0.67};
     double out[3] = {JUNK, JUNK, JUNK};
+    uint32_t age = JUNK_AGE;
     line_from(3u, half, 12.0, 24.0, 36.0);
     check(room_raw_chorus_tick(&pos, phases, 8000.0, memory, LENGTH, UINT32_C(0xfffffff9), 1.0, (double)NAN, (double)NAN,
-                               0.0, -1.0, 0.0, 1.0, out) == 0,
+                               0.0, -1.0, 0.0, 1.0, out, &age) == 0,
           "audio and the other bits", 0);
     check(same(out[0], 12.5) && same(out[1], 8.0) && same(out[2], 11.0), "audio and the other bits: controls are unset", 0);
     check(pos == 4u && same(phases[1], 0.33), "audio and the other bits: the state", 0);
+    check(age == half[2], "audio and the other bits: the age of the third voice", 0);
 }
 
 void chorus(void)

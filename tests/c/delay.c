@@ -38,9 +38,9 @@ static struct tick_of_delay wrong_tick(void)
     return t;
 }
 
-uint32_t ticked(room_delay *state, uint64_t places, const struct tick_of_delay *t, double out[1])
+uint32_t ticked(room_delay *state, uint64_t places, const struct tick_of_delay *t, double out[1], uint32_t *age)
 {
-    return room_delay_tick(state, memory, places, t->audio, t->time, t->feedback, t->mix, t->milliseconds, out);
+    return room_delay_tick(state, memory, places, t->audio, t->time, t->feedback, t->mix, t->milliseconds, out, age);
 }
 
 /* States */
@@ -159,10 +159,11 @@ static void tick_refused(room_delay before, uint64_t places, struct tick_of_dela
 {
     room_delay state = before;
     double out[1] = {JUNK};
+    uint32_t age = JUNK_AGE;
     fill();
-    check(ticked(&state, places, &t, out) == number, what, i);
+    check(ticked(&state, places, &t, out, &age) == number, what, i);
     check(delay_is(&state, before) && memory_kept(), what, i);
-    check(same(out[0], 0.0), "a refused tick plays +0", i);
+    check(same(out[0], 0.0) && age == 0u, "a refused tick plays +0 and answers the age 0", i);
 }
 
 /* Start */
@@ -452,10 +453,11 @@ static void state_accepted(room_delay state, unsigned i)
     const struct tick_of_delay t = good_tick();
     room_delay given = state;
     double out[1];
+    uint32_t age;
     int silent = 7;
     fill();
     check(room_delay_silent(&given, memory, ROOM, &silent) == 0 && silent == 0, "silent accepts the state", i);
-    check(ticked(&given, ROOM, &t, out) == 0, "tick accepts the state", i);
+    check(ticked(&given, ROOM, &t, out, &age) == 0, "tick accepts the state", i);
     given = state;
     check(room_delay_reset(&given, memory, ROOM) == 0, "reset accepts the state", i);
     given = state;

@@ -24,7 +24,7 @@ struct tick_of_delay delay_tick(double audio, double mix, double milliseconds);
 struct tick_of_delay linear_tick(double audio, double mix, double seconds);
 
 /* In the memory that all these tests share. */
-uint32_t ticked(room_delay *state, uint64_t places, const struct tick_of_delay *t, double out[1]);
+uint32_t ticked(room_delay *state, uint64_t places, const struct tick_of_delay *t, double out[1], uint32_t *age);
 
 /* A state after a clearing, at 8,000, with a coefficient of 0.5. */
 room_delay fresh(void);

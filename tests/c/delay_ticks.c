@@ -14,16 +14,19 @@ static void line_with(uint64_t write_pos, unsigned distance, double value)
     memory[(write_pos + LENGTH - distance) % LENGTH] = value;
 }
 
-/* Runs the tick from this state in the memory as it is: the sample, a NaN standing for any, and the distance it leaves. */
+/* Runs the tick from this state in the memory as it is: the sample, a NaN standing for any, the distance it leaves, and its age
+   by that. */
 static void plays_at(room_delay state, struct tick_of_delay t, double sample, double distance, const char *what, unsigned i)
 {
     room_delay should = state;
     double out[1] = {JUNK};
+    uint32_t age;
     should.write_pos = (state.write_pos + 1u) % LENGTH;
     should.smoothed_delay = distance;
     should.delay_primed = 1;
-    check(ticked(&state, LENGTH, &t, out) == 0, what, i);
+    check(ticked(&state, LENGTH, &t, out, &age) == 0, what, i);
     check(plays(out[0], sample), what, i);
+    check(age == age_at(distance), "a tick's age is that of the distance it leaves", i);
     check(delay_is(&state, should), "a tick leaves the next position, its distance, primed, and the settings", i);
 }
 
@@ -110,6 +113,7 @@ static void half_a_second(void)
     room_delay state = linear_of(unprimed_at(4003u));
     struct tick_of_delay t = linear_tick(1.0, 1.0, (double)NAN);
     double out[1] = {JUNK};
+    uint32_t age;
     unsigned i;
     state.max_delay_secs = 1.0;
     t.time.set = 0;
@@ -117,7 +121,7 @@ static void half_a_second(void)
         memory[i] = 0.5;
     }
     memory[3] = 12.0;
-    check(ticked(&state, 8001, &t, out) == 0 && same(out[0], 12.0) && same(state.smoothed_delay, 4000.0),
+    check(ticked(&state, 8001, &t, out, &age) == 0 && same(out[0], 12.0) && same(state.smoothed_delay, 4000.0),
           "unset time is 0.5", 0);
 }
 
@@ -136,8 +140,7 @@ static void glides(void)
         {500.0, 0.5, 0.0, 250.5},
         {500.0, 0.5, 62.5, 500.0},
     };
-    const double almost = nearer(1.0);
-    unsigned i, k;
+    unsigned i;
     for (i = 0; i < COUNT(moves); i++) {
         const double distance = moves[i].distance;
         const unsigned whole = (unsigned)distance;
@@ -150,14 +153,21 @@ static void glides(void)
         line_with(3u, whole, 12.5);
         plays_at(state, delay_tick(1.0, 1.0, moves[i].milliseconds), sample, distance, "any number but 0 is primed", i);
     }
-    /* From end to end with a coefficient that hardly lets it move, it stays in the line. */
+}
+
+/* From end to end with a coefficient that hardly lets it move, a glide stays in the line. */
+static void slow_glides(void)
+{
+    const double almost = nearer(1.0);
+    unsigned i, k;
     for (k = 0; k < 2u; k++) {
         room_delay state = primed_at(0, k == 0u ? 1.0 : LENGTH - 1u);
         const struct tick_of_delay t = delay_tick(1.0, 1.0, k == 0u ? 1e308 : 0.0);
         state.delay_smooth_coef = almost;
         for (i = 0; i < 2000u; i++) {
             double out[1];
-            check(ticked(&state, LENGTH, &t, out) == 0, "a slow glide goes on", i);
+            uint32_t age;
+            check(ticked(&state, LENGTH, &t, out, &age) == 0, "a slow glide goes on", i);
             check(state.smoothed_delay >= 1.0 && state.smoothed_delay <= LENGTH - 1u, "a slow glide stays in the line", i);
         }
     }
@@ -199,9 +209,10 @@ static void stores(uint64_t write_pos, double wet, struct tick_of_delay t, unsig
     room_delay state = unprimed_at(write_pos);
     double out[1];
     double kept[ROOM];
+    uint32_t age;
     line_with(write_pos, 16u, wet);
     memcpy(kept, memory, sizeof kept);
-    check(ticked(&state, places, &t, out) == 0, "a tick that stores", i);
+    check(ticked(&state, places, &t, out, &age) == 0, "a tick that stores", i);
     check(plays(memory[write_pos], stored), "a tick stores audio + read x feedback", i);
     kept[write_pos] = memory[write_pos];
     check(all_same(memory, kept, ROOM), "a tick writes to no other place", i);
@@ -264,9 +275,10 @@ static void bench_case(void)
     const struct tick_of_delay second = linear_tick(7.0, 1.0, 0.0);
     room_delay state;
     double out[1] = {JUNK};
+    uint32_t age;
     check(room_delay_start(&state, memory, LENGTH, 8000.0, MAXIMUM, 0.0, 1u) == 0, "start of the bench case", 0);
-    check(ticked(&state, LENGTH, &first, out) == 0 && same(out[0], 0.0), "audio 3 gives 0", 0);
-    check(ticked(&state, LENGTH, &second, out) == 0 && same(out[0], 3.0), "audio 7 gives 3", 0);
+    check(ticked(&state, LENGTH, &first, out, &age) == 0 && same(out[0], 0.0), "audio 3 gives 0", 0);
+    check(ticked(&state, LENGTH, &second, out, &age) == 0 && same(out[0], 3.0), "audio 7 gives 3", 0);
 }
 
 /* From a start, at 16 places: a sound comes back, each time half as loud; without feedback it is gone a round later. */
@@ -275,6 +287,7 @@ static void echo(void)
     struct tick_of_delay t = delay_tick(1.0, 1.0, 2.0);
     room_delay state;
     double out[1] = {JUNK};
+    uint32_t age;
     int yes = 7;
     unsigned i;
     fill();
@@ -283,14 +296,14 @@ static void echo(void)
     t.feedback = room_set(0.5);
     for (i = 0; i < 1100u; i++) {
         const double should = i > 0u && i % 16u == 0u ? ldexp(1.0, 1 - (int)(i / 16u)) : 0.0;
-        check(ticked(&state, ROOM, &t, out) == 0, "tick of an echo", i);
+        check(ticked(&state, ROOM, &t, out, &age) == 0, "tick of an echo", i);
         check(same(out[0], should), "echo", i);
         check(room_delay_silent(&state, memory, ROOM, &yes) == 0 && yes == 0, "an echo sounds", i);
         t.audio = room_set(0.0);
     }
     t.feedback = room_unset();
     for (i = 0; i < LENGTH; i++) {
-        check(ticked(&state, ROOM, &t, out) == 0, "tick without feedback", i);
+        check(ticked(&state, ROOM, &t, out, &age) == 0, "tick without feedback", i);
     }
     check(room_delay_silent(&state, memory, ROOM, &yes) == 0 && yes == 1, "silent a round later", 0);
     check(room_delay_reset(&state, memory, ROOM) == 0 && state.delay_primed == 0u && same(state.smoothed_delay, 0.0),
@@ -305,11 +318,12 @@ static void mask(void)
     double smoothed_delay = 0.0;
     uint32_t delay_primed = 0;
     double out = JUNK;
+    uint32_t age = JUNK_AGE;
     line_with(3u, 16u, 12.0);
     check(room_raw_delay_tick(&write_pos, &smoothed_delay, &delay_primed, 8000.0, 0.5, MAXIMUM, 0u, memory, LENGTH,
-                              UINT32_C(0xfffffff1), 1.0, nan_, nan_, nan_, 2.0, &out) == 0,
+                              UINT32_C(0xfffffff1), 1.0, nan_, nan_, nan_, 2.0, &out, &age) == 0,
           "audio and the other bits", 0);
-    check(same(out, 6.5), "audio and the other bits: controls are unset", 0);
+    check(same(out, 6.5) && age == 16u, "audio and the other bits: controls are unset", 0);
     check(write_pos == 4u && same(smoothed_delay, 16.0) && delay_primed == 1u && same(memory[3], 1.0),
           "audio and the others: it leaves", 0);
 }
@@ -320,6 +334,7 @@ void delay_ticks(void)
     seconds();
     half_a_second();
     glides();
+    slow_glides();
     mixes();
     feedbacks();
     unset_and_not_finite();

@@ -26,6 +26,11 @@ int effect_lined(int effect)
     return effect != ROOM_TREMOLO && effect != ROOM_PHASER;
 }
 
+int effect_aged(int effect)
+{
+    return effect >= ROOM_DELAY && effect <= ROOM_VIBRATO;
+}
+
 int effect_has(int effect, int call)
 {
     return effect_lined(effect) || call != RETUNE;
@@ -56,7 +61,7 @@ struct effect_call effect_good(int effect, int call, double *lent, uint64_t plac
     return c;
 }
 
-static uint32_t made_delay(room_delay *s, const struct effect_call *c, double *out, int *yes)
+static uint32_t made_delay(room_delay *s, const struct effect_call *c, double *out, uint32_t *age, int *yes)
 {
     const room_port *p = c->ports;
     switch (c->call) {
@@ -67,13 +72,13 @@ static uint32_t made_delay(room_delay *s, const struct effect_call *c, double *o
     case RESET:
         return room_delay_reset(s, c->lent, c->places);
     case TICK:
-        return room_delay_tick(s, c->lent, c->places, p[0], p[1], p[2], p[3], c->curves[0], out);
+        return room_delay_tick(s, c->lent, c->places, p[0], p[1], p[2], p[3], c->curves[0], out, age);
     default:
         return room_delay_silent(s, c->lent, c->places, yes);
     }
 }
 
-static uint32_t made_chorus(room_chorus *s, const struct effect_call *c, double *out, int *yes)
+static uint32_t made_chorus(room_chorus *s, const struct effect_call *c, double *out, uint32_t *age, int *yes)
 {
     const room_port *p = c->ports;
     switch (c->call) {
@@ -84,13 +89,13 @@ static uint32_t made_chorus(room_chorus *s, const struct effect_call *c, double 
     case RESET:
         return room_chorus_reset(s, c->lent, c->places);
     case TICK:
-        return room_chorus_tick(s, c->lent, c->places, p[0], p[1], p[2], c->curves[0], c->curves + 1, out);
+        return room_chorus_tick(s, c->lent, c->places, p[0], p[1], p[2], c->curves[0], c->curves + 1, out, age);
     default:
         return room_chorus_silent(s, c->lent, c->places, yes);
     }
 }
 
-static uint32_t made_flanger(room_flanger *s, const struct effect_call *c, double *out, int *yes)
+static uint32_t made_flanger(room_flanger *s, const struct effect_call *c, double *out, uint32_t *age, int *yes)
 {
     const room_port *p = c->ports;
     switch (c->call) {
@@ -101,13 +106,13 @@ static uint32_t made_flanger(room_flanger *s, const struct effect_call *c, doubl
     case RESET:
         return room_flanger_reset(s, c->lent, c->places);
     case TICK:
-        return room_flanger_tick(s, c->lent, c->places, p[0], p[1], p[2], p[3], c->curves[0], c->curves + 1, out);
+        return room_flanger_tick(s, c->lent, c->places, p[0], p[1], p[2], p[3], c->curves[0], c->curves + 1, out, age);
     default:
         return room_flanger_silent(s, c->lent, c->places, yes);
     }
 }
 
-static uint32_t made_vibrato(room_vibrato *s, const struct effect_call *c, double *out, int *yes)
+static uint32_t made_vibrato(room_vibrato *s, const struct effect_call *c, double *out, uint32_t *age, int *yes)
 {
     const room_port *p = c->ports;
     switch (c->call) {
@@ -118,7 +123,7 @@ static uint32_t made_vibrato(room_vibrato *s, const struct effect_call *c, doubl
     case RESET:
         return room_vibrato_reset(s, c->lent, c->places);
     case TICK:
-        return room_vibrato_tick(s, c->lent, c->places, p[0], p[1], p[2], c->curves[0], c->curves[1], out);
+        return room_vibrato_tick(s, c->lent, c->places, p[0], p[1], p[2], c->curves[0], c->curves[1], out, age);
     default:
         return room_vibrato_silent(s, c->lent, c->places, yes);
     }
@@ -171,13 +176,13 @@ static uint32_t made_phaser(room_phaser *s, const struct effect_call *c, double 
     }
 }
 
-uint32_t effect_make(struct effect_state *state, const struct effect_call *c, double out[3])
+uint32_t effect_make(struct effect_state *state, const struct effect_call *c, double out[3], uint32_t *age)
 {
     int yes = 7;
-    const uint32_t number = c->effect == ROOM_DELAY     ? made_delay(&state->delay, c, out, &yes)
-                            : c->effect == ROOM_CHORUS  ? made_chorus(&state->chorus, c, out, &yes)
-                            : c->effect == ROOM_FLANGER ? made_flanger(&state->flanger, c, out, &yes)
-                            : c->effect == ROOM_VIBRATO ? made_vibrato(&state->vibrato, c, out, &yes)
+    const uint32_t number = c->effect == ROOM_DELAY     ? made_delay(&state->delay, c, out, age, &yes)
+                            : c->effect == ROOM_CHORUS  ? made_chorus(&state->chorus, c, out, age, &yes)
+                            : c->effect == ROOM_FLANGER ? made_flanger(&state->flanger, c, out, age, &yes)
+                            : c->effect == ROOM_VIBRATO ? made_vibrato(&state->vibrato, c, out, age, &yes)
                             : c->effect == ROOM_TREMOLO ? made_tremolo(&state->tremolo, c, out, &yes)
                             : c->effect == ROOM_REVERB  ? made_reverb(&state->reverb, c, out, &yes)
                                                         : made_phaser(&state->phaser, c, out, &yes);

@@ -39,8 +39,9 @@ unsigned effect_ports(int effect);
 unsigned effect_curves(int effect);
 unsigned effect_samples(int effect);
 
-/* Whether the effect has lines, and so memory. */
+/* Whether the effect has lines, and so memory; whether its tick answers an age. */
 int effect_lined(int effect);
+int effect_aged(int effect);
 
 /* Whether the effect has the call: one without lines has no retune. */
 int effect_has(int effect, int call);
@@ -49,7 +50,8 @@ int effect_has(int effect, int call);
    memory, and the reverb has no curve number. */
 int effect_can_refuse(int effect, unsigned number);
 
-/* Makes the call. A tick's samples go into `out`; a question's answer goes into out[0], as 1 or 0. */
-uint32_t effect_make(struct effect_state *state, const struct effect_call *c, double out[3]);
+/* Makes the call. A tick's samples go into `out` and its age into *age; a question's answer goes into out[0], as 1 or 0. What
+   the effect or the call does not answer is left. */
+uint32_t effect_make(struct effect_state *state, const struct effect_call *c, double out[3], uint32_t *age);
 
 #endif

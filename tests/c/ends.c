@@ -32,11 +32,12 @@ static void numbered(struct effect_state *state, const struct effect_call *c, ui
     const int clears = number == 0u && c->call <= RESET;
     double *behind = c->lent + c->places;
     double out[3] = {JUNK, JUNK, JUNK};
+    uint32_t age;
     *behind = JUNK;
     if (c->places > 0u) {
         behind[-1] = JUNK;
     }
-    check(effect_make(state, c, out) == number, what, i);
+    check(effect_make(state, c, out, &age) == number, what, i);
     check(same(*behind, JUNK), "the place behind is left", i);
     if (c->places > 0u) {
         check(same(behind[-1], clears ? 0.0 : JUNK), "the last place, cleared or left", i);
@@ -95,12 +96,13 @@ static void lent_nothing(int effect)
     const double none[3] = {0.0, 0.0, 0.0};
     struct effect_state started, state, zeros;
     double out[3];
+    uint32_t age;
     int call;
     c.lent = calloc(87136u, sizeof *c.lent);
     c.places = 87136u;
     memset(&started, 0, sizeof started);
     memset(&zeros, 0, sizeof zeros);
-    check(c.lent != NULL && effect_make(&started, &c, out) == ROOM_ACCEPTED, "a start in memory", (unsigned)effect);
+    check(c.lent != NULL && effect_make(&started, &c, out, &age) == ROOM_ACCEPTED, "a start in memory", (unsigned)effect);
     free(c.lent);
     for (call = START; call < CALLS; call++) {
         const unsigned i = 10u * (unsigned)effect + (unsigned)call;
@@ -108,12 +110,14 @@ static void lent_nothing(int effect)
         c = effect_good(effect, call, NULL, 0, 8000.0, 0.001);
         memcpy(&state, &started, sizeof state);
         out[0] = out[1] = out[2] = JUNK;
-        check(effect_make(&state, &c, out) == ROOM_REFUSED_MEMORY, "no memory, at NULL", i);
+        age = JUNK_AGE;
+        check(effect_make(&state, &c, out, &age) == ROOM_REFUSED_MEMORY, "no memory, at NULL", i);
         check(memcmp(&state, call == START ? &zeros : &started, sizeof state) == 0, "no memory: the state is left", i);
         check(all_same(out, none, answers), "no memory: it plays +0 and answers no", i);
+        check(call != TICK || !effect_aged(effect) || age == 0u, "no memory: a tick answers the age 0", i);
     }
     c = effect_good(effect, START, NULL, 0, nearer(8000.0), 0.001);
-    check(effect_make(&state, &c, out) == ROOM_REFUSED_SAMPLE_RATE, "no memory and a wrong rate", (unsigned)effect);
+    check(effect_make(&state, &c, out, &age) == ROOM_REFUSED_SAMPLE_RATE, "no memory and a wrong rate", (unsigned)effect);
 }
 
 void ends(void)

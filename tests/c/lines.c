@@ -236,11 +236,12 @@ static void states_accepted(const struct lined *e)
     for (i = 0; i < phases.count * e->phases; i++) {
         struct unit unit = unit_at(length_of(e) - 1u);
         double out[MOST];
+        uint32_t age;
         int silent = 7;
         unit.phases[i % e->phases] = phases.list[i / e->phases];
         fill();
         check(e->silent(&unit, memory, needed(e), &silent) == 0, "silent accepts the state", i);
-        check(e->tick(&unit, memory, needed(e), &t, out) == 0, "tick accepts the state", i);
+        check(e->tick(&unit, memory, needed(e), &t, out, &age) == 0, "tick accepts the state", i);
         unit.phases[i % e->phases] = phases.list[i / e->phases];
         check(e->reset(&unit, memory, needed(e)) == 0, "reset accepts the state", i);
         unit.phases[i % e->phases] = phases.list[i / e->phases];

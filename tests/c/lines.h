@@ -36,7 +36,7 @@ struct lined {
     uint32_t (*start)(struct unit *unit, double *memory, uint64_t places, double sample_rate);
     uint32_t (*retune)(struct unit *unit, double *memory, uint64_t places, double sample_rate);
     uint32_t (*reset)(struct unit *unit, double *memory, uint64_t places);
-    uint32_t (*tick)(struct unit *unit, double *memory, uint64_t places, const struct tick *t, double out[MOST]);
+    uint32_t (*tick)(struct unit *unit, double *memory, uint64_t places, const struct tick *t, double out[MOST], uint32_t *age);
     uint32_t (*silent)(const struct unit *unit, const double *memory, uint64_t places, int *silent);
 };
 

@@ -18,8 +18,9 @@ void tick_plays(const struct lined *e, uint64_t write_pos, struct tick t, const 
 {
     struct unit unit = unit_at(write_pos);
     double out[MOST] = {JUNK, JUNK, JUNK};
+    uint32_t age;
     unsigned k;
-    check(e->tick(&unit, memory, needed(e), &t, out) == 0, what, i);
+    check(e->tick(&unit, memory, needed(e), &t, out, &age) == 0, what, i);
     for (k = 0; k < e->samples; k++) {
         check(plays(out[k], samples[k]), what, i);
     }
@@ -31,7 +32,8 @@ void tick_moves(const struct lined *e, double phase, double frequency, const dou
     const struct tick t = tick_of(0.0, 0.5, 0.5, frequency, 0.0);
     struct unit unit = unit_of(0, phases, 8000.0);
     double out[MOST];
-    check(e->tick(&unit, memory, needed(e), &t, out) == 0, what, i);
+    uint32_t age;
+    check(e->tick(&unit, memory, needed(e), &t, out, &age) == 0, what, i);
     check(unit_is(e, &unit, unit_of(1, next, 8000.0)), what, i);
 }
 
@@ -41,10 +43,12 @@ void tick_refused(const struct lined *e, struct unit before, uint64_t places, st
     const double zeros[MOST] = {0.0, 0.0, 0.0};
     struct unit unit = before;
     double out[MOST] = {JUNK, JUNK, JUNK};
+    uint32_t age = JUNK_AGE;
     fill();
-    check(e->tick(&unit, memory, places, &t, out) == number, what, i);
+    check(e->tick(&unit, memory, places, &t, out, &age) == number, what, i);
     check(unit_is(e, &unit, before) && memory_kept(), what, i);
     check(all_same(out, zeros, e->samples), "a refused tick plays +0", i);
+    check(age == 0u, "a refused tick answers the age 0", i);
 }
 
 struct tick good_tick(void)
@@ -74,9 +78,10 @@ static void tick_stores(const struct lined *e, uint64_t write_pos, unsigned plac
 {
     struct unit unit = unit_at(write_pos);
     double out[MOST];
+    uint32_t age;
     unsigned k;
     fill_to_store(e);
-    check(e->tick(&unit, memory, places, &t, out) == 0, "tick is accepted", i);
+    check(e->tick(&unit, memory, places, &t, out, &age) == 0, "tick is accepted", i);
     for (k = 0; k < e->lines; k++) {
         const unsigned place = k * length_of(e) + (unsigned)write_pos;
         check(plays(memory[place], stored), "a tick stores its audio at the position", i);

@@ -49,6 +49,7 @@ int main(void)
     test("places", places);
     test("order of causes", order_of_causes);
     test("ends", ends);
+    test("ages", ages);
     test("what never falls silent", stuck);
     test("floating-point mode", float_mode);
     return say_counts();

@@ -100,10 +100,11 @@ static void begin(int effect, struct effect_state *state)
 {
     struct effect_call c = effect_good(effect, START, lent, places_at_8000[effect], RATE, MAXIMUM);
     double out[3];
+    uint32_t age;
     memset(state, 0, sizeof *state);
-    check(effect_make(state, &c, out) == 0, "start for an order", (unsigned)effect);
+    check(effect_make(state, &c, out, &age) == 0, "start for an order", (unsigned)effect);
     c.call = TICK;
-    check(effect_make(state, &c, out) == 0, "tick for an order", (unsigned)effect);
+    check(effect_make(state, &c, out, &age) == 0, "tick for an order", (unsigned)effect);
 }
 
 /* Brings about the causes of a set, bit n for the n-th of the call's order: the number by the table, or NONE if one of them
@@ -141,7 +142,7 @@ static void attempt(int effect, int call, unsigned set, unsigned way)
     const double none[3] = {0.0, 0.0, 0.0};
     struct effect_state state, left;
     double out[3] = {JUNK, JUNK, JUNK};
-    uint32_t number;
+    uint32_t number, age = JUNK_AGE;
     begin(effect, &state);
     number = bring_about(&c, &state, set, way);
     if (number == NONE) {
@@ -152,11 +153,12 @@ static void attempt(int effect, int call, unsigned set, unsigned way)
     if (call == START) {
         memset(&left, 0, sizeof left);
     }
-    check(effect_make(&state, &c, out) == number, "the first cause in the call's order is given", i);
+    check(effect_make(&state, &c, out, &age) == number, "the first cause in the call's order is given", i);
     if (number != 0u) {
         check(memcmp(&state, &left, sizeof state) == 0, "a refused call leaves the state, of a start zeros", i);
         check(memcmp(as_lent, lent, sizeof lent) == 0, "a refused call leaves the memory", i);
         check(all_same(out, none, answers), "a refused call plays +0 and answers 0", i);
+        check(call != TICK || !effect_aged(effect) || age == 0u, "a refused tick answers the age 0", i);
     }
 }
 

@@ -11,11 +11,12 @@ static double lent[TANK_PLACES];
 static double echoes(room_delay *state, double feedback, unsigned repeats)
 {
     double out[1] = {JUNK};
-    uint32_t refused = 0;
+    uint32_t refused = 0, age;
     unsigned i;
     for (i = 0; i <= repeats; i++) {
         const room_port audio = room_set(state->delay_primed == 0u ? 1.0 : 0.0);
-        refused |= room_delay_tick(state, lent, DELAY_PLACES, audio, room_unset(), room_set(feedback), room_set(1.0), 0.0, out);
+        refused |= room_delay_tick(state, lent, DELAY_PLACES, audio, room_unset(), room_set(feedback), room_set(1.0), 0.0, out,
+                                   &age);
     }
     check(refused == 0u, "ticks of an echo that may stick", 0);
     return out[0];

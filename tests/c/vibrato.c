@@ -4,11 +4,11 @@
 ONE_PHASE_STATE(vibrato)
 LINED_CALLS(vibrato)
 
-static uint32_t tick(struct unit *unit, double *lent, uint64_t places, const struct tick *t, double out[MOST])
+static uint32_t tick(struct unit *unit, double *lent, uint64_t places, const struct tick *t, double out[MOST], uint32_t *age)
 {
     room_vibrato state = state_of(unit);
     return put(unit, &state,
-               room_vibrato_tick(&state, lent, places, t->audio, t->depth, t->mix, t->frequency, t->sines[0], out));
+               room_vibrato_tick(&state, lent, places, t->audio, t->depth, t->mix, t->frequency, t->sines[0], out, age));
 }
 
 /* Lengths: 8,000 stands first. */
@@ -129,7 +129,8 @@ static void echo(void)
     check(silent(&unit, memory, 170, &yes) == 0 && yes == 1, "silent after the start", 0);
     for (i = 0; i < 171u; i++) {
         double out[MOST] = {JUNK};
-        check(tick(&unit, memory, 170, &t, out) == 0 && same(out[0], i == 80u ? 1.0 : 0.0), "echo", i);
+        uint32_t age;
+        check(tick(&unit, memory, 170, &t, out, &age) == 0 && same(out[0], i == 80u ? 1.0 : 0.0), "echo", i);
         check(silent(&unit, memory, 170, &yes) == 0 && yes == (i == 170u), "sounds until the line has gone round", i);
         t.audio = room_set(0.0);
     }
@@ -141,11 +142,13 @@ static void mask(void)
     uint64_t pos = 3;
     double phase = 0.0;
     double out = JUNK;
+    uint32_t age = JUNK_AGE;
     line_with(80u, 4.0);
     check(room_raw_vibrato_tick(&pos, &phase, 8000.0, memory, 170, UINT32_C(0xfffffff9), 1.0, (double)NAN, (double)NAN, 0.0,
-                                0.0, &out) == 0,
+                                0.0, &out, &age) == 0,
           "audio and the other bits", 0);
     check(same(out, 4.0) && pos == 4u && same(phase, 0.0), "audio and the other bits: controls are unset", 0);
+    check(age == 80u, "audio and the other bits: the age", 0);
 }
 
 void vibrato(void)

@@ -127,6 +127,7 @@ static void number_facts(const struct room *room)
     fact(room->ticks == 0u || (within(&room->delay) && room->delay.delay_primed == 1u && within(&room->linear)),
          "the delays' distances are 1 to L - 1");
     fact(room->refused == 0u, "no tick was refused");
+    fact(room->aged == room->ticks, "each tick's ages are 1 to L - 1, the delays' those of their distances");
     fact(room->unsound == 0.0, "what plays under the input rule, but for the phaser, is finite");
 }
 

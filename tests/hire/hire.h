@@ -24,6 +24,9 @@
 /* The units with lines: the delay stands for two, one in each mode. Tremolo and phaser have no lines. */
 enum { DELAY, LINEAR, CHORUS, FLANGER, VIBRATO, REVERB, LINED };
 
+/* Of these the first so many answer ages. */
+#define AGED 5u
+
 /* Samples of one tick of every unit: delays, chorus, flanger, vibrato, tremolo, reverb, phaser. */
 enum { AT_DELAY, AT_LINEAR, AT_CHORUS, AT_FLANGER = 5, AT_VIBRATO = 8, AT_TREMOLO, AT_REVERB, AT_PHASER = 12, SAMPLES = 15 };
 
@@ -44,6 +47,8 @@ struct room {
     double past[PAST];  /* audio as it came, +0 if unset: of tick t at t modulo PAST */
     double heard[PAST]; /* the same under the input rule */
     double samples[SAMPLES]; /* of the last tick */
+    uint32_t ages[AGED];     /* likewise; each is 0 before the first */
+    uint64_t aged;           /* ticks whose five ages were 1 to L - 1, the delays' those of the distances that they leave */
     uint32_t refused;        /* all numbers that ticks returned */
     double unsound;          /* NaN once an effect with the input rule, but the phaser, has played what is not finite */
 };

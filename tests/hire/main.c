@@ -48,7 +48,7 @@ static int plays_alike(const double *a, const double *b)
 /* A take beside units that were never used before. */
 static void next_take(void)
 {
-    int good = 1;
+    int good = 1, aged_alike = 1;
     unsigned i;
     reset_room(&room);
     open_room(&fresh);
@@ -57,8 +57,10 @@ static void next_take(void)
         tick_room(&room, &c);
         tick_room(&fresh, &c);
         good = good && plays_alike(room.samples, fresh.samples);
+        aged_alike = aged_alike && memcmp(room.ages, fresh.ages, sizeof room.ages) == 0;
     }
     fact(good, "a take after the reset plays what fresh units play, sample by sample");
+    fact(aged_alike, "a take after the reset answers the ages that fresh units answer");
     line_facts(&room);
 }
 

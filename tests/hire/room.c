@@ -4,6 +4,7 @@
 #include <math.h>
 #include <stdio.h>
 #include <stdlib.h>
+#include <string.h>
 
 /* Memory that held something before. */
 static double *lend(uint64_t places)
@@ -44,6 +45,8 @@ void open_room(struct room *room)
     room->ticks = 0;
     room->refused = 0;
     room->unsound = 0.0;
+    room->aged = 0;
+    memset(room->ages, 0, sizeof room->ages);
 }
 
 static void tick_delays(struct room *room, const struct controls *c)
@@ -52,9 +55,9 @@ static void tick_delays(struct room *room, const struct controls *c)
     const room_port feedback = room_set(c->moving[1]);
     const room_port mix = room_set(c->moving[2]);
     room->refused |= room_delay_tick(&room->delay, room->lent[DELAY], room->places[DELAY], c->audio, time, feedback, mix,
-                                     c->moving[3] * MAXIMUM * 1000.0, &room->samples[AT_DELAY]);
+                                     c->moving[3] * MAXIMUM * 1000.0, &room->samples[AT_DELAY], &room->ages[DELAY]);
     room->refused |= room_delay_tick(&room->linear, room->lent[LINEAR], room->places[LINEAR], c->audio, time, feedback, mix,
-                                     0.0, &room->samples[AT_LINEAR]);
+                                     0.0, &room->samples[AT_LINEAR], &room->ages[LINEAR]);
 }
 
 static void tick_sweeps(struct room *room, const struct controls *c)
@@ -65,12 +68,13 @@ static void tick_sweeps(struct room *room, const struct controls *c)
     const double chorus[] = {sine_of(phases[0]), sine_of(phases[1]), sine_of(phases[2])};
     const double flanger[] = {sine_of(room->flanger.lfo_phase), sine_of(room->flanger.lfo_phase + 0.25)};
     room->refused |= room_chorus_tick(&room->chorus, room->lent[CHORUS], room->places[CHORUS], c->audio, depth, mix,
-                                      c->frequency, chorus, &room->samples[AT_CHORUS]);
+                                      c->frequency, chorus, &room->samples[AT_CHORUS], &room->ages[CHORUS]);
     room->refused |= room_flanger_tick(&room->flanger, room->lent[FLANGER], room->places[FLANGER], c->audio, depth,
                                        room_set(c->moving[3] * 2.0 - 1.0), mix, c->frequency, flanger,
-                                       &room->samples[AT_FLANGER]);
+                                       &room->samples[AT_FLANGER], &room->ages[FLANGER]);
     room->refused |= room_vibrato_tick(&room->vibrato, room->lent[VIBRATO], room->places[VIBRATO], c->audio, depth, mix,
-                                       c->frequency, sine_of(room->vibrato.lfo_phase), &room->samples[AT_VIBRATO]);
+                                       c->frequency, sine_of(room->vibrato.lfo_phase), &room->samples[AT_VIBRATO],
+                                       &room->ages[VIBRATO]);
     room->refused |= room_tremolo_tick(&room->tremolo, c->audio, depth, room_set(c->moving[5]), c->frequency,
                                        sine_of(room->tremolo.lfo_phase), &room->samples[AT_TREMOLO]);
 }
@@ -100,6 +104,19 @@ static void tick_phaser(struct room *room, const struct controls *c)
                                       coefficient(phase + 0.25, depth), &room->samples[AT_PHASER]);
 }
 
+/* Whether each age is one that its line can have. What a delay's tick leaves as its distance is where it read. */
+static int ages_hold(const struct room *room)
+{
+    static const uint32_t lengths[AGED] = {DELAY_LENGTH, DELAY_LENGTH, CHORUS_LENGTH, FLANGER_LENGTH, VIBRATO_LENGTH};
+    int good = room->ages[DELAY] == (uint32_t)ceil(room->delay.smoothed_delay) &&
+               room->ages[LINEAR] == (uint32_t)ceil(room->linear.smoothed_delay);
+    unsigned i;
+    for (i = 0; i < AGED; i++) {
+        good = good && room->ages[i] >= 1u && room->ages[i] <= lengths[i] - 1u;
+    }
+    return good;
+}
+
 void tick_room(struct room *room, const struct controls *c)
 {
     const double audio = c->audio.set != 0 ? c->audio.value : 0.0;
@@ -111,6 +128,7 @@ void tick_room(struct room *room, const struct controls *c)
     room->past[room->ticks % PAST] = audio;
     room->heard[room->ticks % PAST] = isfinite(audio) ? audio : 0.0;
     room->ticks++;
+    room->aged += ages_hold(room) != 0;
     /* Of the phaser no bound is promised: it may overflow. */
     for (i = 0; i < AT_PHASER; i++) {
         if (i != AT_VIBRATO && i != AT_TREMOLO) {
@@ -132,6 +150,7 @@ void reset_room(struct room *room)
                              room_tremolo_reset(&room->tremolo) | room_phaser_reset(&room->phaser);
     fact(refused == 0u, "every reset is accepted");
     room->ticks = 0;
+    room->aged = 0;
 }
 
 /* How many of the units with lines, and of the phaser, say that they are silent; the tremolo, which keeps no sound, must. */

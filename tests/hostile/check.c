@@ -105,19 +105,23 @@ const char *check_call(struct unit *unit, const struct call *c, struct answer *a
     const uint32_t number = number_for(c);
     const int clears = number == 0u && c->kind <= RESET;
     struct ticked t;
-    uint32_t silent = 0;
+    uint32_t silent = 0, age = c->kind == TICK && has_ages(c->effect) ? 0u : UNTOUCHED;
     const char *wrong;
     if (clears && unit->arena->places > 4096u && !arena_as_it_should(unit->arena)) {
         return "memory, seen before a clearing";
     }
     if (number == 0u && c->kind == TICK) {
         t = tick_by_the_paper(c);
+        age = has_ages(c->effect) ? t.age : UNTOUCHED;
     } else if (number == 0u && c->kind == SILENT) {
         silent = (uint32_t)silent_by_the_paper(c);
     }
     *a = make(c);
     if (a->number != number) {
         return "the number";
+    }
+    if (a->age != age) {
+        return "the age";
     }
     wrong = number != 0u        ? check_refused(unit, c, a)
             : clears            ? check_clearing(unit, c, a)

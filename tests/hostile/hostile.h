@@ -59,8 +59,11 @@ struct answer {
     uint32_t number;
     struct state state;
     double out[SAMPLES];
-    uint32_t silent;
+    uint32_t silent, age;
 };
+
+/* What the numbers that a call puts out hold before it. */
+#define UNTOUCHED 12345u
 
 /* floats.c */
 uint64_t bits(double x);
@@ -89,6 +92,7 @@ unsigned tank_word(unsigned line); /* the state's word that is its position */
 struct ticked {
     struct state state;
     double out[SAMPLES];
+    uint32_t age; /* 0 where the effect answers none */
     unsigned writes;
     uint64_t place[WRITES];
     double value[WRITES];
@@ -96,6 +100,7 @@ struct ticked {
 unsigned samples_of(int effect);
 unsigned ports_of(int effect);
 unsigned curves_of(int effect);
+int has_ages(int effect);
 double port(const struct call *c, unsigned which, double unset); /* its number, or this one where it is unset */
 double clamped(double x, double low, double high);
 double input_rule(double audio);
@@ -122,7 +127,7 @@ int window_as_it_should(const struct arena *arena, uint64_t place); /* the place
 
 /* A small object between guard pages, close to the higher or to the lower one. */
 void *spot(unsigned which, unsigned bytes, int high);
-#define SPOTS 10
+#define SPOTS 11
 
 /* make.c: makes the call, its numbers in spots. */
 struct answer make(const struct call *c);

@@ -3,7 +3,7 @@
  *
  * Units come one after another, each with a chain of calls. The table printed at the end says how often each call was accepted
  * and refused by each number; a cell that the table of refusals has and that no call came to is a failure. The last line is
- * `N passed, M failed`, counted in cells.
+ * `N passed, M failed`, counted in cells, and in the kinds of ages that the four effects with ages answered.
  */
 #define _POSIX_C_SOURCE 200809L
 #include "hostile.h"
@@ -29,6 +29,11 @@ static uint64_t made, places_made, places_wrong;
 enum { NO_PLACES, FEWER, ONE_SHORT, JUST_ENOUGH, MORE, LENGTHS };
 static const char *const length_names[LENGTHS] = {"none", "fewer", "one short", "just enough", "more"};
 static uint64_t lengths[LENGTHS], long_lines;
+
+/* Ages of accepted ticks, by where in the line they are. */
+enum { AT_1, BETWEEN, AT_END, AGES };
+static const char *const age_names[AGES] = {"1", "between", "L - 1"};
+static uint64_t ages[AGES], ages_beyond;
 static unsigned shown;
 
 /* A fault is a call that went out of what it was lent: say which, and end. */
@@ -59,9 +64,9 @@ static void show_wrong(const struct call *c, const struct answer *a, const char 
     if (shown > 20u) {
         return;
     }
-    printf("FAILED: call %llu, %s %s: %s; number %u, by the table %u, %llu places\n  state", (unsigned long long)made,
+    printf("FAILED: call %llu, %s %s: %s; number %u, by the table %u, %llu places, age %u\n  state", (unsigned long long)made,
            effect_names[c->effect], call_names[c->kind], what, (unsigned)a->number, (unsigned)number_for(c),
-           (unsigned long long)c->places);
+           (unsigned long long)c->places, (unsigned)a->age);
     for (i = 0; i < words_of(c->effect); i++) {
         printf(" %llx", (unsigned long long)c->state.word[i]);
     }
@@ -116,17 +121,29 @@ static void count_length(const struct call *c)
     }
 }
 
+/* 1 to L - 1, with L by the state; the delay's lines alone are read up to both ends. */
+static void count_age(const struct call *c, const struct answer *a)
+{
+    if (c->kind == TICK && a->number == 0u && has_ages(c->effect)) {
+        const double rate = of_bits(c->state.word[word_of(c->effect, 'r')]);
+        const uint64_t last = line_length(c->effect, rate, c->effect == DELAY ? of_bits(c->state.word[5]) : 0.0) - 1u;
+        ages[a->age == 1u ? AT_1 : a->age == last ? AT_END : BETWEEN]++;
+        ages_beyond += a->age < 1u || a->age > last;
+    }
+}
+
 /* One call, counted; the unit goes on with what it left. */
 static void one_call(struct unit *unit)
 {
     const struct call c = draw_call(unit);
-    struct answer a = {0, {{0}}, {0}, 0};
+    struct answer a = {0, {{0}}, {0}, 0, 0};
     const char *wrong;
     snprintf(faulted, sizeof faulted, "FAILED: a fault in call %llu, %s %s, %llu places\n", (unsigned long long)made,
              effect_names[c.effect], call_names[c.kind], (unsigned long long)c.places);
     wrong = check_call(unit, &c, &a);
     made++;
     count_length(&c);
+    count_age(&c, &a);
     if (wrong != NULL) {
         show_wrong(&c, &a, wrong);
         tally[c.effect][c.kind].wrong[number_for(&c)]++;
@@ -217,6 +234,20 @@ static void print_row(int effect, int kind)
     }
 }
 
+static void print_ages(void)
+{
+    int kind;
+    printf("ages:");
+    for (kind = 0; kind < AGES; kind++) {
+        printf(" %s %llu,", age_names[kind], (unsigned long long)ages[kind]);
+        passed += ages[kind] > 0u;
+        failed += ages[kind] == 0u;
+    }
+    printf(" others %llu\n", (unsigned long long)ages_beyond);
+    passed += ages_beyond == 0u;
+    failed += ages_beyond != 0u;
+}
+
 static void print_table(void)
 {
     int effect, kind;
@@ -259,6 +290,7 @@ int main(int argc, char **argv)
         one_places_call();
     }
     print_table();
+    print_ages();
     printf("%u passed, %u failed\n", passed, failed);
     return failed != 0u;
 }

@@ -5,6 +5,7 @@
 
 #define OUT_SPOT 8u
 #define SILENT_SPOT 9u
+#define AGE_SPOT 10u
 
 /* The words of the state that the call is handed by an address. */
 static struct {
@@ -53,8 +54,9 @@ static double number(const struct call *c, unsigned word)
     return of_bits(c->state.word[word]);
 }
 
-static uint32_t tremolo(const struct call *c, double *out, uint32_t *yes)
+static uint32_t tremolo(const struct call *c, double *out, uint32_t *yes, uint32_t *age)
 {
+    (void)age;
     switch (c->kind) {
     case START:
         return room_raw_tremolo_start(c->rate, lend(c, 0, 1), lend(c, 1, 1));
@@ -68,7 +70,7 @@ static uint32_t tremolo(const struct call *c, double *out, uint32_t *yes)
     }
 }
 
-static uint32_t vibrato(const struct call *c, double *out, uint32_t *yes)
+static uint32_t vibrato(const struct call *c, double *out, uint32_t *yes, uint32_t *age)
 {
     switch (c->kind) {
     case START:
@@ -79,13 +81,13 @@ static uint32_t vibrato(const struct call *c, double *out, uint32_t *yes)
         return room_raw_vibrato_reset(c->memory, c->places, lend(c, 0, 1), lend(c, 1, 1), number(c, 2));
     case TICK:
         return room_raw_vibrato_tick(lend(c, 0, 1), lend(c, 1, 1), number(c, 2), c->memory, c->places, c->set, c->ports[0],
-                                     c->ports[1], c->ports[2], c->curves[0], c->curves[1], out);
+                                     c->ports[1], c->ports[2], c->curves[0], c->curves[1], out, age);
     default:
         return room_raw_vibrato_silent(c->state.word[0], number(c, 1), number(c, 2), c->memory, c->places, yes);
     }
 }
 
-static uint32_t chorus(const struct call *c, double *out, uint32_t *yes)
+static uint32_t chorus(const struct call *c, double *out, uint32_t *yes, uint32_t *age)
 {
     switch (c->kind) {
     case START:
@@ -96,13 +98,14 @@ static uint32_t chorus(const struct call *c, double *out, uint32_t *yes)
         return room_raw_chorus_reset(c->memory, c->places, lend(c, 0, 1), lend(c, 1, 3), number(c, 4));
     case TICK:
         return room_raw_chorus_tick(lend(c, 0, 1), lend(c, 1, 3), number(c, 4), c->memory, c->places, c->set, c->ports[0],
-                                    c->ports[1], c->ports[2], c->curves[0], c->curves[1], c->curves[2], c->curves[3], out);
+                                    c->ports[1], c->ports[2], c->curves[0], c->curves[1], c->curves[2], c->curves[3], out,
+                                    age);
     default:
         return room_raw_chorus_silent(c->state.word[0], lend(c, 1, 3), number(c, 4), c->memory, c->places, yes);
     }
 }
 
-static uint32_t flanger(const struct call *c, double *out, uint32_t *yes)
+static uint32_t flanger(const struct call *c, double *out, uint32_t *yes, uint32_t *age)
 {
     switch (c->kind) {
     case START:
@@ -113,13 +116,14 @@ static uint32_t flanger(const struct call *c, double *out, uint32_t *yes)
         return room_raw_flanger_reset(c->memory, c->places, lend(c, 0, 1), lend(c, 1, 1), number(c, 2));
     case TICK:
         return room_raw_flanger_tick(lend(c, 0, 1), lend(c, 1, 1), number(c, 2), c->memory, c->places, c->set, c->ports[0],
-                                     c->ports[1], c->ports[2], c->ports[3], c->curves[0], c->curves[1], c->curves[2], out);
+                                     c->ports[1], c->ports[2], c->ports[3], c->curves[0], c->curves[1], c->curves[2], out,
+                                     age);
     default:
         return room_raw_flanger_silent(c->state.word[0], number(c, 1), number(c, 2), c->memory, c->places, yes);
     }
 }
 
-static uint32_t delay(const struct call *c, double *out, uint32_t *yes)
+static uint32_t delay(const struct call *c, double *out, uint32_t *yes, uint32_t *age)
 {
     const uint32_t primed = (uint32_t)c->state.word[2];
     const uint32_t linear = (uint32_t)c->state.word[6];
@@ -137,18 +141,19 @@ static uint32_t delay(const struct call *c, double *out, uint32_t *yes)
     case TICK:
         return room_raw_delay_tick(lend(c, 0, 1), lend(c, 1, 1), lend(c, 2, 1), number(c, 3), number(c, 4), number(c, 5),
                                    linear, c->memory, c->places, c->set, c->ports[0], c->ports[1], c->ports[2], c->ports[3],
-                                   c->curves[0], out);
+                                   c->curves[0], out, age);
     default:
         return room_raw_delay_silent(c->state.word[0], number(c, 1), primed, number(c, 3), number(c, 4), number(c, 5), linear,
                                      c->memory, c->places, yes);
     }
 }
 
-static uint32_t reverb(const struct call *c, double *out, uint32_t *yes)
+static uint32_t reverb(const struct call *c, double *out, uint32_t *yes, uint32_t *age)
 {
     uint64_t *comb_l = lend(c, 0, 8), *comb_r = lend(c, 8, 8);
     double *store_l = lend(c, 16, 8), *store_r = lend(c, 24, 8);
     uint64_t *pass_l = lend(c, 32, 4), *pass_r = lend(c, 36, 4);
+    (void)age;
     switch (c->kind) {
     case START:
         return room_raw_reverb_start(c->rate, c->memory, c->places, comb_l, comb_r, store_l, store_r, pass_l, pass_r,
@@ -169,10 +174,11 @@ static uint32_t reverb(const struct call *c, double *out, uint32_t *yes)
     }
 }
 
-static uint32_t phaser(const struct call *c, double *out, uint32_t *yes)
+static uint32_t phaser(const struct call *c, double *out, uint32_t *yes, uint32_t *age)
 {
     double *in_l = lend(c, 0, 6), *in_r = lend(c, 6, 6);
     double *out_l = lend(c, 12, 6), *out_r = lend(c, 18, 6);
+    (void)age;
     switch (c->kind) {
     case START:
         return room_raw_phaser_start(c->rate, in_l, in_r, out_l, out_r, lend(c, 24, 1), lend(c, 25, 1));
@@ -188,24 +194,26 @@ static uint32_t phaser(const struct call *c, double *out, uint32_t *yes)
 
 struct answer make(const struct call *c)
 {
-    static uint32_t (*const effects[EFFECTS])(const struct call *, double *, uint32_t *) = {
+    static uint32_t (*const effects[EFFECTS])(const struct call *, double *, uint32_t *, uint32_t *) = {
         0, delay, chorus, flanger, vibrato, tremolo, reverb, phaser};
     const unsigned samples = samples_of(c->effect);
     double *out = spot(OUT_SPOT, samples * 8u, one_in(2));
     uint32_t *yes = spot(SILENT_SPOT, 4u, one_in(2));
-    struct answer a = {0, {{0}}, {0}, 0};
+    uint32_t *age = spot(AGE_SPOT, 4u, one_in(2));
+    struct answer a = {0, {{0}}, {0}, 0, 0};
     struct call handed = *c;
     unsigned i;
     for (i = 0; i < samples; i++) {
-        out[i] = 12345.0;
+        out[i] = UNTOUCHED;
     }
-    *yes = 12345u;
+    *yes = *age = UNTOUCHED;
     if (c->places == 0u && one_in(2)) {
         handed.memory = NULL; /* as a host that has none would say it */
     }
-    a.number = effects[c->effect](&handed, out, yes);
+    a.number = effects[c->effect](&handed, out, yes, age);
     take_back(c, &a.state);
     memcpy(a.out, out, samples * sizeof *out);
     a.silent = *yes;
+    a.age = *age;
     return a;
 }

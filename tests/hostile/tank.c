@@ -99,6 +99,7 @@ struct ticked reverb_tick_by_the_paper(const struct call *c)
     const double mix = clamped(port(c, 3, 0.5), 0.0, 1.0);
     double input;
     t.state = c->state;
+    t.age = 0;
     t.writes = 0;
     input = predelayed(&t, c, audio);
     t.out[0] = blended(audio, passed(&t, c, 16, combed(&t, c, 0, input)), mix);

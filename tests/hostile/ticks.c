@@ -1,5 +1,5 @@
-/* Document 01, of the chorus's line and the phaser document 02: what an accepted tick answers, writes and leaves. Products go
-   from left to right, sums start at +0. */
+/* Document 01, of the chorus's line, the phaser and the ages document 02: what an accepted tick answers, writes and leaves.
+   Products go from left to right, sums start at +0. */
 #include "hostile.h"
 
 #include <math.h>
@@ -20,6 +20,12 @@ unsigned curves_of(int effect)
 {
     static const unsigned curves[EFFECTS] = {0, 1, 4, 3, 2, 2, 0, 3};
     return curves[effect];
+}
+
+/* "Delay, chorus, flanger and vibrato pass on the largest age of their reads." */
+int has_ages(int effect)
+{
+    return effect == DELAY || effect == CHORUS || effect == FLANGER || effect == VIBRATO;
 }
 
 double port(const struct call *c, unsigned which, double unset)
@@ -43,11 +49,14 @@ double blended(double audio, double wet, double mix)
     return audio * (1.0 - mix) + wet * mix;
 }
 
-/* "whole part d and fraction f of the distance; place (w + L - d) mod L times (1 - f), plus the one before it times f" */
-static double read_line(const double *line, uint64_t length, uint64_t w, double distance)
+/* "whole part d and fraction f of the distance; place (w + L - d) mod L times (1 - f), plus the one before it times f", and
+   "beside the sample, the whole part of the distance, plus one where the fraction isn't zero" */
+static double read_line(struct ticked *t, const double *line, uint64_t length, uint64_t w, double distance)
 {
     const uint64_t d = (uint64_t)distance;
     const double f = distance - (double)d;
+    const uint32_t age = (uint32_t)d + (f != 0.0);
+    t->age = age > t->age ? age : t->age;
     return line[(w + length - d) % length] * (1.0 - f) + line[(w + length - d - 1u) % length] * f;
 }
 
@@ -59,9 +68,9 @@ static void advance(struct ticked *t, unsigned word, double step)
 }
 
 /* A line of a unit whose lines are equally long: what it plays at this distance, clamped to 1 to L - 1. */
-static double play(const struct call *c, unsigned line, uint64_t length, double distance)
+static double play(struct ticked *t, const struct call *c, unsigned line, uint64_t length, double distance)
 {
-    return read_line(c->memory + line * length, length, c->state.word[0], clamped(distance, 1.0, (double)(length - 1u)));
+    return read_line(t, c->memory + line * length, length, c->state.word[0], clamped(distance, 1.0, (double)(length - 1u)));
 }
 
 static void store(struct ticked *t, const struct call *c, unsigned line, uint64_t length, double value)
@@ -83,7 +92,7 @@ static void delay_tick(struct ticked *t, const struct call *c)
     const double target = clamped(ms * rate / 1000.0, 1.0, (double)(length - 1u));
     const double glide = target + (of_bits(c->state.word[1]) - target) * of_bits(c->state.word[4]);
     const double distance = c->state.word[2] != 0u ? glide : target;
-    const double wet = read_line(c->memory, length, c->state.word[0], distance);
+    const double wet = read_line(t, c->memory, length, c->state.word[0], distance);
     t->state.word[1] = bits(distance);
     t->state.word[2] = 1u;
     store(t, c, 0, length, audio + wet * feedback);
@@ -102,7 +111,7 @@ static void chorus_tick(struct ticked *t, const struct call *c)
     unsigned i;
     for (i = 0; i < 3u; i++) {
         const double sweep = (c->curves[1u + i] * 0.5 + 0.5) * (depth * 25.0 * rate / 1000.0);
-        voice[i] = play(c, 0, length, 7.0 * rate / 1000.0 + sweep);
+        voice[i] = play(t, c, 0, length, 7.0 * rate / 1000.0 + sweep);
         advance(t, 1u + i, c->curves[0] * (1.0 + ((double)i - 1.0) * 0.1) / rate);
     }
     store(t, c, 0, length, audio);
@@ -122,7 +131,7 @@ static void flanger_tick(struct ticked *t, const struct call *c)
     unsigned i;
     for (i = 0; i < 2u; i++) {
         const double distance = (1.0 + (c->curves[1u + i] + 1.0) * 0.5 * (depth * 9.0)) * rate / 1000.0;
-        const double wet = play(c, i, length, distance);
+        const double wet = play(t, c, i, length, distance);
         store(t, c, i, length, audio + wet * feedback);
         t->out[1u + i] = blended(audio, wet, mix);
     }
@@ -136,7 +145,7 @@ static void vibrato_tick(struct ticked *t, const struct call *c)
     const uint64_t length = line_length(VIBRATO, rate, 0.0);
     const double audio = port(c, 0, 0.0);
     const double depth = clamped(port(c, 1, 0.5), 0.0, 1.0);
-    const double wet = play(c, 0, length, (10.0 + c->curves[1] * (depth * 10.0 * 0.9)) * rate / 1000.0);
+    const double wet = play(t, c, 0, length, (10.0 + c->curves[1] * (depth * 10.0 * 0.9)) * rate / 1000.0);
     store(t, c, 0, length, audio);
     t->out[0] = blended(audio, wet, clamped(port(c, 2, 1.0), 0.0, 1.0));
     advance(t, 1, c->curves[0] / rate);
@@ -188,6 +197,7 @@ struct ticked tick_by_the_paper(const struct call *c)
         return reverb_tick_by_the_paper(c);
     }
     t.state = c->state;
+    t.age = 0;
     t.writes = 0;
     ticks[c->effect](&t, c);
     return t;

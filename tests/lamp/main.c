@@ -24,7 +24,8 @@ static int tick(struct unit *u, enum way way)
     const enum audio audio = (enum audio)below(zero_audios(u->effect));
     const struct effect_call c = draw_tick(u, audio);
     double out[3] = {JUNK, JUNK, JUNK};
-    const uint32_t number = effect_make(&u->state, &c, out);
+    uint32_t age = JUNK_AGE;
+    const uint32_t number = effect_make(&u->state, &c, out, &age);
     unsigned i;
     int zeros = 1;
     ticks_made++;
@@ -43,11 +44,12 @@ static int clear(struct unit *u)
     const double rate = any_rate(u->effect);
     struct effect_call c;
     double out[3];
+    uint32_t age = JUNK_AGE;
     if (call == RETUNE && needed(u, rate) <= u->places) {
         u->rate = rate;
     }
     c = call_of(u, call);
-    if (!fact(u, CLEARS, effect_make(&u->state, &c, out) == ROOM_ACCEPTED && silent(u) == 1, &c)) {
+    if (!fact(u, CLEARS, effect_make(&u->state, &c, out, &age) == ROOM_ACCEPTED && silent(u) == 1, &c)) {
         return 0;
     }
     if (one_in(2)) {
@@ -62,13 +64,15 @@ static int refused(const struct unit *u)
     struct effect_state state, before;
     struct effect_call c;
     double out[3] = {JUNK, JUNK, JUNK};
+    uint32_t age = JUNK_AGE;
     const uint32_t number = draw_refused(u, &c, &state);
     const unsigned answers = c.call == TICK ? effect_samples(u->effect) : c.call == SILENT ? 1u : 0u;
     const double none[3] = {0.0, 0.0, 0.0};
     int good;
     memcpy(&before, &state, sizeof before);
     memcpy(kept, u->lent, u->places * sizeof *kept);
-    good = effect_make(&state, &c, out) == number && all_same(out, none, answers) &&
+    good = effect_make(&state, &c, out, &age) == number && all_same(out, none, answers) &&
+           (c.call != TICK || !effect_aged(u->effect) || age == 0u) &&
            memcmp(&state, &before, sizeof state) == 0 && memcmp(kept, u->lent, u->places * sizeof *kept) == 0;
     count_refusal(u->effect, number);
     return fact(u, REFUSED, good && silent(u) == 1, &c);

@@ -7,9 +7,10 @@
 /* The first tick, counted from 0, that answers anything but zeros, and its samples; NEVER if none of so many does. */
 static unsigned first_sound(struct unit *u, const struct effect_call *c, unsigned ticks, double out[3])
 {
+    uint32_t age = JUNK_AGE;
     unsigned n, i;
     for (n = 0; n < ticks; n++) {
-        if (effect_make(&u->state, c, out) != ROOM_ACCEPTED) {
+        if (effect_make(&u->state, c, out, &age) != ROOM_ACCEPTED) {
             check(0, "a tick was refused", n);
             return NEVER;
         }
@@ -150,8 +151,9 @@ static void smallest_audio(int effect, double audio)
     struct unit u = unit_at(effect, 8000.0, 0.0625);
     struct effect_call c = plain_tick(&u);
     double out[3];
+    uint32_t age = JUNK_AGE;
     c.ports[0] = room_set(audio);
-    check(silent(&u) == 1 && effect_make(&u.state, &c, out) == ROOM_ACCEPTED, "the smallest sound", (unsigned)effect);
+    check(silent(&u) == 1 && effect_make(&u.state, &c, out, &age) == ROOM_ACCEPTED, "the smallest sound", (unsigned)effect);
     check(silent(&u) == (effect == ROOM_TREMOLO), "after it no unit that keeps sound is silent", (unsigned)effect);
 }
 

@@ -14,7 +14,7 @@ static const char *const fact_names[FACTS] = {
     "a tick of a silent unit with zero audio answers only zeros",
     "the unit is silent after it",
     "a clearing in between is accepted and leaves the unit silent",
-    "a refused call gives its number, plays +0, changes nothing and leaves the unit silent",
+    "a refused call gives its number, plays +0 at age 0, changes nothing and leaves the unit silent",
     "at the end places in use and stores hold zeros",
     "with a sound in one of them the unit is not silent",
 };

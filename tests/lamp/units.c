@@ -33,8 +33,9 @@ int silent(const struct unit *u)
     const struct effect_call c = call_of(u, SILENT);
     struct effect_state state;
     double out[3] = {JUNK, JUNK, JUNK};
+    uint32_t age = JUNK_AGE;
     memcpy(&state, &u->state, sizeof state);
-    if (effect_make(&state, &c, out) != ROOM_ACCEPTED || memcmp(&state, &u->state, sizeof state) != 0) {
+    if (effect_make(&state, &c, out, &age) != ROOM_ACCEPTED || memcmp(&state, &u->state, sizeof state) != 0) {
         return -1;
     }
     return same(out[0], 1.0) ? 1 : same(out[0], 0.0) ? 0 : -1;
@@ -252,8 +253,9 @@ static int started(struct unit *u)
 {
     const struct effect_call c = call_of(u, START);
     double out[3];
+    uint32_t age = JUNK_AGE;
     lay_sounds(u->lent, u->places);
-    return effect_make(&u->state, &c, out) == ROOM_ACCEPTED;
+    return effect_make(&u->state, &c, out, &age) == ROOM_ACCEPTED;
 }
 
 struct unit unit_at(int effect, double rate, double maximum)
@@ -273,11 +275,11 @@ struct unit unit_at(int effect, double rate, double maximum)
 static int sounds_after_ticks(struct unit *u)
 {
     uint64_t ticks = 1u + below(60);
-    uint32_t refused = 0;
+    uint32_t refused = 0, age;
     double out[3];
     for (; ticks > 0u; ticks--) {
         const struct effect_call c = draw_sounding_tick(u);
-        refused |= effect_make(&u->state, &c, out);
+        refused |= effect_make(&u->state, &c, out, &age);
     }
     return refused == 0u && silent(u) == (u->effect == ROOM_TREMOLO);
 }
@@ -286,6 +288,7 @@ static int cleared(struct unit *u, int call)
 {
     struct effect_call c;
     double out[3];
+    uint32_t age = JUNK_AGE;
     if (!started(u) || !sounds_after_ticks(u)) {
         return 0;
     }
@@ -294,7 +297,7 @@ static int cleared(struct unit *u, int call)
         u->rate = needed(u, rate) <= u->places ? rate : u->rate;
     }
     c = call_of(u, call);
-    return effect_make(&u->state, &c, out) == ROOM_ACCEPTED;
+    return effect_make(&u->state, &c, out, &age) == ROOM_ACCEPTED;
 }
 
 int make_silent(struct unit *u, int effect, enum way way)

@@ -19,12 +19,12 @@ use Rattle.effect.proofs.LineLaws.{LineLaws}
 use Rattle.effect.proofs.Demand3.{demand-3}
 use Rattle.chorus.specs.declared.Chorus.{Chorus}
 use Rattle.chorus.specs.Chorus.{Tick, chorus, lines, state_fits, line_length, tick_number, depth, input, mix, distance, voice, mixed, samples_from, next_phases, next, writes}
-use Rattle.chorus.proofs.Laws.{fits-parts, length-fits, tick-fits, distance-in}
+use Rattle.chorus.proofs.Laws.{fits-parts, length-fits, tick-fits, distance-in, voices_age, voices-age}
 use Rattle.chorus.proofs.Demand1.{laws}
 
 -- ---- the laws of lines
 
--- what a voice with this sine reads where its line, read newest to oldest, is l
+-- what a voice with this sine reads where its line, read newest to largest_age, is l
 abbrev pub heard : Tick → Float → Float → List Float → Float
 heard t rate sine l = read_line l (distance rate (depth t) sine)
 
@@ -77,6 +77,8 @@ line-laws =
       next-phase = λ t s m. refl;
       played = λ t rate p l. heard_all t rate l;
       plays = λ t s m l e r n g. plays (λ i. 0) t s m l e n (λ i h. from-0 s m ∙ g 0 (omega arith));
+      age = voices_age;
+      ages = voices-age (λ i. 0);
     }
 
 -- ---- the demand

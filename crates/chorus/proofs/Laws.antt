@@ -3,6 +3,7 @@
 use Prim.Native.Nat.{ℕ, ◌+◌, ◌-◌, ◌*◌, ◌≤◌, ◌<◌}
 use native.Mathlib.Omega.{arith}
 use mathlib.Core.Path.{◌≡◌, refl, sym, ap, ◌∙◌}
+use Rattle.std.specs.Prelude.{max}
 use mathlib.Core.Bool.{true, false, ◌&&◌, ◌||◌}
 use mathlib.Core.List.{List, [], ◌∷◌, ◌++◌}
 use lib.IntN.{negsuc}
@@ -24,6 +25,8 @@ use Rattle.port.specs.Answer.{Reply, played}
 use Rattle.port.proofs.Laws.{nan_is}
 use Rattle.common.specs.Signal.{sanitized, cause_number}
 use Rattle.common.specs.Line.{next_place, line_at, read_at}
+use Rattle.common.specs.Reads.{age_at, largest_age}
+use Rattle.common.proofs.Ages.{oldest-three}
 use Rattle.common.proofs.Slices.{front-set}
 use Rattle.common.proofs.Ring.{front-line}
 use Rattle.common.proofs.Sweep.{neither, no-cause, control-in}
@@ -35,7 +38,7 @@ use Rattle.effect.proofs.Table.{accepted, tick-accepted}
 use Rattle.effect.proofs.Contract.{accepts}
 use Rattle.effect.proofs.Rows.{tick_row, unit, first-long, first-does}
 use Rattle.chorus.specs.declared.Chorus.{Chorus}
-use Rattle.chorus.specs.Chorus.{Tick, tick_of, chorus, line_length, Phases, phases_of, phase_at, factor, stepped, next_phases, phases_fit, state_fits, tick_number, input, depth, mix, distance_in, distance, voice, mixed, next, writes}
+use Rattle.chorus.specs.Chorus.{Tick, tick_of, chorus, line_length, Phases, phases_of, phase_at, factor, stepped, next_phases, phases_fit, state_fits, tick_number, input, depth, mix, distance_in, distance, voice_read, voice, mixed, next, writes}
 use Rattle.chorus.specs.Chorus as page
 
 -- ---- the line's length
@@ -166,6 +169,17 @@ pub held_to_line : (L : ℕ) (rate depth sine : Float) → rate_fits rate ≡ tr
 unfolding Ieee.fits le of_int
 held_to_line L rate depth sine h d k some short = in-range (distance-held rate depth sine h (range-in tt d) k L some short)
 
+-- ---- the largest age of the three voices, wherever their lines begin
+
+abbrev pub voices_age : Tick → Float → ℕ
+voices_age t rate =
+    let far = distance rate (depth t) in
+    max (age_at (far t.sine0)) (max (age_at (far t.sine1)) (age_at (far t.sine2)))
+
+pub voices-age : (begin : ℕ → ℕ) (t : Tick) (s : Chorus) → largest_age (page.reads_from begin t s) ≡ voices_age t s.sample_rate
+unfolding page.reads_from
+voices-age begin t s = oldest-three (voice_read (begin 0) t.sine0 t s) (voice_read (begin 1) t.sine1 t s) (voice_read (begin 2) t.sine2 t s)
+
 -- ---- an accepted tick of the line by itself: m is the line's places, no more
 
 -- the state and the line are what a read and a store ask for, and a voice's numbers are in range
@@ -202,6 +216,9 @@ module _ (t : Tick) (s : Chorus) (m : List Float) (e : length m ≡ line_length 
   unfolding voice
   voice-is sine g r = r ∙ (λ j. read_at (line_at 0 (e j) s.write_pos m) (distance_in (e j) s.sample_rate (g j) sine))
 
+  pub age-is : {d : Float} {a : ℕ} (sine : Float) → d ≡ depth t → a ≡ age_at (distance_in (length m) s.sample_rate d sine) → a ≡ age_at (distance s.sample_rate (depth t) sine)
+  age-is sine g r = r ∙ (λ i. age_at (distance_in (e i) s.sample_rate (g i) sine))
+
   pub next-is : {r : Chorus} → r.write_pos ≡ next_place (length m) s.write_pos → phases_of r ≡ next_phases t.frequency s.sample_rate (phases_of s)
       → r.sample_rate ≡ s.sample_rate
       → r ≡ next t s
@@ -217,11 +234,12 @@ module _ (t : Tick) (s : Chorus) (m : List Float) (e : length m ≡ line_length 
   unfolding writes
   stored_is x = let p : s.write_pos ≡ 0 * line_length s.sample_rate + s.write_pos = omega arith in λ i. set m (p i) (x i)
 
-  pub played-is : {x b d0 d1 d2 : Float} {y : Reply} → x ≡ input t → b ≡ mix t → d0 ≡ voice 0 t.sine0 t s m → d1 ≡ voice 0 t.sine1 t s m → d2 ≡ voice 0 t.sine2 t s m
-      → y ≡ played (mixed x b d0 d1 d2)
-      → y ≡ played (page.samples t s m)
+  pub played-is : {x b d0 d1 d2 : Float} {a : ℕ} {y : Reply} → x ≡ input t → b ≡ mix t → d0 ≡ voice 0 t.sine0 t s m → d1 ≡ voice 0 t.sine1 t s m → d2 ≡ voice 0 t.sine2 t s m
+      → a ≡ voices_age t s.sample_rate
+      → y ≡ played (mixed x b d0 d1 d2) a
+      → y ≡ played (page.samples t s m) (largest_age (page.reads t s))
   unfolding page.samples_from
-  played-is x b d0 d1 d2 y = y ∙ (λ i. played (mixed (x i) (b i) (d0 i) (d1 i) (d2 i)))
+  played-is x b d0 d1 d2 a y = y ∙ (λ i. played (mixed (x i) (b i) (d0 i) (d1 i) (d2 i)) ((a ∙ sym (voices-age (λ k. 0) t s)) i))
 
 -- ---- an accepted tick: what it does in the line, which is the first n places of the memory, it does in the memory
 
@@ -255,7 +273,7 @@ module _ (t : Tick) {x d b : Float} (audio : x ≡ value_or t.audio plus_zero) (
   pub set_does : {s : Chorus} {m : List Float} {s' : Chorus} {m' : List Float} {a : Reply} → 0 ≡ number_in chorus reset (length m) s → 0 ≡ tick_number all_set
       → Does chorus (tick all_set) s m s' m' a
       → Does chorus (tick t) s m s' m' a
-  unfolding next writes page.samples_from voice
+  unfolding next writes page.samples_from page.reads_from voice
   set_does {s} {m} passed none does =
       let k = sym (tick_row chorus all_set s m passed none) in
       let rate = s.sample_rate in
@@ -271,4 +289,5 @@ module _ (t : Tick) {x d b : Float} (audio : x ≡ value_or t.audio plus_zero) (
       (clamp_of (wet i) plus_zero (float_of 1))
       (read_at (line_at 0 L w m) (distance rate (clamp_of (amount i) plus_zero (float_of 1)) t.sine0))
       (read_at (line_at 0 L w m) (distance rate (clamp_of (amount i) plus_zero (float_of 1)) t.sine1))
-      (read_at (line_at 0 L w m) (distance rate (clamp_of (amount i) plus_zero (float_of 1)) t.sine2)))))
+      (read_at (line_at 0 L w m) (distance rate (clamp_of (amount i) plus_zero (float_of 1)) t.sine2)))
+      (largest_age (page.reads (tick_of (Set (audio i)) (Set (amount i)) (Set (wet i)) t.frequency (t.sine0 ∷ t.sine1 ∷ t.sine2 ∷ [])) s))))

@@ -32,7 +32,7 @@ use Rattle.chorus.specs.Chorus.{Tick, Phases, chorus, line_length, phases_of, st
 use Rattle.chorus.specs.Chorus as one
 use Rattle.chorus.specs.Three.{three_lined, line_alone, Corresponds}
 use Rattle.chorus.specs.Three as three
-use Rattle.chorus.proofs.Laws.{fits-parts, length-fits}
+use Rattle.chorus.proofs.Laws.{fits-parts, length-fits, voices_age, voices-age}
 use Rattle.chorus.proofs.Demand1.{laws}
 use Rattle.chorus.proofs.Demand3.{heard_all, plays, from-0, line-laws}
 
@@ -165,7 +165,9 @@ module _ (s : Chorus) (m n : List Float) (r : Corresponds (device_of s m) (devic
   says-alike (tick t) e =
       let a = accepted chorus (length m) (tick t) s e in
       let k = (tick-accepted chorus (length m) t s.sample_rate a.number).number in
-      ap played (plays (λ i. i * L) t s n _ a.state_fits k (λ i l. r.lines i (omega arith)) ∙ sym (plays (λ i. 0) t s m _ a.state_fits k (λ i l. from-0 s m)))
+      let samples = plays (λ i. i * L) t s n _ a.state_fits k (λ i l. r.lines i (omega arith)) ∙ sym (plays (λ i. 0) t s m _ a.state_fits k (λ i l. from-0 s m)) in
+      let ages = voices-age (λ i. i * L) t s ∙ sym (voices-age (λ i. 0) t s) in
+      λ i. played (samples i) (ages i)
   says-alike (retune rate) e = refl
   says-alike reset e = refl
   says-alike ask e =
@@ -252,6 +254,8 @@ three-line-laws =
       next-phase = line-laws.next-phase;
       played = λ t rate p l. heard_all t rate l;
       plays = λ t s m l e r n g. plays (λ i. i * line_length s.sample_rate) t s m l e n g;
+      age = voices_age;
+      ages = λ t s. voices-age (λ i. i * line_length s.sample_rate) t s;
     }
 
 pub shown3 : (x y : Run three_lined) → Demand3 three_lined three.lines x y

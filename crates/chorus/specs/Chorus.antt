@@ -6,7 +6,8 @@ use Rattle.float64.specs.Number.{plus_zero, float_of, fraction, half, rate_fits,
 use Rattle.port.specs.declared.Port.{Port}
 use Rattle.port.specs.Port.{value_or, is_nan_set}
 use Rattle.common.specs.Signal.{sanitized, blended, advanced, cause_number}
-use Rattle.common.specs.Line.{swept_length, line_at, read_at, next_place}
+use Rattle.common.specs.Line.{swept_length, next_place}
+use Rattle.common.specs.Reads.{Read, heard}
 use Rattle.effect.specs.Parts.{first_places}
 use Rattle.effect.specs.Effect.{Effect, Page, effect_of, Write}
 use Rattle.effect.specs.Lines.{Lines, in_each}
@@ -128,10 +129,14 @@ distance_in L rate depth sine =
 abbrev pub distance : Float → Float → Float → Float
 distance rate depth sine = distance_in (line_length rate) rate depth sine
 
--- what a voice with this sine reads in a line that begins at place o, before the store
+-- the read of a voice with this sine, in a line that begins at place o, and what it hears, before the store
+abbrev pub voice_read : ℕ → Float → Tick → Chorus → Read
+voice_read o sine t s =
+    let rate = s.sample_rate in
+    record { start = o; size = line_length rate; position = s.write_pos; distance = distance rate (depth t) sine }
+
 unfoldable pub voice : ℕ → Float → Tick → Chorus → List Float → Float
-voice o sine t s m =
-    read_at (line_at o (line_length s.sample_rate) s.write_pos m) (distance s.sample_rate (depth t) sine)
+voice o sine t s m = heard (voice_read o sine t s) m
 
 -- The sums start at +0. Voice 0 goes half to each side, voice 1 left, voice 2 right; they are divided by 3, 2, 2; each is mixed with the audio.
 unfoldable pub mixed : Float → Float → Float → Float → Float → List Float
@@ -145,9 +150,15 @@ mixed input mix d0 d1 d2 =
 unfoldable pub samples_from : (ℕ → ℕ) → Tick → Chorus → List Float → List Float
 samples_from begin t s m = mixed (input t) (mix t) (voice (begin 0) t.sine0 t s m) (voice (begin 1) t.sine1 t s m) (voice (begin 2) t.sine2 t s m)
 
+unfoldable pub reads_from : (ℕ → ℕ) → Tick → Chorus → List Read
+reads_from begin t s = voice_read (begin 0) t.sine0 t s ∷ voice_read (begin 1) t.sine1 t s ∷ voice_read (begin 2) t.sine2 t s ∷ []
+
 -- all three voices read the one line
 abbrev pub samples : Tick → Chorus → List Float → List Float
 samples t s m = samples_from (λ i. 0) t s m
+
+abbrev pub reads : Tick → Chorus → List Read
+reads t s = reads_from (λ i. 0) t s
 
 unfoldable pub next : Tick → Chorus → Chorus
 next t s =
@@ -177,6 +188,7 @@ page =
       next = λ t s m. next t s;
       writes = λ t s m. writes t s;
       samples = samples;
+      reads = reads;
       input = input;
       quiet = λ s. true;
     }

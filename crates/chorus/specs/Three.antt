@@ -1,12 +1,13 @@
 -- The chorus with three lines, one for each voice, as the Rust has it, for comparison with ours (document 02, A.4); no code has it. It is the chorus of
 -- Chorus.antt but for what goes by the lines. And when a chorus with one line and one with three correspond. Definitions only. Assumes nothing.
 use Rattle.std.specs.Prelude.{ℕ, ◌*◌, ◌<◌, ◌≡◌, List, length, take, drop, Float}
+use Rattle.common.specs.Reads.{Read}
 use Rattle.effect.specs.Parts.{first_places}
 use Rattle.effect.specs.Effect.{Effect, Write}
 use Rattle.effect.specs.Lines.{Lines, in_each, line_of}
 use Rattle.effect.specs.Run.{Device}
 use Rattle.chorus.specs.declared.Chorus.{Chorus}
-use Rattle.chorus.specs.Chorus.{Tick, chorus, line_length, Phases, phases_of, input, samples_from}
+use Rattle.chorus.specs.Chorus.{Tick, chorus, line_length, Phases, phases_of, input, samples_from, reads_from}
 use Rattle.chorus.specs.Chorus as one
 
 -- the lines follow each other from place 0
@@ -16,6 +17,9 @@ places rate = 3 * line_length rate
 -- each voice reads its own line
 abbrev pub samples : Tick → Chorus → List Float → List Float
 samples t s m = samples_from (λ i. i * line_length s.sample_rate) t s m
+
+abbrev pub reads : Tick → Chorus → List Read
+reads t s = reads_from (λ i. i * line_length s.sample_rate) t s
 
 -- line i by itself, as places
 abbrev pub line_alone : ℕ → Chorus → List Float → List Float
@@ -47,6 +51,7 @@ three_lined =
       next = chorus.next;
       writes = λ t s m. writes t s;
       samples = samples;
+      reads = reads;
       input = chorus.input;
       quiet = chorus.quiet;
     }

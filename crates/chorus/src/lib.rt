@@ -1,18 +1,19 @@
 // The chorus: one line in lent memory, read by three voices. The state goes in and out by value.
 #![tactic(auto)]
 
-ghost use Rattle.std.specs.Prelude.{◌≡◌, true, length, Float, refl};
+ghost use Rattle.std.specs.Prelude.{ℕ, ◌≡◌, true, length, Float, refl};
 ghost use Rattle.std.specs.Bool.{then_some};
 ghost use Rattle.float64.specs.Number.{float_of, in_range, rate_fits, sine_fits};
 ghost use Rattle.port.specs.declared.Port.TheVariants.{Set};
 ghost use Rattle.port.specs.Answer.{answer_reply, played};
 ghost use Rattle.common.specs.Line.{line_at, read_at};
+ghost use Rattle.common.specs.Reads.{age_at};
 ghost use Rattle.effect.specs.Run.{tick, number_in};
 ghost use Rattle.effect.specs.Contract.{Does};
 ghost use Rattle.effect.specs.Needed.{places_if_accepted};
 ghost use Rattle.chorus.specs.Chorus.{Tick, page, chorus, tick_of, line_length, phases_of, next_phases, cleared, fresh, distance_in, mixed};
 
-use common::Line;
+use common::{Heard, Line};
 use effect::{InMemory, InOnePart, Ticked, Unit};
 use port::{Answer, Port, Refusal};
 
@@ -132,12 +133,13 @@ impl Chorus {
 
     // What a voice with this sine reads in the line, at its own distance, which is a number.
     #[tactic(auto, using(crate::proofs::Laws::held_to_line))]
-    fn voice(line: Line, rate: f64, depth: f64, sine: f64) -> f64
+    fn voice(line: Line, rate: f64, depth: f64, sine: f64) -> Heard
         requires rate_in_range { rate_fits rate ≡ true }
         requires depth_in_range { in_range depth (float_of 0) (float_of 1) ≡ true }
         requires sine_in_range { sine_fits sine ≡ true }
-        ensures { result ≡ read_at (line_at 0 (length line.entry.places.now) line.entry.write_pos line.entry.places.now)
+        ensures sample { result.sample ≡ read_at (line_at 0 (length line.entry.places.now) line.entry.write_pos line.entry.places.now)
             (distance_in (length line.entry.places.now) rate depth sine) }
+        ensures age { result.age ≡ age_at (distance_in (length line.entry.places.now) rate depth sine) }
     {
         line.read(Chorus::distance(line, rate, depth, sine))
     }
@@ -159,7 +161,7 @@ impl Chorus {
     // Mono, left and right of the three voices, each mixed with the audio.
     #[tactic(auto, unfolding(crate::specs::Chorus::mixed, float64::proofs::Literals::of_bits, float64::proofs::Literals::of_int, float64::proofs::Literals::round))]
     fn mixed(input: f64, mix: f64, d0: f64, d1: f64, d2: f64) -> Answer
-        ensures { answer_reply result ≡ played (mixed input mix d0 d1 d2) }
+        ensures { (age : ℕ) → answer_reply result age ≡ played (mixed input mix d0 d1 d2) age }
     {
         let mono = 0.0 + d0 + d1 + d2;
         let left = 0.0 + d0 * 0.5 + d1;
@@ -185,7 +187,7 @@ impl Chorus {
         requires places_value { length places.old ≡ line_length self.sample_rate }
         requires tick_accepted { number_in chorus (tick (tick_of (Set audio) (Set depth) (Set mix) frequency sines)) (length places.old) self ≡ 0 }
         ensures { Does chorus (tick (tick_of (Set audio) (Set depth) (Set mix) frequency sines)) self places.old result.state
-            places.new (answer_reply result.answer) }
+            places.new (answer_reply result.answer result.age) }
     {
         let rate = self.sample_rate;
         let lfo_phases = self.next_phases(frequency);
@@ -208,7 +210,8 @@ impl Chorus {
         places[w] = input;
         Ticked {
             state,
-            answer: Chorus::mixed(input, mix, d0, d1, d2),
+            answer: Chorus::mixed(input, mix, d0.sample, d1.sample, d2.sample),
+            age: d0.age.max(d1.age.max(d2.age)),
         }
     }
 
@@ -224,7 +227,7 @@ impl Chorus {
         sines: [f64; 3],
     ) -> Ticked<Chorus>
         ensures { Does chorus (tick (tick_of audio depth mix frequency sines)) self mem.old result.state mem.new
-            (answer_reply result.answer) }
+            (answer_reply result.answer result.age) }
     {
         let n = match self.checked(mem.len()) {
             Ok(n) => n,

@@ -7,6 +7,7 @@ ghost use Rattle.float64.specs.Number.{float_of, in_range, rate_fits, clamp_of, 
 ghost use Rattle.port.specs.Answer.{number_of};
 ghost use Rattle.common.specs.Signal.{sanitized, blended, advanced, cause_number};
 ghost use Rattle.common.specs.Line.{swept_length, sweep_fits, zeros, place, next_place, line_at, read_at, all_zero};
+ghost use Rattle.common.specs.Reads.{age_at};
 
 use port::Refusal;
 
@@ -149,12 +150,21 @@ pub struct Line<'a> {
     ghost short: { length places.now ≤ 16777217 },
 }
 
+// What a read hands back: the sample, and the age in ticks of the oldest sample of the line that it weighed above 0.
+#[derive(Clone, Copy)]
+pub struct Heard {
+    pub sample: f64,
+    pub age: u32,
+}
+
 impl<'a> Line<'a> {
-    // What stands `distance` samples back from the write position. Both places are multiplied, also where the fraction is 0.
-    #[tactic(auto, using(crate::proofs::Reading::distance_cases))]
-    pub fn read(self, distance: f64) -> f64
+    // What stands `distance` samples back from the write position, and how far back that is. Both places are multiplied, also where the fraction is 0, and the
+    // second then counts for nothing in the age.
+    #[tactic(auto, using(crate::proofs::Reading::distance_cases), unfolding(crate::specs::Reads::age_at))]
+    pub fn read(self, distance: f64) -> Heard
         requires { in_range distance (float_of 1) (float_of (length self.places.now - 1)) ≡ true }
-        ensures { result ≡ read_at (line_at 0 (length self.entry.places.now) self.entry.write_pos self.entry.places.now) distance }
+        ensures sample { result.sample ≡ read_at (line_at 0 (length self.entry.places.now) self.entry.write_pos self.entry.places.now) distance }
+        ensures age { result.age ≡ age_at distance }
     {
         let line = self.places;
         let n = line.len();
@@ -163,7 +173,10 @@ impl<'a> Line<'a> {
         let f = distance - f64::from(whole as u32);
         let p = place_back(n, self.write_pos, d);
         let q = place_before(n, p);
-        blend(line[p], line[q], f)
+        Heard {
+            sample: blend(line[p], line[q], f),
+            age: whole as u32 + u32::from(f != 0.0),
+        }
     }
 
     // A distance held to this line: 1 to its last place.

@@ -28,6 +28,8 @@ use Rattle.port.specs.Answer.{Reply, played}
 use Rattle.port.proofs.Laws.{nan_is}
 use Rattle.common.specs.Signal.{sanitized, blended, cause_number}
 use Rattle.common.specs.Line.{read_at}
+use Rattle.common.specs.Reads.{age_at, largest_age}
+use Rattle.common.proofs.Ages.{oldest-one}
 use Rattle.common.proofs.Slices.{front-set}
 use Rattle.common.proofs.Ring.{front-line}
 use Rattle.common.proofs.Sweep.{no-cause, value-number}
@@ -270,6 +272,9 @@ module _ (t : Tick) (s : DelayLine) (m : List Float) {n : ℕ} (e : n ≡ size s
         ∙ front-set (take n m) (drop n m) s.write_pos _ (omega (arith, e, inside, first-long delay_line s m e passed)) (take-append-drop n m)
         ∙ (λ i. set m s.write_pos (add binary64 (sanitized (audio i)) (mul binary64 (delayed-here i) (clamp_of (back i) plus_zero (fraction 99 100)))))
 
-    pub played-is : {q : Reply} → q ≡ played (blended (sanitized a) (delayed_by s x (take n m)) (clamp_of b plus_zero (float_of 1)) ∷ []) → q ≡ played (page.samples t s m)
+    pub played-is : {q : Reply} → q ≡ played (blended (sanitized a) (delayed_by s x (take n m)) (clamp_of b plus_zero (float_of 1)) ∷ []) (age_at (reads_at s x))
+        → q ≡ played (page.samples t s m) (largest_age (page.reads t s))
     unfolding page.samples
-    played-is g = g ∙ (λ i. played (blended (sanitized (audio i)) (delayed-here i) (clamp_of (wet i) plus_zero (float_of 1)) ∷ []))
+    played-is g =
+        let age = ap (λ (z : Float). age_at (reads_at s z)) samples-are ∙ sym (oldest-one (page.read t s)) in
+        g ∙ (λ i. played (blended (sanitized (audio i)) (delayed-here i) (clamp_of (wet i) plus_zero (float_of 1)) ∷ []) (age i))

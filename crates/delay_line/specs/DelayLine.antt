@@ -6,7 +6,8 @@ use Rattle.float64.specs.Number.{plus_zero, float_of, fraction, half, is_number,
 use Rattle.port.specs.declared.Port.{Port}
 use Rattle.port.specs.Port.{value_or, is_nan_set}
 use Rattle.common.specs.Signal.{sanitized, blended, cause_number}
-use Rattle.common.specs.Line.{line_at, read_at, next_place}
+use Rattle.common.specs.Line.{next_place}
+use Rattle.common.specs.Reads.{Read, heard}
 use Rattle.effect.specs.Parts.{first_places}
 use Rattle.effect.specs.Effect.{Effect, Page, effect_of, Write}
 use Rattle.delay_line.specs.declared.DelayLine.{DelayLine}
@@ -131,9 +132,16 @@ reads_at s target =
 unfoldable pub distance : Tick → DelayLine → Float
 distance t s = reads_at s (samples_of s.sample_rate (delay_ms t s))
 
--- what the line holds at that distance, before the store
+-- the read of the line at that distance, and what it hears, before the store
+abbrev pub read_by : DelayLine → Float → Read
+read_by s target =
+    record { start = 0; size = line_length s.sample_rate s.max_delay_secs; position = s.write_pos; distance = reads_at s target }
+
 unfoldable pub delayed_by : DelayLine → Float → List Float → Float
-delayed_by s target m = read_at (line_at 0 (line_length s.sample_rate s.max_delay_secs) s.write_pos m) (reads_at s target)
+delayed_by s target m = heard (read_by s target) m
+
+abbrev pub read : Tick → DelayLine → Read
+read t s = read_by s (samples_of s.sample_rate (delay_ms t s))
 
 unfoldable pub delayed : Tick → DelayLine → List Float → Float
 delayed t s m = delayed_by s (samples_of s.sample_rate (delay_ms t s)) m
@@ -151,6 +159,9 @@ writes t s m = record { place = s.write_pos; value = add binary64 (input t) (mul
 
 unfoldable pub samples : Tick → DelayLine → List Float → List Float
 samples t s m = blended (input t) (delayed t s m) (mix t) ∷ []
+
+abbrev pub reads : Tick → DelayLine → List Read
+reads t s = read t s ∷ []
 
 -- ---- the effect
 
@@ -174,6 +185,7 @@ page =
       next = λ t s m. next t s;
       writes = writes;
       samples = samples;
+      reads = reads;
       input = input;
       quiet = λ s. true;
     }

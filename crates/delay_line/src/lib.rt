@@ -9,6 +9,7 @@ ghost use Rattle.float64.specs.Number.{plus_zero, float_of, fraction, is_number,
 ghost use Rattle.port.specs.declared.Port.TheVariants.{Set, Unset};
 ghost use Rattle.port.specs.Answer.{played, number_of, outcome_reply, answer_reply};
 ghost use Rattle.common.specs.Signal.{sanitized, blended};
+ghost use Rattle.common.specs.Reads.{age_at};
 ghost use Rattle.effect.specs.Run.{tick, memory_number, number_in};
 ghost use Rattle.effect.specs.Contract.{Does, Starts};
 ghost use Rattle.effect.specs.Needed.{places_if_accepted};
@@ -336,8 +337,8 @@ impl DelayLine {
         requires self_fits { state_fits self ≡ true }
         requires samples_is_number { is_number samples ≡ true }
         ensures state_value { result.state ≡ next_state (length places.old) (reads_at self samples) self }
-        ensures answer_value { answer_reply result.answer ≡ played
-            (blended (sanitized audio) (delayed_by self samples places.old) (clamp_of mix plus_zero (float_of 1)) ∷ []) }
+        ensures answer_value { answer_reply result.answer result.age ≡ played
+            (blended (sanitized audio) (delayed_by self samples places.old) (clamp_of mix plus_zero (float_of 1)) ∷ []) (age_at (reads_at self samples)) }
         ensures places_after { places.new ≡ set places.old self.write_pos
             (add binary64 (sanitized audio)
             (mul binary64 (delayed_by self samples places.old) (clamp_of feedback plus_zero (fraction 99 100)))) }
@@ -354,11 +355,12 @@ impl DelayLine {
         let wet = float64::clamp(mix, 0.0, 1.0);
         let delayed = line.read(distance);
         let write_pos = line.next_place();
-        places[w] = input + delayed * back;
-        let out = common::blend(input, delayed, wet);
+        places[w] = input + delayed.sample * back;
+        let out = common::blend(input, delayed.sample, wet);
         Ticked {
             state: self.next(write_pos, distance),
             answer: Answer::One(out),
+            age: delayed.age,
         }
     }
 
@@ -375,7 +377,7 @@ impl DelayLine {
         milliseconds: f64,
     ) -> Ticked<DelayLine>
         ensures { Does delay_line (tick (tick_of audio time feedback mix milliseconds)) self mem.old result.state
-            mem.new (answer_reply result.answer) }
+            mem.new (answer_reply result.answer result.age) }
     {
         let audio = if let Port::Set(x) = audio { x } else { 0.0 };
         let time = if let Port::Set(x) = time { x } else { 0.5 };

@@ -21,7 +21,7 @@ pub heard : (E : Effect) (I : Lines E) → LineLaws E I → Past E.Settings → 
 heard E I lined p f [] = []
 heard E I lined p f (t ∷ ts) =
     if_none (E.tick_number t p.settings)
-    (played (lined.played t p.settings f p.samples) ∷ heard E I lined (put E I (tick t) p) (lined.advanced t p.settings f) ts)
+    (played (lined.played t p.settings f p.samples) (lined.age t p.settings) ∷ heard E I lined (put E I (tick t) p) (lined.advanced t p.settings f) ts)
     (refused (E.tick_number t p.settings) ∷ heard E I lined p f ts)
 
 pub refusal-skips : {A : Type 0} (a : ℕ) (x y : A) → is_refusal a ≡ true → if_none a x y ≡ y
@@ -61,14 +61,14 @@ module _ (E : Effect) (I : Lines E) (laws : Laws E) (lined : LineLaws E I) where
       go : (a : ℕ) → E.tick_number t p.settings ≡ a
           → if_none a (says E (tick t) h) (refused a) ∷ rest (if_none a (changed E (tick t) h) h)
           ≡ if_none a
-          (played (lined.played t p.settings (I.phase s) p.samples) ∷ heard E I lined (put E I (tick t) p) (lined.advanced t p.settings (I.phase s)) ts)
+          (played (lined.played t p.settings (I.phase s) p.samples) (lined.age t p.settings) ∷ heard E I lined (put E I (tick t) p) (lined.advanced t p.settings (I.phase s)) ts)
           (refused a ∷ heard E I lined p (I.phase s) ts)
       go zero e =
           let e' = ap (λ (k : E.Settings). E.tick_number t k) v.settings ∙ e in
           let r' = changed-in E laws (tick t) r (ap (λ (k : E.Settings). number_for E (tick t) n k) v.settings ∙ tick-number-by t r v ∙ e) in
           let plays = lined.plays t s h.memory p.samples r.state_fits (omega (arith, r.enough, r.size)) e' v.lines in
           let heard-on = on (changed E (tick t) h) (put E I (tick t) p) r' (changed-shows E I laws lined (tick t) r r' v) (laws.next-settings t s h.memory) in
-          λ i. (ap played plays ∙ (λ j. played (lined.played t (v.settings j) (I.phase s) p.samples))) i
+          λ i. ((λ j. played (plays j) (lined.ages t s j)) ∙ (λ j. played (lined.played t (v.settings j) (I.phase s) p.samples) (lined.age t (v.settings j)))) i
           ∷ (heard-on ∙ (λ j. heard E I lined (put E I (tick t) p) ((lined.next-phase t s h.memory ∙ (λ l. lined.advanced t (v.settings l) (I.phase s))) j) ts)) i
       go (suc a) e = ap (λ (l : List Reply). refused (suc a) ∷ l) (on h p r v refl)
 

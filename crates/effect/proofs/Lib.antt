@@ -16,3 +16,4 @@ pub mod Demand3
 pub mod Covers
 pub mod SilentLaws
 pub mod StaysSilent
+pub mod HearsBack

@@ -6,6 +6,7 @@ use mathlib.Core.List.{List}
 use lib.ListN.{length}
 use lib.Ieee.{Float}
 use Rattle.common.specs.Line.{next_place}
+use Rattle.common.specs.Reads.{largest_age}
 use Rattle.effect.specs.Effect.{Effect}
 use Rattle.effect.specs.Lines.{Lines, in_each, line_of}
 
@@ -20,8 +21,11 @@ pub record LineLaws (E : Effect) (I : Lines E) : Type 0 where
   -- how it moves the phases
   pub advanced : E.Tick → E.Settings → I.Phase → I.Phase
   pub next-phase : (t : E.Tick) (s : E.State) (m : List Float) → I.phase (E.next t s m) ≡ advanced t (E.settings s) (I.phase s)
-  -- what it answers where each line, read newest to oldest, is l
+  -- what it answers where each line, read newest to largest_age, is l
   pub played : E.Tick → E.Settings → I.Phase → List Float → List Float
   pub plays : (t : E.Tick) (s : E.State) (m l : List Float) → E.state_fits s ≡ true → E.places (E.settings s) ≤ length m → E.tick_number t (E.settings s) ≡ 0
       → ((i : ℕ) → i < I.count → line_of E I i (record { state = s; memory = m }) ≡ l)
       → E.samples t s m ≡ played t (E.settings s) (I.phase s) l
+  -- and how far back it hears
+  pub age : E.Tick → E.Settings → ℕ
+  pub ages : (t : E.Tick) (s : E.State) → largest_age (E.reads t s) ≡ age t (E.settings s)

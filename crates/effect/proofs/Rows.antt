@@ -11,6 +11,7 @@ use Rattle.port.specs.declared.Answer.{Answer}
 use Rattle.port.specs.declared.Answer.TheVariants.{Refused}
 use Rattle.port.specs.declared.Refusal.{Refusal}
 use Rattle.port.proofs.Laws.{number-some}
+use Rattle.common.specs.Reads.{largest_age}
 use Rattle.common.proofs.Slices.{part_length}
 use Rattle.effect.specs.Effect.{Effect, laid}
 use Rattle.effect.specs.Run.{tick, reset, number_in}
@@ -25,12 +26,12 @@ tick_row E t s m passed e =
     let unit = accepted E (length m) reset s (sym passed) in tick-number E (length m) s t unit.state_fits (sym unit.number) e
 
 -- so that a tick with one of these causes is refused
-pub row_refuses : (E : Effect) (t : E.Tick) (s : E.State) (m : List Float) (cause : Refusal) {s' : E.State} {a : Answer} → 0 ≡ number_in E reset (length m) s
+pub row_refuses : (E : Effect) (t : E.Tick) (s : E.State) (m : List Float) (cause : Refusal) (age : ℕ) {s' : E.State} {a : Answer} → 0 ≡ number_in E reset (length m) s
     → number cause ≡ E.tick_number t (E.settings s)
     → s' ≡ s
     → a ≡ Refused cause
-    → Does E (tick t) s m s' m (answer_reply a)
-row_refuses E t s m cause passed e p q = rw (p, q) (refuses E (tick t) s m (number cause) (tick_row E t s m passed e) (number-some cause))
+    → Does E (tick t) s m s' m (answer_reply a age)
+row_refuses E t s m cause age passed e p q = rw (p, q) (refuses E (tick t) s m (number cause) (tick_row E t s m passed e) (number-some cause))
 
 -- ---- the first n places of a memory, which are the places needed, where state and memory pass causes 4 and 3
 
@@ -59,6 +60,6 @@ module _ (E : Effect) (s : E.State) (m : List Float) {n : ℕ} (e : n ≡ E.plac
       accepts E (tick t) s m (sym (tick_row E t s m passed g))
       ((rw k at does.state) ∙ state)
       (ap (λ (q : List Float). q ++ drop n m) (rw k at does.memory) ∙ memory)
-      ((rw k at does.answer) ∙ ap played samples)
+      ((rw k at does.answer) ∙ (λ i. played (samples i) (largest_age (E.reads t s))))
 
 pub ruleset first_places = (first-long, first-row)

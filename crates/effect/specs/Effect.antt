@@ -1,6 +1,7 @@
 -- What an effect is: its states, its rows of the table of refusals, and what each accepted call does. Each effect is one value of `Effect`.
 -- Definitions only. Assumes nothing.
 use Rattle.std.specs.Prelude.{ℕ, ◌≢◌, Bool, List, [], ◌∷◌, set, Float}
+use Rattle.common.specs.Reads.{Read}
 use Rattle.effect.specs.Parts.{Part, InPart}
 
 -- ---- memory
@@ -52,6 +53,9 @@ pub record Effect : Type 1 where
   pub next : Tick → State → List Float → State
   pub writes : Tick → State → List Float → List Write
   pub samples : Tick → State → List Float → List Float
+  -- the reads that it makes of lines at a distance, whose largest age it answers beside the samples; none of tremolo, reverb (which reads its lines at whole
+  -- numbers of samples) and phaser
+  pub reads : Tick → State → List Read
   -- the audio of a tick as the tick takes it: the port's number, +0 if unset, and after the input rule where the effect has that
   pub input : Tick → Float
   -- what the state itself keeps of the sound is +0 or −0: the reverb's damping stores, the numbers of the phaser's chains; true where it keeps nothing
@@ -74,6 +78,7 @@ pub record Page (S K A R T : Type 0) : Type 0 where
   pub next : T → S → List Float → S
   pub writes : T → S → List Float → List Write
   pub samples : T → S → List Float → List Float
+  pub reads : T → S → List Read
   pub input : T → Float
   pub quiet : S → Bool
 
@@ -99,6 +104,7 @@ effect_of {S} {K} {A} {R} {T} p =
       next = p.next;
       writes = p.writes;
       samples = p.samples;
+      reads = p.reads;
       input = p.input;
       quiet = p.quiet;
     }

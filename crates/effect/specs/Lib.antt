@@ -12,3 +12,4 @@ pub mod Demand3
 pub mod Covers
 pub mod EachTick
 pub mod StaysSilent
+pub mod HearsBack

@@ -3,6 +3,7 @@
 use Rattle.std.specs.Prelude.{ℕ, zero, suc, ◌≡◌, Bool, ◌&&◌, cond, List, [], ◌∷◌, ltb, length, Float}
 use Rattle.port.specs.Answer.{Reply, played, done, silent, refused}
 use Rattle.common.specs.Line.{zeros, all_zero}
+use Rattle.common.specs.Reads.{largest_age}
 use Rattle.effect.specs.Parts.{held_in}
 use Rattle.effect.specs.Effect.{Effect, laid}
 
@@ -79,7 +80,7 @@ module _ (E : Effect) where
   changed ask h = h
 
   abbrev pub says : CallOf → DeviceOf → Reply
-  says (tick t) h = played (E.samples t h.state h.memory)
+  says (tick t) h = played (E.samples t h.state h.memory) (largest_age (E.reads t h.state))
   says (retune r) h = done
   says reset h = done
   says ask h = silent (is_silent h)

@@ -3,15 +3,15 @@
 use Rattle.std.specs.Prelude.{ℕ, ◌≡◌, ◌≤◌, ◌↔◌, Bool, true, ◌&&◌, List, [], ◌∷◌, length, get_or, Float}
 use Rattle.std.specs.Float.{nan}
 use Rattle.float64.specs.Number.{is_zero}
-use Rattle.port.specs.Answer.{Reply, played, done, silent, refused}
+use Rattle.port.specs.Answer.{Reply, played, done, silent, refused, reply_samples}
 use Rattle.common.specs.Line.{all_zero}
 use Rattle.effect.specs.Effect.{Effect, InUse}
 use Rattle.effect.specs.Run.{tick, retune, reset, CallOf, Device, start_number, number_at, is_silent, start, step, reply, after, replies}
 use Rattle.effect.specs.EachTick.{EachTick}
 
--- nothing sounds in the reply: its samples are +0 or −0, and if it answers the question, it says silent
+-- nothing sounds in the reply: its samples are +0 or −0, whatever its age, and if it answers the question, it says silent
 abbrev pub soundless : Reply → Bool
-soundless (played l) = all_zero l
+soundless (played l age) = all_zero l
 soundless done = true
 soundless (silent b) = b
 soundless (refused n) = true
@@ -38,7 +38,7 @@ pub record StaysSilent (E : Effect) : Type 0 where
   pub resets : (h : Device E.State) → number_at E reset h ≡ 0 → is_silent E (step E reset h) ≡ true
   pub retunes : (r : E.Retune) (h : Device E.State) → number_at E (retune r) h ≡ 0 → is_silent E (step E (retune r) h) ≡ true
   -- a silent unit's accepted tick with zero audio answers only zeros of either sign
-  pub answers : WhenSilent E (λ t h. (reply E (tick t) h ≡ played (E.samples t h.state h.memory)) × (all_zero (E.samples t h.state h.memory) ≡ true))
+  pub answers : WhenSilent E (λ t h. (reply_samples (reply E (tick t) h) ≡ E.samples t h.state h.memory) × (all_zero (E.samples t h.state h.memory) ≡ true))
   -- and leaves the unit silent
   pub stays : WhenSilent E (λ t h. is_silent E (step E (tick t) h) ≡ true)
   -- So it is along every list of calls whose accepted ticks have zero audio, with questions, refused calls, retunes and resets anywhere among them: nothing

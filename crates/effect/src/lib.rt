@@ -5,7 +5,7 @@
 ghost use Rattle.std.specs.Prelude.{◌≡◌, cond, length, Ok};
 ghost use Rattle.std.specs.Result.{result_and};
 ghost use Rattle.port.specs.declared.Answer.TheVariants.{Refused};
-ghost use Rattle.port.specs.Answer.{number_of, silence_reply};
+ghost use Rattle.port.specs.Answer.{number_of, answer_reply, silence_reply, reply_age};
 ghost use Rattle.common.specs.Line.{zeros};
 ghost use Rattle.effect.specs.Run.{if_none, memory_number};
 ghost use Rattle.effect.specs.Contract.{silence_of};
@@ -23,11 +23,13 @@ pub struct Cleared<S> {
     pub outcome: Result<(), Refusal>,
 }
 
-// What a tick returns: the state beside its answer, an enum that has the refusal.
-#[derive(Clone, Copy)]
+// What a tick returns: the state beside its answer, an enum that has the refusal, and beside that the largest age of its reads, 0 beside a refusal.
+#[derive(Drop)]
 pub struct Ticked<S> {
     pub state: S,
     pub answer: Answer,
+    pub age: u32,
+    ghost aged: { age ≡ reply_age (answer_reply answer age) },
 }
 
 impl<S: Copy> Cleared<S> {
@@ -52,6 +54,7 @@ impl<S> Ticked<S> {
         Ticked {
             state,
             answer: Answer::Refused(cause),
+            age: 0,
         }
     }
 }

@@ -1,6 +1,6 @@
 -- The flanger's definitions by their cases: the length of a line, the state test, the table's row of a tick, its distances, and an accepted tick from its
 -- steps, also where ports are unset. Assumes nothing.
-use Prim.Native.Nat.{ℕ, ◌+◌, ◌-◌, ◌*◌, ◌/◌, ◌≤◌, ◌<◌}
+use Prim.Native.Nat.{ℕ, ◌+◌, ◌-◌, ◌*◌, ◌/◌, ◌≤◌, ◌<◌, max}
 use native.Mathlib.Omega.{arith}
 use mathlib.Core.Path.{◌≡◌, refl, sym, ap, ◌∙◌}
 use mathlib.Core.Bool.{true, false, ◌&&◌, ◌||◌}
@@ -21,6 +21,8 @@ use Rattle.port.proofs.Laws.{nan_is}
 use Rattle.port.specs.Answer.{Reply, played}
 use Rattle.common.specs.Signal.{blended, advanced, cause_number}
 use Rattle.common.specs.Line.{next_place, line_at, read_at}
+use Rattle.common.specs.Reads.{age_at, largest_age}
+use Rattle.common.proofs.Ages.{oldest-two}
 use Rattle.common.proofs.Slices.{part_length, front-set}
 use Rattle.common.proofs.Ring.{front-line}
 use Rattle.common.proofs.Sweep.{control-in, part-read}
@@ -31,7 +33,7 @@ use Rattle.effect.proofs.Table.{accepted, tick-accepted}
 use Rattle.effect.proofs.Contract.{accepts}
 use Rattle.effect.proofs.Rows.{tick_row, unit, first-long, first-does}
 use Rattle.flanger.specs.declared.Flanger.{Flanger}
-use Rattle.flanger.specs.Flanger.{Tick, tick_of, flanger, line_length, places, state_fits, tick_number, input, depth, feedback, mix, distance_in, distance, tap, fed, next, writes}
+use Rattle.flanger.specs.Flanger.{Tick, tick_of, flanger, line_length, places, state_fits, tick_number, input, depth, feedback, mix, distance_in, distance, tap_read, tap, reads, fed, next, writes}
 use Rattle.flanger.specs.Flanger as page
 
 -- ---- the length of a line
@@ -144,18 +146,19 @@ ready {t} {s} {m} e k =
 
 -- from its steps
 module _ (t : Tick) (s : Flanger) (m : List Float) {n : ℕ} (r : Ready t s m n) where
-  -- a read in the part of k places from place o on, which is line i, is what the tick reads in that line
-  pub tap-is : (i k o : ℕ) {d x y : Float} (sine : Float) → k ≡ n → o ≡ i * n → o + n ≤ length m → d ≡ depth t
-      → x ≡ distance_in (length (take k (drop o m))) s.sample_rate d sine
-      → y ≡ read_at (line_at 0 (length (take k (drop o m))) s.write_pos (take k (drop o m))) x
-      → y ≡ tap i sine t s m
-  unfolding tap
-  tap-is i k o {d} {x} sine a b h g f y =
-      let long = part_length o k m n a h ∙ r.long in
-      let start = b ∙ ap (λ (z : ℕ). i * z) r.long in
-      y
-      ∙ part-read k o n s.write_pos m x a h r.inside
-      ∙ (λ j. read_at (line_at (start j) (r.long j) s.write_pos m) ((f ∙ (λ q. distance_in (long q) s.sample_rate (g q) sine)) j))
+  -- in the part of k places from place o on, which is line i
+  module _ (i k o : ℕ) (sine : Float) (a : k ≡ n) (h : o + n ≤ length m) where
+    pub distance-is : {d x : Float} → d ≡ depth t → x ≡ distance_in (length (take k (drop o m))) s.sample_rate d sine → x ≡ distance s.sample_rate (depth t) sine
+    distance-is g f = f ∙ (λ j. distance_in ((part_length o k m n a h ∙ r.long) j) s.sample_rate (g j) sine)
+
+    -- a read at that distance hears what the tick reads in line i
+    pub tap-is : {x y : Float} → o ≡ i * n → x ≡ distance s.sample_rate (depth t) sine
+        → y ≡ read_at (line_at 0 (length (take k (drop o m))) s.write_pos (take k (drop o m))) x
+        → y ≡ tap i sine t s m
+    unfolding tap
+    tap-is {x} b f y =
+        let start = b ∙ ap (λ (z : ℕ). i * z) r.long in
+        y ∙ part-read k o n s.write_pos m x a h r.inside ∙ (λ j. read_at (line_at (start j) (r.long j) s.write_pos m) (f j))
 
   pub next-is : {u : Flanger} → u.write_pos ≡ next_place (length (take n m)) s.write_pos
       → u.lfo_phase ≡ advanced s.lfo_phase (div binary64 t.frequency s.sample_rate)
@@ -173,11 +176,18 @@ module _ (t : Tick) (s : Flanger) (m : List Float) {n : ℕ} (r : Ready t s m n)
     stored_is f =
         λ i. set (set m s.write_pos (add binary64 (audio i) (mul binary64 (left i) (f i)))) (r.long i + s.write_pos) (add binary64 (audio i) (mul binary64 (right i) (f i)))
 
-    pub played-is : {b l r : Float} → b ≡ mix t → l ≡ blended x d0 b → r ≡ blended x d1 b → played (l ∷ l ∷ r ∷ []) ≡ played (page.samples t s m)
+    pub played-is : {b l r : Float} {a : ℕ} → b ≡ mix t → l ≡ blended x d0 b → r ≡ blended x d1 b → a ≡ largest_age (reads t s)
+        → played (l ∷ l ∷ r ∷ []) a ≡ played (page.samples t s m) (largest_age (reads t s))
     unfolding page.samples
-    played-is b l r =
-        (λ i. played (l i ∷ l i ∷ r i ∷ []))
-        ∙ (λ i. played (blended (audio i) (left i) (b i) ∷ blended (audio i) (left i) (b i) ∷ blended (audio i) (right i) (b i) ∷ []))
+    played-is b l r a =
+        (λ i. played (l i ∷ l i ∷ r i ∷ []) (a i))
+        ∙ (λ i. played (blended (audio i) (left i) (b i) ∷ blended (audio i) (left i) (b i) ∷ blended (audio i) (right i) (b i) ∷ []) (largest_age (reads t s)))
+
+  -- the larger age of two reads at the two distances
+  pub age-is : {x y : Float} {a b c : ℕ} → x ≡ distance s.sample_rate (depth t) t.sine0 → y ≡ distance s.sample_rate (depth t) t.sine1 → a ≡ age_at x → b ≡ age_at y
+      → c ≡ max a b → c ≡ largest_age (reads t s)
+  age-is x y a b c =
+      c ∙ (λ i. max (a i) (b i)) ∙ (λ i. max (age_at (x i)) (age_at (y i))) ∙ sym (oldest-two (tap_read 0 t.sine0 t s) (tap_read 1 t.sine1 t s))
 
 -- ---- an accepted tick: what it does in the lines, which are the first places of the memory, it does in the memory
 

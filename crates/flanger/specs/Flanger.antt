@@ -6,7 +6,8 @@ use Rattle.float64.specs.Number.{plus_zero, float_of, fraction, half, rate_fits,
 use Rattle.port.specs.declared.Port.{Port}
 use Rattle.port.specs.Port.{value_or, is_nan_set}
 use Rattle.common.specs.Signal.{sanitized, blended, advanced, cause_number}
-use Rattle.common.specs.Line.{swept_length, line_at, read_at, next_place}
+use Rattle.common.specs.Line.{swept_length, next_place}
+use Rattle.common.specs.Reads.{Read, heard}
 use Rattle.effect.specs.Parts.{first_places}
 use Rattle.effect.specs.Effect.{Effect, Page, effect_of, Write}
 use Rattle.flanger.specs.declared.Flanger.{Flanger}
@@ -91,11 +92,15 @@ distance_in L rate depth sine =
 abbrev pub distance : Float → Float → Float → Float
 distance rate depth sine = distance_in (line_length rate) rate depth sine
 
--- what line i, 0 left and 1 right, holds at its own distance, before the store
+-- the read of line i, 0 left and 1 right, at its own distance, and what it hears, before the store
+abbrev pub tap_read : ℕ → Float → Tick → Flanger → Read
+tap_read i sine t s =
+    let rate = s.sample_rate in
+    let L = line_length rate in
+    record { start = i * L; size = L; position = s.write_pos; distance = distance rate (depth t) sine }
+
 unfoldable pub tap : ℕ → Float → Tick → Flanger → List Float → Float
-tap i sine t s m =
-    let L = line_length s.sample_rate in
-    read_at (line_at (i * L) L s.write_pos m) (distance s.sample_rate (depth t) sine)
+tap i sine t s m = heard (tap_read i sine t s) m
 
 -- audio + the line's own read × feedback
 unfoldable pub fed : Tick → Float → Float
@@ -119,6 +124,9 @@ samples t s m =
     let right = blended (input t) (tap 1 t.sine1 t s m) (mix t) in
     left ∷ left ∷ right ∷ []
 
+abbrev pub reads : Tick → Flanger → List Read
+reads t s = tap_read 0 t.sine0 t s ∷ tap_read 1 t.sine1 t s ∷ []
+
 -- ---- the effect
 
 abbrev pub page : Page Flanger Float Float Float Tick
@@ -138,6 +146,7 @@ page =
       next = λ t s m. next t s;
       writes = writes;
       samples = samples;
+      reads = reads;
       input = input;
       quiet = λ s. true;
     }

@@ -131,7 +131,7 @@ impl Flanger {
         requires tick_accepted { number_in flanger (tick (tick_of (Set audio) (Set depth) (Set feedback) (Set mix) frequency sine0 sine1))
             (length lines.old) self ≡ 0 }
         ensures { Does flanger (tick (tick_of (Set audio) (Set depth) (Set feedback) (Set mix) frequency sine0 sine1)) self
-            lines.old result.state lines.new (answer_reply result.answer) }
+            lines.old result.state lines.new (answer_reply result.answer result.age) }
     {
         let rate = self.sample_rate;
         let phase = common::advance_phase(self.lfo_phase, frequency / rate);
@@ -157,13 +157,14 @@ impl Flanger {
             lfo_phase: phase,
             sample_rate: rate,
         };
-        lines[w] = input + d0 * back;
-        lines[second + w] = input + d1 * back;
-        let left = common::blend(input, d0, wet);
-        let right = common::blend(input, d1, wet);
+        lines[w] = input + d0.sample * back;
+        lines[second + w] = input + d1.sample * back;
+        let left = common::blend(input, d0.sample, wet);
+        let right = common::blend(input, d1.sample, wet);
         Ticked {
             state,
             answer: Answer::Three(left, left, right),
+            age: d0.age.max(d1.age),
         }
     }
 
@@ -181,7 +182,7 @@ impl Flanger {
         sine1: f64,
     ) -> Ticked<Flanger>
         ensures { Does flanger (tick (tick_of audio depth feedback mix frequency sine0 sine1)) self mem.old result.state
-            mem.new (answer_reply result.answer) }
+            mem.new (answer_reply result.answer result.age) }
     {
         let places = match self.checked(mem.len()) {
             Ok(places) => places,

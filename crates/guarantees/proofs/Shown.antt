@@ -1,5 +1,5 @@
 -- The statements of specs/, each by what its effects show. Assumes nothing.
-use Rattle.std.proofs.Common.{◌≡◌, ℕ, zero, suc, ◌≤◌, refl, sym}
+use Rattle.std.proofs.Common.{◌≡◌, ℕ, zero, suc, ◌≤◌, [], refl, sym, ap}
 use mathlib.Core.Bool.{or-false}
 use lib.Ieee.{nan, inf, fin, eq}
 use Rattle.float64.specs.Number.{is_zero}
@@ -9,21 +9,34 @@ use Rattle.port.specs.declared.Port.{Port}
 use Rattle.port.specs.declared.Port.TheVariants.{Set, Unset}
 use Rattle.effect.specs.Run.{tick, Device, if_none, number_at, changed}
 use Rattle.effect.proofs.Covers.{covers}
+use Rattle.effect.proofs.Table.{if_none-both}
+use Rattle.port.specs.Answer.{reply_age}
+use Rattle.common.specs.Reads.{largest_age}
+use Rattle.float64.proofs.Ranges.{range-in}
+use Rattle.float64.proofs.Parts.{whole-ends}
+use Rattle.common.proofs.Ages.{read-weighs, weight-none, exact-weights}
+use Rattle.effect.specs.Effect.{Effect}
 use Rattle.delay_line.proofs.Demand1 as delay1
 use Rattle.delay_line.proofs.StaysSilent as delay-silent
+use Rattle.delay_line.proofs.HearsBack as delay-ages
 use Rattle.chorus.specs.Chorus.{chorus}
 use Rattle.chorus.proofs.Demand1 as chorus1
 use Rattle.chorus.proofs.StaysSilent as chorus-silent
+use Rattle.chorus.proofs.HearsBack as chorus-ages
 use Rattle.chorus.proofs.Demand3 as chorus3
 use Rattle.chorus.proofs.Three as three
 use Rattle.flanger.proofs.Demand1 as flanger1
 use Rattle.flanger.proofs.StaysSilent as flanger-silent
+use Rattle.flanger.proofs.HearsBack as flanger-ages
 use Rattle.vibrato.specs.Vibrato.{vibrato}
 use Rattle.vibrato.proofs.Demand1 as vibrato1
 use Rattle.vibrato.proofs.StaysSilent as vibrato-silent
+use Rattle.vibrato.proofs.HearsBack as vibrato-ages
 use Rattle.vibrato.proofs.Demand3 as vibrato3
+use Rattle.tremolo.specs.Tremolo.{tremolo}
 use Rattle.tremolo.proofs.Demand1 as tremolo1
 use Rattle.tremolo.proofs.StaysSilent as tremolo-silent
+use Rattle.reverb.specs.Reverb.{reverb}
 use Rattle.reverb.proofs.Demand1 as reverb1
 use Rattle.reverb.proofs.StaysSilent as reverb-silent
 use Rattle.phaser.specs.declared.Phaser.{Phaser}
@@ -38,6 +51,7 @@ use Rattle.guarantees.specs.RecentPasts.{RecentPasts}
 use Rattle.guarantees.specs.WholePart.{WholePart}
 use Rattle.guarantees.specs.OneLine.{OneLine}
 use Rattle.guarantees.specs.IdleStages.{SameStage, IdleStages}
+use Rattle.guarantees.specs.Ages.{Ageless, Ages}
 use Rattle.guarantees.specs.Lamp.{as_it_is, under_rule, zero_as_it_is, zero_under_rule, Lamp}
 
 pub clean-memory : CleanMemory
@@ -123,5 +137,26 @@ lamp =
       under_rule_zero = under_rule_zero;
     }
 
+-- ---- ages
+
+-- an effect whose ticks make no read
+ageless : (E : Effect) → ((t : E.Tick) (s : E.State) → E.reads t s ≡ []) → Ageless E
+ageless E none t h = if_none-both (λ r. reply_age r ≡ 0) (number_at E (tick t) h) (ap largest_age (none t h.state)) refl
+
+pub ages : Ages
+ages =
+    record {
+      delay-lines = delay-ages.shown;
+      choruses = chorus-ages.shown;
+      flangers = flanger-ages.shown;
+      vibratos = vibrato-ages.shown;
+      tremolos = ageless tremolo (λ t s. refl);
+      reverbs = ageless reverb (λ t s. refl);
+      phasers = ageless phaser (λ t s. refl);
+      hears = read-weighs;
+      weightless = weight-none;
+      exact = λ M x h r. exact-weights M h (range-in (whole-ends M h) r);
+    }
+
 -- what the functions' contracts say
-pub ruleset statements = (clean-memory, recent-pasts, places-needed, starred-hold, whole_part, one_line, idle_stages, lamp)
+pub ruleset statements = (clean-memory, recent-pasts, places-needed, starred-hold, whole_part, one_line, idle_stages, lamp, ages)

@@ -6,3 +6,4 @@ pub mod WholePart
 pub mod OneLine
 pub mod IdleStages
 pub mod Lamp
+pub mod Ages

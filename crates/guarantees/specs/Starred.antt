@@ -8,6 +8,7 @@ use Rattle.port.specs.declared.Port.TheVariants.{Set, Unset}
 use Rattle.port.specs.Answer.{played}
 use Rattle.common.specs.Signal.{sanitized}
 use Rattle.common.specs.Line.{place, line_at, read_at}
+use Rattle.common.specs.Reads.{age_at}
 use Rattle.effect.specs.Run.{CallOf, tick, start, reply, replies}
 use Rattle.delay_line.specs.DelayLine as delay
 use Rattle.tremolo.specs.Tremolo as trem
@@ -24,12 +25,12 @@ pub data Case : Type 0 where
   allpass-length : Float → Side → ℕ → ℕ → Case
   -- a rate; the spread
   spread_at : Float → ℕ → Case
-  -- a distance in places 10, 20, 30, 40 with write position 1; what is read
-  reads : Float → Float → Case
+  -- a distance in places 10, 20, 30, 40 with write position 1; what is read, and its age
+  reads : Float → Float → ℕ → Case
   -- audio; what the input rule makes of it
   enters : Float → Float → Case
-  -- audio of two ticks of a linear delay with coefficient 0, time 0, feedback 0, mix 1; the two samples answered
-  delays : Float → Float → Float → Float → Case
+  -- audio of two ticks of a linear delay with coefficient 0, time 0, feedback 0, mix 1; the two samples answered, and how many ticks back each lay
+  delays : Float → Float → Float → Float → ℕ → Case
   -- the shape in a tremolo's tick with audio 4, phase 0, sine 0, depth 1; the sample answered
   trembles : Float → Float → Case
   -- a comb's place, store, damping, feedback and input; what it answers, its next store, what it writes
@@ -52,14 +53,15 @@ Holds (needs effect rate maximum n) = needed_by effect rate maximum ≡ n
 Holds (comb-length rate side i n) = get_or (comb_lengths side rate) i 0 ≡ n
 Holds (allpass-length rate side i n) = get_or (allpass_lengths side rate) i 0 ≡ n
 Holds (spread_at rate n) = spread (ratio rate) ≡ n
-Holds (reads distance x) = read_at (line_at 0 4 1 (float_of 10 ∷ float_of 20 ∷ float_of 30 ∷ float_of 40 ∷ [])) distance ≡ x
+Holds (reads distance x age) =
+    (read_at (line_at 0 4 1 (float_of 10 ∷ float_of 20 ∷ float_of 30 ∷ float_of 40 ∷ [])) distance ≡ x) × (age_at distance ≡ age)
 Holds (enters audio x) = sanitized audio ≡ x
-Holds (delays x y a b) =
+Holds (delays x y a b age) =
     replies delay.delay_line (delay_tick x ∷ delay_tick y ∷ []) (start delay.delay_line (delay.handing (float_of 8000) plus_zero (fraction 1 1000) true) (replicate 9 nan))
-    ≡ played (a ∷ []) ∷ played (b ∷ []) ∷ []
+    ≡ played (a ∷ []) age ∷ played (b ∷ []) age ∷ []
 Holds (trembles shape x) =
     reply trem.tremolo (tick (trem.tick_of (Set (float_of 4)) (Set (float_of 1)) (Set shape) (float_of 1) plus_zero)) (record { state = trem.fresh (float_of 44100); memory = [] })
-    ≡ played (x ∷ [])
+    ≡ played (x ∷ []) 0
 Holds (combs held store damping feedback input answer store' written) =
     (combed held 2 0 store damping ≡ record { output = answer; filter_state = store'; pos = 1 })
     × (comb_fed input (comb_store held store damping) feedback ≡ written)
@@ -86,13 +88,13 @@ starred =
     ∷ spread_at (float_of 22050) 12
     ∷ comb-length (float_of 192000) left 0 4095
     ∷ comb-length (float_of 192000) right 0 4095
-    ∷ reads (float_of 1) (float_of 10)
-    ∷ reads (fraction 5 2) (float_of 35)
-    ∷ reads (float_of 3) (float_of 30)
+    ∷ reads (float_of 1) (float_of 10) 1
+    ∷ reads (fraction 5 2) (float_of 35) 3
+    ∷ reads (float_of 3) (float_of 30) 3
     ∷ enters nan plus_zero
     ∷ enters (inf false) plus_zero
     ∷ enters (fin true 0 (pos 0)) (fin true 0 (pos 0))
-    ∷ delays (float_of 3) (float_of 7) plus_zero (float_of 3)
+    ∷ delays (float_of 3) (float_of 7) plus_zero (float_of 3) 1
     ∷ trembles plus_zero (float_of 2)
     ∷ trembles (float_of 1) plus_zero
     ∷ combs (float_of 4) plus_zero (fraction 1 4) half (float_of 1) (float_of 4) (float_of 3) (fraction 5 2)

@@ -10,6 +10,7 @@ ghost use Rattle.guarantees.specs.WholePart.{WholePart};
 ghost use Rattle.guarantees.specs.OneLine.{OneLine};
 ghost use Rattle.guarantees.specs.IdleStages.{IdleStages};
 ghost use Rattle.guarantees.specs.Lamp.{Lamp};
+ghost use Rattle.guarantees.specs.Ages.{Ages};
 ghost use Rattle.std.specs.Prelude.{◌≡◌};
 ghost use Rattle.tremolo.specs.Tremolo as tremolo_page;
 ghost use Rattle.vibrato.specs.Vibrato as vibrato_page;
@@ -66,6 +67,11 @@ pub fn idle_stages()
 // A silent unit of any effect, given zero audio, answers zeros and stays silent.
 pub fn lamp()
     ensures { Lamp }
+{}
+
+// The age that a tick answers is that of the oldest sample that its reads weighed above 0.
+pub fn ages()
+    ensures { Ages }
 {}
 
 // The page by which each effect's start, retune, reset and question go is its own.

@@ -140,7 +140,7 @@ samples t s =
 -- the tick leaves the state s' and answers a
 pub record Advances (t : Tick) (s s' : Phaser) (a : Reply) : Type 0 where
   pub state : s' ≡ next t s
-  pub answer : a ≡ played (samples t s)
+  pub answer : a ≡ played (samples t s) 0
 
 -- ---- the effect
 
@@ -161,6 +161,7 @@ page =
       next = λ t s m. next t s;
       writes = λ t s m. [];
       samples = λ t s m. samples t s;
+      reads = λ t s. [];
       input = input;
       quiet = quiet;
     }

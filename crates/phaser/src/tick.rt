@@ -27,7 +27,7 @@ impl Lent<'_> {
     ) -> Answer
         ensures same { SameParts self.old self.new }
         ensures advances { Advances (tick_of (Set audio) (Set feedback) (Set mix) (Set stages) frequency coef.left coef.right)
-            (lent_state self.old) (lent_state self.new) (answer_reply result) }
+            (lent_state self.old) (lent_state self.new) (answer_reply result 0) }
     {
         let input = common::sanitize_audio(audio);
         let back = float64::clamp(feedback, -0.95, 0.95);
@@ -52,7 +52,7 @@ impl Lent<'_> {
         coef_r: f64,
     ) -> Answer
         ensures same { SameParts self.old self.new }
-        ensures does { Does phaser (tick (tick_of audio feedback mix stages frequency coef_l coef_r)) (lent_state self.old) [] (lent_state self.new) [] (answer_reply result) }
+        ensures does { Does phaser (tick (tick_of audio feedback mix stages frequency coef_l coef_r)) (lent_state self.old) [] (lent_state self.new) [] (answer_reply result 0) }
     {
         if !Phaser::fits(self.sample_rate, *self.lfo_phase) {
             return Answer::Refused(Refusal::State);
@@ -89,7 +89,7 @@ impl Phaser {
         coef_l: f64,
         coef_r: f64,
     ) -> Ticked<Phaser>
-        ensures { Does phaser (tick (tick_of audio feedback mix stages frequency coef_l coef_r)) self [] result.state [] (answer_reply result.answer) }
+        ensures { Does phaser (tick (tick_of audio feedback mix stages frequency coef_l coef_r)) self [] result.state [] (answer_reply result.answer result.age) }
     {
         let mut lent = Lent {
             chains: Chains {
@@ -109,6 +109,7 @@ impl Phaser {
         Ticked {
             state: self,
             answer,
+            age: 0,
         }
     }
 }

@@ -1,7 +1,7 @@
 // What goes into a call and what comes out of it: ports, refusals, answers.
 #![tactic(auto)]
 
-ghost use Rattle.std.specs.Prelude.{◌≡◌};
+ghost use Rattle.std.specs.Prelude.{ℕ, ◌≡◌};
 ghost use Rattle.port.specs.Port.{port_if};
 ghost use Rattle.port.specs.Answer.{number, number_of, answer_reply, silence_reply, reply_number, reply_sample, reply_silent};
 
@@ -79,7 +79,7 @@ pub fn silent_flag(silence: Result<bool, Refusal>) -> u32
 impl Answer {
     // The table's number, 0 for none. Beside `number_of`, which is of a `Result`: a tick's answer is an enum of its own, as said there.
     pub fn number(self) -> u32
-        ensures { result ≡ reply_number (answer_reply self) }
+        ensures { (age : ℕ) → result ≡ reply_number (answer_reply self age) }
     {
         match self {
             Answer::One(_) => 0,
@@ -91,7 +91,7 @@ impl Answer {
 
     // The first sample, +0 on a refusal.
     pub fn first(self) -> f64
-        ensures { result ≡ reply_sample 0 (answer_reply self) }
+        ensures { (age : ℕ) → result ≡ reply_sample 0 (answer_reply self age) }
     {
         match self {
             Answer::One(x) => x,
@@ -103,7 +103,7 @@ impl Answer {
 
     // The second sample, +0 where there is none.
     pub fn second(self) -> f64
-        ensures { result ≡ reply_sample 1 (answer_reply self) }
+        ensures { (age : ℕ) → result ≡ reply_sample 1 (answer_reply self age) }
     {
         match self {
             Answer::One(_) => 0.0,
@@ -115,7 +115,7 @@ impl Answer {
 
     // The third sample, +0 where there is none.
     pub fn third(self) -> f64
-        ensures { result ≡ reply_sample 2 (answer_reply self) }
+        ensures { (age : ℕ) → result ≡ reply_sample 2 (answer_reply self age) }
     {
         match self {
             Answer::One(_) => 0.0,

@@ -16,10 +16,10 @@ start_size Phaser = 24
 -- the bytes of a record
 abbrev pub record_size : Effect → ℕ
 record_size Tremolo = 88
-record_size Vibrato = 80
-record_size Chorus = 128
-record_size Flanger = 112
-record_size Delay = 88
+record_size Vibrato = 88
+record_size Chorus = 136
+record_size Flanger = 120
+record_size Delay = 96
 record_size Reverb = 128
 record_size Phaser = 104
 

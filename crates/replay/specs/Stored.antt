@@ -1,7 +1,7 @@
 -- What a call has to answer, and a unit to be after it, to be what a record says. Definitions only. Assumes nothing.
 use Rattle.std.specs.Prelude.{ℕ, ◌≡◌, ◌+◌, ◌/◌, ◌%◌, ◌==◌, ⊤, cond, List, [], ◌∷◌, ◌++◌, get_or, Float}
 use Rattle.std.specs.Float.{nan}
-use Rattle.port.specs.Answer.{Reply, reply_number, reply_sample}
+use Rattle.port.specs.Answer.{Reply, reply_number, reply_sample, reply_age}
 use Rattle.phaser.specs.declared.Phaser as phaser
 use Rattle.reverb.specs.declared.Reverb as reverb
 use Rattle.replay.specs.declared.units.Unit.{Unit}
@@ -15,6 +15,10 @@ IsOneSample r b i = (reply_number r ≡ 0) × (reply_sample 0 r ≡ float_at b i
 -- accepted, with the floats from word i on as the samples
 abbrev pub IsThreeSamples : Reply → List ℕ → ℕ → Type 0
 IsThreeSamples r b i = IsOneSample r b i × (reply_sample 1 r ≡ float_at b (i + 1)) × (reply_sample 2 r ≡ float_at b (i + 2))
+
+-- accepted, with word i, a plain number, as the age
+abbrev pub IsOfAge : Reply → List ℕ → ℕ → Type 0
+IsOfAge r b i = (reply_number r ≡ 0) × (reply_age r ≡ word_of b i)
 
 -- the four positions in a word, 16 bits each, the first lowest
 abbrev pub unpacked : ℕ → List ℕ

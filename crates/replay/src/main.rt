@@ -1,4 +1,4 @@
-// Replays stored answers of the Rust and compares them, with no Rust at hand. A file of data/ for each effect, two for the delay's modes; units.rt says
+// Replays stored answers of the Rust, and stored ages, and compares them, with no Rust at hand. A file of data/ for each effect, two for the delay's modes; units.rt says
 // what a record has.
 #![tactic(auto)]
 

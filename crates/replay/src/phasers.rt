@@ -57,5 +57,5 @@ pub fn tick_or_look(p: &mut Phaser, stored: &Record) -> bool {
         stored.float(8),
     );
     *p = ticked.state;
-    is_three_samples(ticked.answer, stored, 9)
+    is_three_samples(ticked.answer, stored, 9) && ticked.age == 0
 }

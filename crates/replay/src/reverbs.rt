@@ -81,5 +81,7 @@ pub fn tick_or_look(r: &mut Reverb, mem: &mut [f64], stored: &Record) -> bool {
         port(stored, mask, 16, 6),
     );
     *r = ticked.state;
-    is_one_sample(ticked.answer, stored, 7) && stored.holds(8, ticked.answer.second())
+    is_one_sample(ticked.answer, stored, 7)
+        && stored.holds(8, ticked.answer.second())
+        && ticked.age == 0
 }

@@ -1,18 +1,21 @@
 // The units whose calls are stored, and what a record of a file says. A record's words, for each effect:
 //   tremolo, 11: 5; the phase before, the rate; the mask of set ports; audio, depth, shape; frequency, sine; the phase after; the sample
-//   vibrato, 10: the call; the mask; audio, depth, mix; frequency, sine; the sample; the position and the phase after
-//   chorus, 16: the call; the mask; audio, depth, mix; frequency, three sines; three samples; the position and the three phases after
-//   flanger, 14: the call; the mask; audio, depth, feedback, mix; frequency, two sines; three samples; the position and the phase after
-//   delay, 11: the call; the mask; audio, time, feedback, mix; milliseconds; the sample; the position, the glide distance and whether it is primed after
+//   vibrato, 11: the call; the mask; audio, depth, mix; frequency, sine; the sample; the position and the phase after; the age
+//   chorus, 17: the call; the mask; audio, depth, mix; frequency, three sines; three samples; the position and the three phases after; the age
+//   flanger, 15: the call; the mask; audio, depth, feedback, mix; frequency, two sines; three samples; the position and the phase after; the age
+//   delay, 12: the call; the mask; audio, time, feedback, mix; milliseconds; the sample; the position, the glide distance and whether it is primed
+//     after; the age
 //   reverb, 16: reverbs.rt says; phaser, 13: phasers.rt does
+// The age, a plain number, is that of the oldest sample that the tick's reads weigh above 0, worked out from their distances; of a call that is no tick
+// it is 0. The other effects have none: their ticks answer 0.
 // The call is 0 tick, 1 retune (the new rate stands for the mix, the delay's new coefficient for the milliseconds) or 2 reset. A tremolo's record has
 // its own state before the tick; the others are calls of one unit from its start on, which stands before them: 1 delay, 2 chorus, 3 flanger, 4 vibrato,
 // 6 reverb or 7 phaser; the rate; the places needed; of a delay also the maximum, the glide coefficient, and 1 for linear mode, else 0.
-ghost use Rattle.std.specs.Prelude.{◌≡◌, ◌≤◌, ◌<◌, ◌/◌, ◌%◌, ◌==◌, ◌↔◌, IsTrue, is_ok};
+ghost use Rattle.std.specs.Prelude.{ℕ, ◌≡◌, ◌≤◌, ◌<◌, ◌/◌, ◌%◌, ◌==◌, ◌↔◌, IsTrue, is_ok};
 ghost use Rattle.port.specs.Port.{port_if};
 ghost use Rattle.port.specs.Answer.{answer_reply};
 ghost use Rattle.replay.specs.Files.{start_size, record_size};
-ghost use Rattle.replay.specs.Stored.{IsOneSample, IsStored, IsThreeSamples};
+ghost use Rattle.replay.specs.Stored.{IsOfAge, IsOneSample, IsStored, IsThreeSamples};
 ghost use Rattle.replay.specs.Words.{float_at};
 
 use crate::words::Record;
@@ -48,7 +51,7 @@ impl Effect {
     // The bytes of the start, before the records.
     pub fn start_size(self) -> usize
         ensures value { result ≡ start_size self }
-        ensures fits { result ≤ 128 }
+        ensures fits { result ≤ 136 }
     {
         match self {
             Effect::Tremolo => 0,
@@ -62,14 +65,15 @@ impl Effect {
     pub fn record_size(self) -> usize
         ensures value { result ≡ record_size self }
         ensures some { 0 < result }
-        ensures fits { result ≤ 128 }
+        ensures fits { result ≤ 136 }
     {
         match self {
-            Effect::Vibrato => 10 * 8,
-            Effect::Tremolo | Effect::Delay => 11 * 8,
+            Effect::Tremolo | Effect::Vibrato => 11 * 8,
+            Effect::Delay => 12 * 8,
             Effect::Phaser => 13 * 8,
-            Effect::Flanger => 14 * 8,
-            Effect::Chorus | Effect::Reverb => 16 * 8,
+            Effect::Flanger => 15 * 8,
+            Effect::Reverb => 16 * 8,
+            Effect::Chorus => 17 * 8,
         }
     }
 
@@ -104,19 +108,26 @@ pub fn port(stored: &Record, mask: u64, weight: u64, i: usize) -> Port
 
 // Whether a tick was accepted with the sample stored in word i.
 pub fn is_one_sample(answer: Answer, stored: &Record, i: usize) -> bool
-    ensures { IsTrue result ↔ IsOneSample (answer_reply answer) stored.now.bytes i }
+    ensures { (age : ℕ) → (IsTrue result ↔ IsOneSample (answer_reply answer age) stored.now.bytes i) }
 {
     !matches!(answer, Answer::Refused(_)) && stored.holds(i, answer.first())
 }
 
 // Whether a tick was accepted with the three samples stored from word i on; i is a byte, so that i + 2 is a number of a word too.
 pub fn is_three_samples(answer: Answer, stored: &Record, i: u8) -> bool
-    ensures { IsTrue result ↔ IsThreeSamples (answer_reply answer) stored.now.bytes i }
+    ensures { (age : ℕ) → (IsTrue result ↔ IsThreeSamples (answer_reply answer age) stored.now.bytes i) }
 {
     let at = usize::from(i);
     is_one_sample(answer, stored, at)
         && stored.holds(at + 1, answer.second())
         && stored.holds(at + 2, answer.third())
+}
+
+// Whether a tick was accepted with the age stored in word i.
+fn is_of_age(answer: Answer, age: u32, stored: &Record, i: usize) -> bool
+    ensures { IsTrue result ↔ IsOfAge (answer_reply answer age) stored.now.bytes i }
+{
+    !matches!(answer, Answer::Refused(_)) && u64::from(age) == stored.word(i)
 }
 
 // Keeps the state that a start, a retune or a reset left, and says whether it was accepted.
@@ -144,7 +155,9 @@ fn tick_tremolo(stored: &Record) -> bool {
         stored.float(7),
         stored.float(8),
     );
-    is_one_sample(ticked.answer, stored, 10) && stored.holds(9, ticked.state.lfo_phase)
+    is_one_sample(ticked.answer, stored, 10)
+        && ticked.age == 0
+        && stored.holds(9, ticked.state.lfo_phase)
 }
 
 fn tick_vibrato(state: &mut Vibrato, mem: &mut [f64], stored: &Record) -> bool {
@@ -158,7 +171,7 @@ fn tick_vibrato(state: &mut Vibrato, mem: &mut [f64], stored: &Record) -> bool {
         stored.float(6),
     );
     *state = ticked.state;
-    is_one_sample(ticked.answer, stored, 7)
+    is_one_sample(ticked.answer, stored, 7) && is_of_age(ticked.answer, ticked.age, stored, 10)
 }
 
 fn tick_chorus(state: &mut Chorus, mem: &mut [f64], stored: &Record) -> bool {
@@ -172,7 +185,7 @@ fn tick_chorus(state: &mut Chorus, mem: &mut [f64], stored: &Record) -> bool {
         [stored.float(6), stored.float(7), stored.float(8)],
     );
     *state = ticked.state;
-    is_three_samples(ticked.answer, stored, 9)
+    is_three_samples(ticked.answer, stored, 9) && is_of_age(ticked.answer, ticked.age, stored, 16)
 }
 
 fn tick_flanger(state: &mut Flanger, mem: &mut [f64], stored: &Record) -> bool {
@@ -188,7 +201,7 @@ fn tick_flanger(state: &mut Flanger, mem: &mut [f64], stored: &Record) -> bool {
         stored.float(8),
     );
     *state = ticked.state;
-    is_three_samples(ticked.answer, stored, 9)
+    is_three_samples(ticked.answer, stored, 9) && is_of_age(ticked.answer, ticked.age, stored, 14)
 }
 
 fn tick_delay(state: &mut DelayLine, mem: &mut [f64], stored: &Record) -> bool {
@@ -202,7 +215,7 @@ fn tick_delay(state: &mut DelayLine, mem: &mut [f64], stored: &Record) -> bool {
         stored.float(6),
     );
     *state = ticked.state;
-    is_one_sample(ticked.answer, stored, 7)
+    is_one_sample(ticked.answer, stored, 7) && is_of_age(ticked.answer, ticked.age, stored, 11)
 }
 
 impl Unit {

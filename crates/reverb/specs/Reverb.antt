@@ -170,7 +170,7 @@ samples c s m = blended (input c) (wet s m left) (mix c) ∷ blended (input c) (
 pub record Advances (c : Controls) (s : Reverb) (m : List Float) (s' : Reverb) (m' : List Float) (a : Reply) : Type 0 where
   pub state : s' ≡ next c s m
   pub memory : m' ≡ laid (writes c s m) m
-  pub answer : a ≡ played (samples c s m)
+  pub answer : a ≡ played (samples c s m) 0
 
 -- ---- the effect
 
@@ -191,6 +191,7 @@ page =
       next = λ t s m. next (controls_of t) s m;
       writes = λ t s m. writes (controls_of t) s m;
       samples = λ t s m. samples (controls_of t) s m;
+      reads = λ t s. [];
       input = λ t. input (controls_of t);
       quiet = quiet;
     }

@@ -53,7 +53,7 @@ impl Lent<'_> {
         requires tank_size_bound { tank_size ≤ ListN.length mem.old }
         requires predelay_is_number { is_number c.predelay ≡ true }
         ensures same { SameParts self.old self.new }
-        ensures advances { Advances c (lent_state self.old) mem.old (lent_state self.new) mem.new (answer_reply result) }
+        ensures advances { Advances c (lent_state self.old) mem.old (lent_state self.new) mem.new (answer_reply result 0) }
     {
         let input = common::sanitize_audio(c.audio);
         let feedback = 0.28 + float64::clamp(c.size, 0.0, 1.0) * 0.7;
@@ -115,7 +115,7 @@ impl Lent<'_> {
     ) -> Answer
         ensures same { SameParts self.old self.new }
         ensures does { Does reverb (tick (tick_of audio size damping mix predelay)) (lent_state self.old) mem.old (lent_state self.new) mem.new
-            (answer_reply result) }
+            (answer_reply result 0) }
     {
         let n = lengths_at(self.sample_rate);
         let fits = positions_fit(
@@ -158,7 +158,7 @@ impl Reverb {
         predelay: Port,
     ) -> Ticked<Reverb>
         ensures { Does reverb (tick (tick_of audio size damping mix predelay)) self mem.old
-            result.state mem.new (answer_reply result.answer) }
+            result.state mem.new (answer_reply result.answer result.age) }
     {
         let mut state = self;
         let mut lent = Lent {
@@ -172,6 +172,10 @@ impl Reverb {
             sample_rate: state.sample_rate,
         };
         let answer = lent.tick(mem, audio, size, damping, mix, predelay);
-        Ticked { state, answer }
+        Ticked {
+            state,
+            answer,
+            age: 0,
+        }
     }
 }

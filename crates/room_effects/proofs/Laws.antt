@@ -9,14 +9,14 @@ use Rattle.std.specs.Int.{from_bool}
 use Rattle.port.specs.declared.Refusal.{Refusal}
 use Rattle.port.specs.declared.Answer.{Answer}
 use Rattle.port.specs.declared.Answer.TheVariants.{One, Two, Three, Refused}
-use Rattle.port.specs.Answer.{Reply, answer_reply, reply_number}
+use Rattle.port.specs.Answer.{Reply, answer_reply, reply_number, reply_age}
 use Rattle.effect.specs.Effect.{Effect}
 use Rattle.effect.specs.Run.{tick, Device, number_at, step}
 use Rattle.effect.specs.Contract.{Does}
 use Rattle.effect.proofs.Laws.{Laws}
 use Rattle.effect.proofs.Table.{if_none-both}
 use Rattle.room_effects.specs.States.{is_on, FlagWritten}
-use Rattle.room_effects.specs.Lent.{samples_from, TickReturns}
+use Rattle.room_effects.specs.Lent.{samples_from, TickReturns, AgedReturns}
 
 -- ---- a flag that is written as its number, 0 or 1, is on where it was
 
@@ -31,11 +31,11 @@ written false e = rw e
 -- ---- an accepted tick
 
 -- an answer that is no refusal has the number 0
-pub not-refused : {a : Answer} → ((cause : Refusal) → a ≡ Refused cause → ⊥) → 0 ≡ reply_number (answer_reply a)
-not-refused {a = One x} h = refl
-not-refused {a = Two x y} h = refl
-not-refused {a = Three x y z} h = refl
-not-refused {a = Refused cause} h = absurd (h cause refl)
+pub not-refused : {a : Answer} → ((cause : Refusal) → a ≡ Refused cause → ⊥) → (age : ℕ) → ◌≡◌ {A = ℕ} 0 (reply_number (answer_reply a age))
+not-refused {a = One x} h age = refl
+not-refused {a = Two x y} h age = refl
+not-refused {a = Three x y z} h age = refl
+not-refused {a = Refused cause} h age = absurd (h cause refl)
 
 module _ (E : Effect) (laws : Laws E) where
   -- the settings of the state that is left are those of h
@@ -46,19 +46,20 @@ module _ (E : Effect) (laws : Laws E) where
   tick-keeps : (t : E.Tick) (h : Device E.State) → Keeps h (step E (tick t) h)
   tick-keeps t h = if_none-both (Keeps h) (number_at E (tick t) h) (sym (laws.next-settings t h.state h.memory)) refl
 
-  -- The effect's own call is handed the tick t; the lent numbers, the mask among them, make t₀ of it. They are left as s, which is the state left
-  -- where the settings are those of before. The number is r, and the samples are put out.
-  pub ticked : (k : ℕ) (u : Device E.State) {t t₀ : E.Tick} {s s' : E.State} {m' out' : List Float} {a : Reply} {r : ℕ}
-      → t ≡ t₀
-      → Does E (tick t) u.state u.memory s' m' a
-      → r ≡ reply_number a
-      → (E.settings u.state ≡ E.settings s' → s ≡ s')
-      → out' ≡ samples_from 0 k a
-      → TickReturns E k t₀ u (record { state = s; memory = m' }) out' r
-  ticked k u {t₀ = t₀} {s' = s'} {m' = m'} {a = a} same own number left put =
-      let does = subst (λ (t : E.Tick). Does E (tick t) u.state u.memory s' m' a) same own in
-      let kept = tick-keeps t₀ u ∙ ap E.settings (sym does.state) in
-      record {
-        called = record { state = left kept ∙ does.state; memory = does.memory; number = number ∙ ap reply_number does.answer };
-        samples = put ∙ ap (samples_from 0 k) does.answer;
-      }
+  -- The effect's own call is handed the tick t; the lent numbers, the mask among them, make t₀ of it, and are left as s, which is the state left where the settings
+  -- are those of before. The number is r, and the samples are put out.
+  module _ (k : ℕ) (u : Device E.State) {t t₀ : E.Tick} {s s' : E.State} {m' out' : List Float} {a : Reply} {r : ℕ} (same : t ≡ t₀)
+      (own : Does E (tick t) u.state u.memory s' m' a) (number : r ≡ reply_number a) (left : E.settings u.state ≡ E.settings s' → s ≡ s') (put : out' ≡ samples_from 0 k a) where
+    does : Does E (tick t₀) u.state u.memory s' m' a
+    does = subst (λ (t : E.Tick). Does E (tick t) u.state u.memory s' m' a) same own
+
+    pub ticked : TickReturns E k t₀ u (record { state = s; memory = m' }) out' r
+    ticked =
+        record {
+          called = record { state = left (tick-keeps t₀ u ∙ ap E.settings (sym does.state)) ∙ does.state; memory = does.memory; number = number ∙ ap reply_number does.answer };
+          samples = put ∙ ap (samples_from 0 k) does.answer;
+        }
+
+    -- and the age with them
+    pub aged : {age' : ℕ} → age' ≡ reply_age a → AgedReturns E k t₀ u (record { state = s; memory = m' }) out' age' r
+    aged age = record { ticked = ticked; age = age ∙ ap reply_age does.answer }

@@ -2,7 +2,7 @@
 -- plain numbers. For any effect: the state that the lent numbers make is `state_of` of its page, and of
 -- the delay in specs/States.antt. Definitions only. Assumes nothing.
 use Rattle.std.specs.Prelude.{ℕ, zero, suc, ◌≡◌, List, [], ◌∷◌, Float}
-use Rattle.port.specs.Answer.{Reply, reply_number, reply_sample, reply_silent}
+use Rattle.port.specs.Answer.{Reply, reply_number, reply_sample, reply_age, reply_silent}
 use Rattle.effect.specs.Effect.{Effect}
 use Rattle.effect.specs.Run.{tick, ask, CallOf, Device, start, start_reply, step, reply}
 
@@ -28,6 +28,11 @@ module _ (E : Effect) where
   pub record TickReturns (k : ℕ) (t : E.Tick) (u u' : Device E.State) (out' : List Float) (r : ℕ) : Type 0 where
     pub called : CallReturns (tick t) u u' r
     pub samples : out' ≡ samples_from 0 k (reply E (tick t) u)
+
+  -- ... a tick of an effect that reads lines at a distance, which puts the largest age of its reads into age' beside them, 0 on a refusal
+  pub record AgedReturns (k : ℕ) (t : E.Tick) (u u' : Device E.State) (out' : List Float) (age' r : ℕ) : Type 0 where
+    pub ticked : TickReturns k t u u' out' r
+    pub age : age' ≡ reply_age (reply E (tick t) u)
 
   -- ... the question, which leaves the unit as it was, and puts 1 into out' for yes
   pub record AskReturns (u : Device E.State) (out' r : ℕ) : Type 0 where

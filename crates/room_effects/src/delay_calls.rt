@@ -3,7 +3,7 @@ ghost use Rattle.std.specs.Prelude.{◌≡◌, [], ◌∷◌};
 ghost use Rattle.effect.specs.Run.{retune, reset, device_of};
 ghost use Rattle.effect.specs.Contract.{lent_at, from_to};
 ghost use Rattle.delay_line.specs.DelayLine.{delay_line, handing, retuning, tick_of};
-ghost use Rattle.room_effects.specs.Lent.{StartReturns, CallReturns, TickReturns, AskReturns};
+ghost use Rattle.room_effects.specs.Lent.{StartReturns, CallReturns, AgedReturns, AskReturns};
 ghost use Rattle.room_effects.specs.States.{is_on, FlagWritten, FlagLeft, delay_of};
 ghost use Rattle.room_effects.specs.Ports.{port_at};
 
@@ -171,11 +171,12 @@ pub extern "C" fn room_raw_delay_tick(
     mix: f64,
     milliseconds: f64,
     out: &mut f64,
+    age: &mut u32,
 ) -> u32
     ensures { from_to (λ k. device_of (delay_of (lent_at write_pos k) (lent_at smoothed_delay k) (is_on (lent_at delay_primed k))
         sample_rate delay_smooth_coef max_delay_secs (is_on linear_time)) (lent_at memory k))
-        (λ u u'. TickReturns delay_line 1 (tick_of (port_at set 1 audio) (port_at set 2 time) (port_at set 4 feedback)
-        (port_at set 8 mix) milliseconds) u u' (out.new ∷ []) result) × from_to (lent_at delay_primed) (FlagLeft result) }
+        (λ u u'. AgedReturns delay_line 1 (tick_of (port_at set 1 audio) (port_at set 2 time) (port_at set 4 feedback)
+        (port_at set 8 mix) milliseconds) u u' (out.new ∷ []) age.new result) × from_to (lent_at delay_primed) (FlagLeft result) }
 {
     let state = delay_of(
         *write_pos,
@@ -195,6 +196,7 @@ pub extern "C" fn room_raw_delay_tick(
         milliseconds,
     );
     *out = ticked.answer.first();
+    *age = ticked.age;
     if let Answer::Refused(cause) = ticked.answer {
         return u32::from(cause);
     }

@@ -2,7 +2,7 @@
 ghost use Rattle.effect.specs.Run.{retune, reset, device_of};
 ghost use Rattle.effect.specs.Contract.{lent_at, from_to};
 ghost use Rattle.flanger.specs.Flanger.{flanger, tick_of, state_of};
-ghost use Rattle.room_effects.specs.Lent.{StartReturns, CallReturns, TickReturns, AskReturns};
+ghost use Rattle.room_effects.specs.Lent.{StartReturns, CallReturns, AgedReturns, AskReturns};
 ghost use Rattle.room_effects.specs.Ports.{port_at};
 
 use crate::shared::{port_at, put_samples};
@@ -96,10 +96,11 @@ pub extern "C" fn room_raw_flanger_tick(
     sine0: f64,
     sine1: f64,
     out: &mut [f64; 3],
+    age: &mut u32,
 ) -> u32
     ensures { from_to (λ k. device_of (state_of (lent_at write_pos k) (lent_at lfo_phase k) sample_rate) (lent_at memory k))
-        (λ u u'. TickReturns flanger 3 (tick_of (port_at set 1 audio) (port_at set 2 depth) (port_at set 4 feedback)
-        (port_at set 8 mix) frequency sine0 sine1) u u' out.new result) }
+        (λ u u'. AgedReturns flanger 3 (tick_of (port_at set 1 audio) (port_at set 2 depth) (port_at set 4 feedback)
+        (port_at set 8 mix) frequency sine0 sine1) u u' out.new age.new result) }
 {
     let state = Flanger {
         write_pos: *write_pos,
@@ -117,6 +118,7 @@ pub extern "C" fn room_raw_flanger_tick(
         sine1,
     );
     put_samples(ticked.answer, out);
+    *age = ticked.age;
     if let Answer::Refused(cause) = ticked.answer {
         return u32::from(cause);
     }

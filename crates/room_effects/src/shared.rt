@@ -1,5 +1,5 @@
 // What the calls of several effects share.
-ghost use Rattle.std.specs.Prelude.{◌≤◌, ◌≡◌};
+ghost use Rattle.std.specs.Prelude.{ℕ, ◌≤◌, ◌≡◌};
 ghost use Rattle.port.specs.Answer.{answer_reply};
 ghost use Rattle.room_effects.specs.Lent.{samples_from};
 ghost use Rattle.room_effects.specs.Ports.{port_at};
@@ -16,7 +16,7 @@ pub fn port_at(set: u32, weight: u32, x: f64) -> Port
 
 // The three samples of an answer, +0 on a refusal.
 pub fn put_samples(answer: Answer, out: &mut [f64; 3])
-    ensures { out.new ≡ samples_from 0 3 (answer_reply answer) }
+    ensures { (age : ℕ) → out.new ≡ samples_from 0 3 (answer_reply answer age) }
 {
     *out = [answer.first(), answer.second(), answer.third()];
 }

@@ -2,7 +2,7 @@
 ghost use Rattle.effect.specs.Run.{retune, reset, device_of};
 ghost use Rattle.effect.specs.Contract.{lent_at, from_to};
 ghost use Rattle.vibrato.specs.Vibrato.{vibrato, tick_of, state_of};
-ghost use Rattle.room_effects.specs.Lent.{StartReturns, CallReturns, TickReturns, AskReturns};
+ghost use Rattle.room_effects.specs.Lent.{StartReturns, CallReturns, AgedReturns, AskReturns};
 ghost use Rattle.room_effects.specs.Ports.{port_at};
 ghost use Rattle.std.specs.Prelude.{[], ◌∷◌};
 
@@ -95,10 +95,11 @@ pub extern "C" fn room_raw_vibrato_tick(
     frequency: f64,
     sine: f64,
     out: &mut f64,
+    age: &mut u32,
 ) -> u32
     ensures { from_to (λ k. device_of (state_of (lent_at write_pos k) (lent_at lfo_phase k) sample_rate) (lent_at memory k))
-        (λ u u'. TickReturns vibrato 1 (tick_of (port_at set 1 audio) (port_at set 2 depth) (port_at set 4 mix) frequency sine) u u'
-        (out.new ∷ []) result) }
+        (λ u u'. AgedReturns vibrato 1 (tick_of (port_at set 1 audio) (port_at set 2 depth) (port_at set 4 mix) frequency sine) u u'
+        (out.new ∷ []) age.new result) }
 {
     let state = Vibrato {
         write_pos: *write_pos,
@@ -114,6 +115,7 @@ pub extern "C" fn room_raw_vibrato_tick(
         sine,
     );
     *out = ticked.answer.first();
+    *age = ticked.age;
     if let Answer::Refused(cause) = ticked.answer {
         return u32::from(cause);
     }

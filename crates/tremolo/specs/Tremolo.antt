@@ -90,6 +90,7 @@ page =
       next = λ t s m. next t s;
       writes = λ t s m. [];
       samples = λ t s m. samples t s;
+      reads = λ t s. [];
       input = input;
       quiet = λ s. true;
     }

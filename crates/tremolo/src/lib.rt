@@ -111,7 +111,7 @@ impl Tremolo {
         frequency: f64,
         sine: f64,
     ) -> Ticked<Tremolo>
-        ensures { Does tremolo (tick (tick_of audio depth shape frequency sine)) self [] result.state [] (answer_reply result.answer) }
+        ensures { Does tremolo (tick (tick_of audio depth shape frequency sine)) self [] result.state [] (answer_reply result.answer result.age) }
     {
         if let Err(cause) = self.checked(0) {
             return Ticked::refused(self, cause);
@@ -137,6 +137,7 @@ impl Tremolo {
                 sample_rate: rate,
             },
             answer: Answer::One(y),
+            age: 0,
         }
     }
 }

@@ -10,6 +10,8 @@ use lib.Ieee as Ieee
 use Rattle.float64.specs.Number.{half, is_number}
 use Rattle.common.specs.Signal.{blended, advanced}
 use Rattle.common.specs.Line.{newest_first}
+use Rattle.common.specs.Reads.{age_at}
+use Rattle.common.proofs.Ages.{oldest-one}
 use Rattle.common.proofs.Ring.{read_line}
 use Rattle.common.proofs.Sweep.{control-in}
 use Rattle.float64.proofs.Parts.{parts-of}
@@ -19,11 +21,11 @@ use Rattle.effect.proofs.LineLaws.{LineLaws}
 use Rattle.effect.proofs.Lines.{read_of}
 use Rattle.effect.proofs.Demand3.{demand-3}
 use Rattle.vibrato.specs.declared.Vibrato.{Vibrato}
-use Rattle.vibrato.specs.Vibrato.{Tick, vibrato, lines, state_fits, line_length, tick_number, input, depth, mix, distance, delayed, next, writes, samples}
+use Rattle.vibrato.specs.Vibrato.{Tick, vibrato, lines, state_fits, line_length, tick_number, input, depth, mix, distance, read, delayed, next, writes, samples}
 use Rattle.vibrato.proofs.Laws.{fits-parts, length-fits, tick-fits, distance-in}
 use Rattle.vibrato.proofs.Demand1.{laws}
 
--- what a tick at the rate answers where the line, read newest to oldest, is l
+-- what a tick at the rate answers where the line, read newest to largest_age, is l
 abbrev heard : Tick → Float → List Float → List Float
 heard t rate l = blended (input t) (read_line l (distance rate (depth t) t.sine)) (mix t) ∷ []
 
@@ -53,6 +55,8 @@ line-laws =
       next-phase = λ t s m. refl;
       played = λ t rate phase l. heard t rate l;
       plays = λ t s m l f r n e. plays t s m l f n (e 0 (omega arith));
+      age = λ t rate. age_at (distance rate (depth t) t.sine);
+      ages = λ t s. oldest-one (read t s);
     }
 
 pub shown3 : (x y : Run vibrato) → Demand3 vibrato lines x y

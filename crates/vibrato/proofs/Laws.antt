@@ -23,6 +23,8 @@ use Rattle.port.specs.Answer.{Reply, played}
 use Rattle.port.proofs.Laws.{nan_is}
 use Rattle.common.specs.Signal.{blended, advanced, cause_number}
 use Rattle.common.specs.Line.{next_place, line_at, read_at}
+use Rattle.common.specs.Reads.{age_at, largest_age}
+use Rattle.common.proofs.Ages.{oldest-one}
 use Rattle.common.proofs.Slices.{front-set}
 use Rattle.common.proofs.Ring.{front-line}
 use Rattle.common.proofs.Sweep.{no-cause, neither, control-in}
@@ -34,7 +36,7 @@ use Rattle.effect.proofs.Table.{accepted, tick-accepted}
 use Rattle.effect.proofs.Contract.{accepts}
 use Rattle.effect.proofs.Rows.{tick_row, unit, first-long, first-does}
 use Rattle.vibrato.specs.declared.Vibrato.{Vibrato}
-use Rattle.vibrato.specs.Vibrato.{Tick, tick_of, vibrato, line_length, state_fits, tick_number, input, depth, mix, distance_in, distance, delayed, next, writes}
+use Rattle.vibrato.specs.Vibrato.{Tick, tick_of, vibrato, line_length, state_fits, tick_number, input, depth, mix, distance_in, distance, read, reads, delayed, next, writes}
 use Rattle.vibrato.specs.Vibrato as page
 
 -- ---- the line's length
@@ -140,13 +142,17 @@ ready {t} {s} {m} e k =
 
 -- from its steps
 module _ (t : Tick) (s : Vibrato) (m : List Float) (e : length m ≡ line_length s.sample_rate) where
-  pub delayed-is : {d x y : Float} → d ≡ depth t → x ≡ distance_in (length m) s.sample_rate d t.sine → y ≡ read_at (line_at 0 (length m) s.write_pos m) x
-      → y ≡ delayed t s m
-  unfolding delayed
-  delayed-is {d} {x} g at r =
-      r
-      ∙ ap (λ (z : Float). read_at (line_at 0 (length m) s.write_pos m) z) at
-      ∙ (λ j. read_at (line_at 0 (e j) s.write_pos m) (distance_in (e j) s.sample_rate (g j) t.sine))
+  pub distance-is : {d x : Float} → d ≡ depth t → x ≡ distance_in (length m) s.sample_rate d t.sine → x ≡ distance s.sample_rate (depth t) t.sine
+  distance-is g at = at ∙ (λ i. distance_in (e i) s.sample_rate (g i) t.sine)
+
+  -- what a read at that distance hands back
+  module _ {x : Float} (at : x ≡ distance s.sample_rate (depth t) t.sine) where
+    pub delayed-is : {y : Float} → y ≡ read_at (line_at 0 (length m) s.write_pos m) x → y ≡ delayed t s m
+    unfolding delayed
+    delayed-is r = r ∙ (λ i. read_at (line_at 0 (e i) s.write_pos m) (at i))
+
+    pub age-is : {a : ℕ} → a ≡ age_at x → a ≡ largest_age (reads t s)
+    age-is r = r ∙ ap age_at at ∙ sym (oldest-one (read t s))
 
   pub next-is : {r : Vibrato} → r.write_pos ≡ next_place (length m) s.write_pos
       → r.lfo_phase ≡ advanced s.lfo_phase (div binary64 t.frequency s.sample_rate)
@@ -162,9 +168,10 @@ module _ (t : Tick) (s : Vibrato) (m : List Float) (e : length m ≡ line_length
     unfolding writes
     stored_is = let p : s.write_pos ≡ 0 * line_length s.sample_rate + s.write_pos = omega arith in λ i. set m (p i) (audio i)
 
-    pub played-is : {y b r : Float} → y ≡ delayed t s m → b ≡ mix t → r ≡ blended x y b → played (r ∷ []) ≡ played (page.samples t s m)
+    pub played-is : {y b r : Float} {a : ℕ} → y ≡ delayed t s m → b ≡ mix t → r ≡ blended x y b → a ≡ largest_age (reads t s)
+        → played (r ∷ []) a ≡ played (page.samples t s m) (largest_age (reads t s))
     unfolding page.samples
-    played-is y b r = ap (λ (z : Float). played (z ∷ [])) (r ∙ (λ i. blended (audio i) (y i) (b i)))
+    played-is y b r a = λ i. played ((r ∙ (λ j. blended (audio j) (y j) (b j))) i ∷ []) (a i)
 
 -- ---- an accepted tick: what it does in the line, which is the first n places of the memory, it does in the memory
 
@@ -207,4 +214,5 @@ module _ (t : Tick) {x d b : Float} (audio : x ≡ value_or t.audio plus_zero) (
       (rw k at does.state)
       ((rw k at does.memory) ∙ (λ i. laid (in_each 1 0 L w (audio i)) m))
       ((rw k at does.answer)
-      ∙ (λ i. played (blended (audio i) (read_at (line_at 0 L w m) (distance rate (clamp_of (amount i) plus_zero (float_of 1)) t.sine)) (clamp_of (wet i) plus_zero (float_of 1)) ∷ [])))
+      ∙ (λ i. played (blended (audio i) (read_at (line_at 0 L w m) (distance rate (clamp_of (amount i) plus_zero (float_of 1)) t.sine)) (clamp_of (wet i) plus_zero (float_of 1)) ∷ [])
+      (largest_age (reads (tick_of (Set (audio i)) (Set (amount i)) (Set (wet i)) t.frequency t.sine) s))))

@@ -2,3 +2,4 @@ pub mod Laws
 pub mod Demand1
 pub mod Demand3
 pub mod StaysSilent
+pub mod HearsBack

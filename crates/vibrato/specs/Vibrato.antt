@@ -6,7 +6,8 @@ use Rattle.float64.specs.Number.{plus_zero, float_of, fraction, half, rate_fits,
 use Rattle.port.specs.declared.Port.{Port}
 use Rattle.port.specs.Port.{value_or, is_nan_set}
 use Rattle.common.specs.Signal.{blended, advanced, cause_number}
-use Rattle.common.specs.Line.{swept_length, line_at, read_at, next_place}
+use Rattle.common.specs.Line.{swept_length, next_place}
+use Rattle.common.specs.Reads.{Read, heard}
 use Rattle.effect.specs.Parts.{first_places}
 use Rattle.effect.specs.Effect.{Effect, Page, effect_of, Write}
 use Rattle.effect.specs.Lines.{Lines, in_each}
@@ -69,10 +70,15 @@ distance_in L rate depth sine =
 abbrev pub distance : Float → Float → Float → Float
 distance rate depth sine = distance_in (line_length rate) rate depth sine
 
--- what the line holds at that distance, before the store
+-- the read of the line at that distance
+abbrev pub read : Tick → Vibrato → Read
+read t s =
+    let rate = s.sample_rate in
+    record { start = 0; size = line_length rate; position = s.write_pos; distance = distance rate (depth t) t.sine }
+
+-- what it hears, before the store
 unfoldable pub delayed : Tick → Vibrato → List Float → Float
-delayed t s m =
-    read_at (line_at 0 (line_length s.sample_rate) s.write_pos m) (distance s.sample_rate (depth t) t.sine)
+delayed t s m = heard (read t s) m
 
 -- the position moves on by one place, the phase by frequency / rate
 unfoldable pub next : Tick → Vibrato → Vibrato
@@ -87,6 +93,9 @@ writes t s = in_each 1 0 (line_length s.sample_rate) s.write_pos (input t)
 -- audio × (1 − mix) + delayed × mix
 unfoldable pub samples : Tick → Vibrato → List Float → List Float
 samples t s m = blended (input t) (delayed t s m) (mix t) ∷ []
+
+abbrev pub reads : Tick → Vibrato → List Read
+reads t s = read t s ∷ []
 
 -- ---- the effect
 
@@ -107,6 +116,7 @@ page =
       next = λ t s m. next t s;
       writes = λ t s m. writes t s;
       samples = samples;
+      reads = reads;
       input = input;
       quiet = λ s. true;
     }

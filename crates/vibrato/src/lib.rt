@@ -128,7 +128,7 @@ impl Vibrato {
         requires places_value { length places.old ≡ line_length self.sample_rate }
         requires tick_accepted { number_in vibrato (tick (tick_of (Set audio) (Set depth) (Set mix) frequency sine)) (length places.old) self ≡ 0 }
         ensures { Does vibrato (tick (tick_of (Set audio) (Set depth) (Set mix) frequency sine)) self places.old result.state
-            places.new (answer_reply result.answer) }
+            places.new (answer_reply result.answer result.age) }
     {
         let rate = self.sample_rate;
         let phase = common::advance_phase(self.lfo_phase, frequency / rate);
@@ -148,7 +148,8 @@ impl Vibrato {
         places[w] = audio;
         Ticked {
             state,
-            answer: Answer::One(common::blend(audio, delayed, wet)),
+            answer: Answer::One(common::blend(audio, delayed.sample, wet)),
+            age: delayed.age,
         }
     }
 
@@ -164,7 +165,7 @@ impl Vibrato {
         sine: f64,
     ) -> Ticked<Vibrato>
         ensures { Does vibrato (tick (tick_of audio depth mix frequency sine)) self mem.old result.state mem.new
-            (answer_reply result.answer) }
+            (answer_reply result.answer result.age) }
     {
         let n = match self.checked(mem.len()) {
             Ok(n) => n,

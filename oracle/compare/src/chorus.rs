@@ -1,5 +1,6 @@
 //! The chorus: ours, with one line for its three voices, beside the Rust's, which has a line for each.
 
+use crate::ages::{self, Sweep};
 use crate::lines::Effect;
 use crate::tick::{Form, AS_IT_IS, DEPTH, MIX, SINE};
 
@@ -18,6 +19,7 @@ impl Effect for Chorus {
         sines: &[(0, AS_IT_IS), (1, AS_IT_IS), (2, AS_IT_IS)],
     };
     const STEPS: &'static [f64] = &[0.9, 1.0, 1.1];
+    const SWEEP: Sweep = ages::chorus;
     type Ours = room_effects::chorus::Chorus;
     type Rust = quiver_oracle::chorus::Unit;
 }

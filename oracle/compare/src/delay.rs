@@ -5,12 +5,14 @@
 //! what it should be at every clearing, at every refusal, at every 64th tick of a unit (of a long line, more seldom) and at the
 //! end of the run.
 
+mod aged;
 mod call;
 mod directed;
 mod draw;
 mod long;
 mod record;
 
+use crate::ages::{self, Compared};
 use crate::bits::{agree, same_count, untouched, JUNK};
 use crate::memory::{self, Memory};
 use crate::random::Random;
@@ -32,12 +34,14 @@ pub struct Delay<const LINEAR: bool> {
     memory: Memory,
     rust: Unit,
     ticks: u64,
+    ages: Compared,
 }
 
 /// The cases that random ticks don't meet, then a random run.
 pub fn run<const LINEAR: bool>(ticks: u64, seed: u64) -> Result<String, String> {
-    directed::run::<LINEAR>(seed)?;
-    run::run::<Delay<LINEAR>>(ticks, seed)
+    let directed = directed::run::<LINEAR>(seed)?.and(aged::run::<LINEAR>()?);
+    let said = run::run::<Delay<LINEAR>>(ticks, seed)?;
+    Ok(format!("{said}; directed{}", directed.shown()))
 }
 
 fn junk_state() -> State {
@@ -101,6 +105,7 @@ impl<const LINEAR: bool> Pair for Delay<LINEAR> {
         table::CONTROL,
         table::CURVE,
     ];
+    const AGED: bool = true;
     type Call = Call;
 
     /// The coefficient is the Rust's own.
@@ -147,6 +152,10 @@ impl<const LINEAR: bool> Pair for Delay<LINEAR> {
     fn finish(&self) -> Result<(), String> {
         self.all_agrees()
     }
+
+    fn ages(&self) -> Compared {
+        self.ages
+    }
 }
 
 impl<const LINEAR: bool> Delay<LINEAR> {
@@ -157,6 +166,7 @@ impl<const LINEAR: bool> Delay<LINEAR> {
             memory: Memory::junk(0, 0),
             rust: rust_of(settings),
             ticks: 0,
+            ages: Compared::default(),
         };
         let lent = places(settings) as usize + spare;
         number_agrees(0, Call::start_in(lent, *settings, 0).number())?;
@@ -196,6 +206,7 @@ impl<const LINEAR: bool> Delay<LINEAR> {
             memory,
             rust: rust_of(settings),
             ticks: 0,
+            ages: self.ages,
         };
         next.all_agrees()?;
         same_count(
@@ -235,14 +246,16 @@ impl<const LINEAR: bool> Delay<LINEAR> {
             self.rust_at(&call.state);
         }
         let mut state = call.state;
-        let mut out = JUNK;
+        let (mut out, mut age) = (JUNK, JUNK as u32);
         let lent = self.memory.lend(call.lent);
-        number_agrees(ours::tick(&mut state, lent, t, &mut out), number)?;
+        number_agrees(ours::tick(&mut state, lent, t, &mut out, &mut age), number)?;
         if number != 0 {
             untouched("out of a refused tick", 0.0, out)?;
+            self.ages.with_none(age)?;
             return self.refused(&call.state, &state);
         }
         agree("out", out, in_rust(&mut self.rust, t))?;
+        self.age_agrees(age, &call.state, t)?;
         self.state = state;
         let written = call.state.write_pos as usize;
         self.memory.written(written, self.rust.line()[written])?;
@@ -251,6 +264,14 @@ impl<const LINEAR: bool> Delay<LINEAR> {
             return self.all_agrees();
         }
         self.states_agree()
+    }
+
+    /// The age of an accepted tick from this state; the Rust's unit has just made it too, and keeps the distance at which it read.
+    fn age_agrees(&mut self, age: u32, before: &State, t: &Tick) -> Result<(), String> {
+        let length = length(before);
+        let read = ages::delay(before, t, length);
+        agree("distance read", read, self.rust.moving().smoothed_delay)?;
+        self.ages.with(age, &[read], length)
     }
 
     /// The Rust's unit gets the state that ours is handed: at another rate, with a line of another length. (Before a retune that

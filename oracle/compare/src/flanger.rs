@@ -1,8 +1,8 @@
 //! The flanger: ours beside the Rust's.
 
+use crate::ages::{self, Sweep};
 use crate::frames;
-use crate::lines::{Effect, Lines};
-use crate::run;
+use crate::lines::{self, Effect};
 use crate::tick::{Form, DEPTH, FEEDBACK, MIX, SIDES, SINE};
 use quiver_oracle::flanger::Unit;
 
@@ -21,14 +21,15 @@ impl Effect for Flanger {
     };
     const STEPS: &'static [f64] = &[1.0];
     const FEEDS_BACK: bool = true;
+    const SWEEP: Sweep = ages::flanger;
     type Ours = room_effects::flanger::Flanger;
     type Rust = Unit;
 }
 
-/// The Rust's tick on plain frames, then a random run.
+/// The Rust's tick on plain frames, then directed cases and a random run.
 pub fn run(ticks: u64, seed: u64) -> Result<String, String> {
     frames::agree::<Unit>(seed, &Flanger::FORM, |unit, t, tick| {
         Flanger::FORM.with_sines(unit, t, Flanger::FORM.curves_of(t), tick)
     })?;
-    run::run::<Lines<Flanger>>(ticks, seed)
+    lines::run::<Flanger>(ticks, seed)
 }

@@ -5,13 +5,15 @@
 //! of the Rust's lines correspond to one of ours, ours is compared with each of them.
 
 mod call;
+mod directed;
 mod draw;
 mod record;
 
+use crate::ages::{self, Compared, Sweep};
 use crate::bits::{agree, same_count, untouched, JUNK};
 use crate::memory::{self, Memory, Quiet};
 use crate::random::Random;
-use crate::run::{number_agrees, silent_agrees, Made, Pair};
+use crate::run::{self, number_agrees, silent_agrees, Made, Pair};
 use crate::table;
 use crate::tick::Form;
 use call::{Call, What};
@@ -46,6 +48,9 @@ pub trait Effect {
     /// Whether what a line plays goes back into it. What is not ordinary would then stay, and spread until all is NaN.
     const FEEDS_BACK: bool = false;
 
+    /// How far back the read with each of the sines lies.
+    const SWEEP: Sweep;
+
     type Ours: room_effects::Lined;
     type Rust: quiver_oracle::Lined;
 }
@@ -55,6 +60,14 @@ pub struct Lines<E: Effect> {
     memory: Memory,
     rust: E::Rust,
     ticks: u64,
+    ages: Compared,
+}
+
+/// The cases that random ticks don't meet, then a random run.
+pub fn run<E: Effect>(ticks: u64, seed: u64) -> Result<String, String> {
+    let directed = directed::run::<E>()?;
+    let said = run::run::<Lines<E>>(ticks, seed)?;
+    Ok(format!("{said}; directed{}", directed.shown()))
 }
 
 fn junk_state() -> State {
@@ -76,6 +89,16 @@ fn needed<E: Effect>(rate: f64) -> usize {
     (length::<E>(rate) as usize).saturating_mul(E::LINES)
 }
 
+/// How far back a tick's reads lie.
+fn distances<E: Effect>(rate: f64, t: &Tick) -> Vec<f64> {
+    let [_audio, depth, ..] = E::FORM.ports_read(t);
+    let sines = E::FORM.curves_of(t).iter();
+    let swept = sines.map(|sine| (E::SWEEP)(rate, ages::depth(depth), *sine));
+    swept
+        .map(|distance| ages::in_line(distance, length::<E>(rate)))
+        .collect()
+}
+
 impl<E: Effect> Pair for Lines<E> {
     const NAME: &'static str = E::NAME;
     const REFUSALS: &'static [u32] = &[
@@ -85,6 +108,7 @@ impl<E: Effect> Pair for Lines<E> {
         table::CONTROL,
         table::CURVE,
     ];
+    const AGED: bool = true;
     type Call = Call;
 
     fn start(sample_rate: f64, _random: &mut Random) -> Result<Self, String> {
@@ -94,6 +118,7 @@ impl<E: Effect> Pair for Lines<E> {
             memory: Memory::junk(0, 0),
             rust: E::Rust::new(sample_rate),
             ticks: 0,
+            ages: Compared::default(),
         };
         unit.call(&call)?;
         Ok(unit)
@@ -124,6 +149,10 @@ impl<E: Effect> Pair for Lines<E> {
 
     fn finish(&self) -> Result<(), String> {
         self.all_agrees()
+    }
+
+    fn ages(&self) -> Compared {
+        self.ages
     }
 }
 
@@ -184,19 +213,24 @@ impl<E: Effect> Lines<E> {
             self.rust_at(&call.state);
         }
         let mut state = call.state;
-        let mut out = [JUNK; MOST];
+        let (mut out, mut age) = ([JUNK; MOST], JUNK as u32);
         let lent = self.memory.lend(call.lent);
-        number_agrees(E::Ours::tick(&mut state, lent, t, &mut out), number)?;
+        let ours = E::Ours::tick(&mut state, lent, t, &mut out, &mut age);
+        number_agrees(ours, number)?;
         if number != 0 {
             out[..E::SAMPLES]
                 .iter()
                 .try_for_each(|out| untouched("out of a refused tick", 0.0, *out))?;
+            self.ages.with_none(age)?;
             return self.refused(&call.state, &state);
         }
         let rust = E::FORM.in_rust(&mut self.rust, t)?;
         for (ours, rust) in out.into_iter().zip(rust).take(E::SAMPLES) {
             agree("out", ours, rust)?;
         }
+        let rate = call.state.sample_rate;
+        self.ages
+            .with(age, &distances::<E>(rate, t), length::<E>(rate))?;
         self.state = state;
         self.written_agrees(call.state.write_pos as usize)?;
         self.ticks += 1;

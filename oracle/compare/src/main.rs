@@ -1,4 +1,5 @@
-//! Ticks our effects and the Rust's side by side and compares them bit for bit.
+//! Ticks our effects and the Rust's side by side and compares them bit for bit. The Rust knows no ages: those that our ticks answer
+//! are held against a reading of their own (ages.rs).
 //!
 //!     compare EFFECT --ticks N [--seed S]        compare N accepted ticks, and refused calls between them; the delay's rows are
 //!                                                delay, linear_delay and long_delay
@@ -7,6 +8,7 @@
 //!
 //! Exit status: 0 all agree; 1 a difference, which is printed; 2 bad usage.
 
+mod ages;
 mod bits;
 mod chorus;
 mod delay;
@@ -25,7 +27,6 @@ mod unlined;
 mod vibrato;
 mod whole_part;
 
-use lines::Lines;
 use std::process::exit;
 use std::{env, fs};
 use unlined::Unlined;
@@ -45,12 +46,12 @@ const EFFECTS: [Effect; 10] = [
     },
     Effect {
         name: "vibrato",
-        run: run::run::<Lines<vibrato::Vibrato>>,
+        run: lines::run::<vibrato::Vibrato>,
         record: lines::record::<vibrato::Vibrato>,
     },
     Effect {
         name: "chorus",
-        run: run::run::<Lines<chorus::Chorus>>,
+        run: lines::run::<chorus::Chorus>,
         record: lines::record::<chorus::Chorus>,
     },
     Effect {

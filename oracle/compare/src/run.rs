@@ -1,7 +1,8 @@
 //! A long random run of one effect: several units, each ours beside the Rust's, call after call.
 
+use crate::ages::Compared;
 use crate::random::{Random, COMMON_RATES};
-use crate::table::NUMBERS;
+use crate::table::{CONTROL, CURVE, NUMBERS};
 
 /// One unit of an effect on both sides, in lockstep.
 pub trait Pair: Sized {
@@ -9,6 +10,9 @@ pub trait Pair: Sized {
 
     /// The table's numbers that this effect's calls can give.
     const REFUSALS: &'static [u32];
+
+    /// Whether its ticks answer ages.
+    const AGED: bool = false;
 
     /// A call with its arguments, the state handed to it among them.
     type Call;
@@ -28,6 +32,11 @@ pub trait Pair: Sized {
     /// The end of the run: compare what `call` compares only now and then.
     fn finish(&self) -> Result<(), String> {
         Ok(())
+    }
+
+    /// The ages that were compared so far; none of an effect that answers none.
+    fn ages(&self) -> Compared {
+        Compared::default()
     }
 }
 
@@ -65,13 +74,19 @@ impl Tally {
         }
     }
 
-    fn shown<P: Pair>(&self) -> String {
+    /// So many ticks at least were refused: no other call gives these two numbers.
+    fn refused_ticks(&self) -> u64 {
+        self.refused[CONTROL as usize] + self.refused[CURVE as usize]
+    }
+
+    fn shown<P: Pair>(&self, ages: Compared) -> String {
         let each = |number: &u32| format!("{} by number {number}", self.refused[*number as usize]);
         let refused = P::REFUSALS.iter().map(each).collect::<Vec<_>>().join(", ");
         format!(
-            "{}: {} ticks compared, {} other calls, refused: {refused}",
+            "{}: {} ticks compared{}, {} other calls, refused: {refused}",
             P::NAME,
             self.ticks,
+            ages.shown(),
             self.others
         )
     }
@@ -101,12 +116,17 @@ pub fn run<P: Pair>(ticks: u64, seed: u64) -> Result<String, String> {
         }
     }
     units.iter().try_for_each(P::finish)?;
+    let ages = units.iter().map(P::ages);
+    let ages = ages.fold(Compared::default(), Compared::and);
     let missing = P::REFUSALS
         .iter()
         .find(|number| tally.refused[**number as usize] == 0);
     match missing {
         Some(number) if ticks >= LONG => Err(format!("no call was refused by number {number}")),
-        _ => Ok(tally.shown::<P>()),
+        _ if P::AGED && !ages.covers(tally.ticks, tally.refused_ticks()) => {
+            Err("the age of some tick was not compared".into())
+        }
+        _ => Ok(tally.shown::<P>(ages)),
     }
 }
 

@@ -90,7 +90,7 @@ impl Form {
     }
 
     /// The ports as document 01 has them, each a number or unset.
-    fn ports_read(&self, t: &Tick) -> [Option<f64>; MOST_PORTS] {
+    pub fn ports_read(&self, t: &Tick) -> [Option<f64>; MOST_PORTS] {
         std::array::from_fn(|i| ((t.set & self.all_set()) >> i & 1 == 1).then_some(t.ports[i]))
     }
 

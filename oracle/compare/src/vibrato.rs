@@ -1,5 +1,6 @@
 //! The vibrato: ours beside the Rust's.
 
+use crate::ages::{self, Sweep};
 use crate::lines::Effect;
 use crate::tick::{Form, AS_IT_IS, DEPTH, MIX, SINE};
 
@@ -17,6 +18,7 @@ impl Effect for Vibrato {
         sines: &[(0, AS_IT_IS)],
     };
     const STEPS: &'static [f64] = &[1.0];
+    const SWEEP: Sweep = ages::vibrato;
     type Ours = room_effects::vibrato::Vibrato;
     type Rust = quiver_oracle::vibrato::Unit;
 }

@@ -59,6 +59,7 @@ extern "C" {
         mix: f64,
         milliseconds: f64,
         out: &mut f64,
+        age: &mut u32,
     ) -> u32;
     fn room_raw_delay_silent(
         write_pos: u64,
@@ -167,7 +168,7 @@ pub fn reset(state: &mut State, memory: &mut [f64]) -> u32 {
 }
 
 #[inline(always)]
-pub fn tick(state: &mut State, memory: &mut [f64], t: &Tick, out: &mut f64) -> u32 {
+pub fn tick(state: &mut State, memory: &mut [f64], t: &Tick, out: &mut f64, age: &mut u32) -> u32 {
     let [audio, time, feedback, mix] = t.ports;
     unsafe {
         room_raw_delay_tick(
@@ -187,6 +188,7 @@ pub fn tick(state: &mut State, memory: &mut [f64], t: &Tick, out: &mut f64) -> u
             mix,
             t.milliseconds,
             out,
+            age,
         )
     }
 }

@@ -18,6 +18,7 @@ extern "C" {
         sine0: f64,
         sine1: f64,
         out: &mut [f64; 3],
+        age: &mut u32,
     ) -> u32;
     fn room_raw_flanger_silent(
         pos: u64,
@@ -36,7 +37,13 @@ lined! {
     room_raw_flanger_reset,
 
     #[inline(always)]
-    fn tick(state: &mut State, memory: &mut [f64], t: &Tick, out: &mut [f64; 3]) -> u32 {
+    fn tick(
+        state: &mut State,
+        memory: &mut [f64],
+        t: &Tick,
+        out: &mut [f64; 3],
+        age: &mut u32,
+    ) -> u32 {
         let [audio, depth, feedback, mix] = t.ports;
         let [sine0, sine1, _] = t.curves;
         unsafe {
@@ -55,6 +62,7 @@ lined! {
                 sine0,
                 sine1,
                 out,
+                age,
             )
         }
     }

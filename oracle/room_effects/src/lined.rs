@@ -19,7 +19,14 @@ pub trait Lined {
 
     fn reset(state: &mut State, memory: &mut [f64]) -> u32;
 
-    fn tick(state: &mut State, memory: &mut [f64], t: &Tick, out: &mut [f64; MOST]) -> u32;
+    /// Beside the samples, the age in ticks of the oldest sample that its reads weighed above 0; 0 where it is refused.
+    fn tick(
+        state: &mut State,
+        memory: &mut [f64],
+        t: &Tick,
+        out: &mut [f64; MOST],
+        age: &mut u32,
+    ) -> u32;
 
     fn silent(state: &State, memory: &[f64], out: &mut u32) -> u32;
 }

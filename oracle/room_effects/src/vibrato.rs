@@ -16,6 +16,7 @@ extern "C" {
         frequency: f64,
         sine: f64,
         out: &mut f64,
+        age: &mut u32,
     ) -> u32;
     fn room_raw_vibrato_silent(
         pos: u64,
@@ -34,7 +35,13 @@ lined! {
     room_raw_vibrato_reset,
 
     #[inline(always)]
-    fn tick(state: &mut State, memory: &mut [f64], t: &Tick, out: &mut [f64; MOST]) -> u32 {
+    fn tick(
+        state: &mut State,
+        memory: &mut [f64],
+        t: &Tick,
+        out: &mut [f64; MOST],
+        age: &mut u32,
+    ) -> u32 {
         let [audio, depth, mix, _] = t.ports;
         let [sine, ..] = t.curves;
         unsafe {
@@ -51,6 +58,7 @@ lined! {
                 t.frequency,
                 sine,
                 &mut out[0],
+                age,
             )
         }
     }

@@ -86,11 +86,12 @@ uint32_t __wrap_room_raw_delay_silent(uint64_t pos, double distance, uint32_t pr
 /* 7: an audio of -0 is stored as the smallest sound. 8: infinite milliseconds come out as no number. */
 uint32_t __wrap_room_raw_delay_tick(uint64_t *pos, double *distance, uint32_t *primed, double rate, double coefficient,
                                     double maximum, uint32_t linear, double *memory, uint64_t places, uint32_t set,
-                                    double audio, double time, double feedback, double mix, double milliseconds, double *out)
+                                    double audio, double time, double feedback, double mix, double milliseconds, double *out,
+                                    uint32_t *age)
 {
     const uint64_t at = *pos;
     const uint32_t number = __real_room_raw_delay_tick(pos, distance, primed, rate, coefficient, maximum, linear, memory,
-                                                       places, set, audio, time, feedback, mix, milliseconds, out);
+                                                       places, set, audio, time, feedback, mix, milliseconds, out, age);
     if (broken(7) && number == 0u && (set & 1u) != 0u && audio == 0.0 && signbit(audio)) {
         memory[at] = 0x1p-1074;
     }
@@ -103,10 +104,10 @@ uint32_t __wrap_room_raw_delay_tick(uint64_t *pos, double *distance, uint32_t *p
 /* 9: samples of -0 come out as +0. */
 uint32_t __wrap_room_raw_chorus_tick(uint64_t *pos, double *phases, double rate, double *memory, uint64_t places, uint32_t set,
                                      double audio, double depth, double mix, double frequency, double sine0, double sine1,
-                                     double sine2, double *out)
+                                     double sine2, double *out, uint32_t *age)
 {
     const uint32_t number = __real_room_raw_chorus_tick(pos, phases, rate, memory, places, set, audio, depth, mix, frequency,
-                                                        sine0, sine1, sine2, out);
+                                                        sine0, sine1, sine2, out, age);
     int i;
     for (i = 0; broken(9) && i < 3; i++) {
         out[i] = out[i] + 0.0;
@@ -128,10 +129,10 @@ uint32_t __wrap_room_raw_chorus_retune(double new_rate, double *memory, uint64_t
 /* 11: no input rule. */
 uint32_t __wrap_room_raw_flanger_tick(uint64_t *pos, double *phase, double rate, double *memory, uint64_t places, uint32_t set,
                                       double audio, double depth, double feedback, double mix, double frequency, double sine0,
-                                      double sine1, double *out)
+                                      double sine1, double *out, uint32_t *age)
 {
     const uint32_t number = __real_room_raw_flanger_tick(pos, phase, rate, memory, places, set, audio, depth, feedback, mix,
-                                                         frequency, sine0, sine1, out);
+                                                         frequency, sine0, sine1, out, age);
     if (broken(11) && number == 0u && (set & 1u) != 0u && !isfinite(audio)) {
         out[2] = audio;
     }
@@ -148,12 +149,17 @@ uint32_t __wrap_room_raw_flanger_reset(double *memory, uint64_t places, uint64_t
     return number;
 }
 
-/* 13: the input rule where there is none. */
+/* 13: the input rule where there is none. 17: a refused tick leaves the age that was there. */
 uint32_t __wrap_room_raw_vibrato_tick(uint64_t *pos, double *phase, double rate, double *memory, uint64_t places, uint32_t set,
-                                      double audio, double depth, double mix, double frequency, double sine, double *out)
+                                      double audio, double depth, double mix, double frequency, double sine, double *out,
+                                      uint32_t *age)
 {
-    return __real_room_raw_vibrato_tick(pos, phase, rate, memory, places, set, broken(13) && !isfinite(audio) ? 0.0 : audio,
-                                        depth, mix, frequency, sine, out);
+    const uint32_t before = *age;
+    const double heard = broken(13) && !isfinite(audio) ? 0.0 : audio;
+    const uint32_t number = __real_room_raw_vibrato_tick(pos, phase, rate, memory, places, set, heard, depth, mix, frequency,
+                                                         sine, out, age);
+    *age = broken(17) && number != 0u ? before : *age;
+    return number;
 }
 
 /* 14: a depth that is not clamped: zero times infinity. */

@@ -2,17 +2,18 @@
 
 use super::call::{Call, What};
 use super::{places, Delay};
+use crate::ages::Compared;
 use crate::random::Random;
 use crate::run::Pair as _;
 use crate::table;
 use room_effects::delay::{Settings, State, Tick};
 
-pub fn run<const LINEAR: bool>(seed: u64) -> Result<(), String> {
+pub fn run<const LINEAR: bool>(seed: u64) -> Result<Compared, String> {
     lengths::<LINEAR>()?;
     maxima::<LINEAR>()?;
-    ends_of_the_line::<LINEAR>(&mut Random::new(seed))?;
-    beyond_the_maximum::<LINEAR>(&mut Random::new(seed))?;
-    zeros::<LINEAR>()
+    let ends = ends_of_the_line::<LINEAR>(&mut Random::new(seed))?;
+    let beyond = beyond_the_maximum::<LINEAR>(&mut Random::new(seed))?;
+    Ok(ends.and(beyond).and(zeros::<LINEAR>()?))
 }
 
 fn settings<const LINEAR: bool>(sample_rate: f64, maximum: f64) -> Settings {
@@ -100,7 +101,7 @@ fn reading<const LINEAR: bool>(unit: &Delay<LINEAR>, distance: f64, audio: f64) 
 
 /// Whole distances near both ends of a line, 0 among them, from every position, with a place before, at or behind the read that
 /// is not finite: both places read are multiplied always, and at length − 1 the second is the one to be written.
-fn ends_of_the_line<const LINEAR: bool>(random: &mut Random) -> Result<(), String> {
+fn ends_of_the_line<const LINEAR: bool>(random: &mut Random) -> Result<Compared, String> {
     let of = settings::<LINEAR>(8_000.0, 0.0025);
     let length = places(&of);
     let start = Delay::<LINEAR>::started(&of, 2)?;
@@ -130,13 +131,14 @@ fn ends_of_the_line<const LINEAR: bool>(random: &mut Random) -> Result<(), Strin
             }
         }
     }
-    Ok(())
+    Ok(unit.ages)
 }
 
 /// Linear times beyond the maximum, where maximum × 1000 × rate / 1000 comes out below length − 1: elsewhere the clamp of the
 /// distance would do for the clamp of the time.
-fn beyond_the_maximum<const LINEAR: bool>(random: &mut Random) -> Result<(), String> {
+fn beyond_the_maximum<const LINEAR: bool>(random: &mut Random) -> Result<Compared, String> {
     const RATE: f64 = 11_025.0;
+    let mut compared = Compared::default();
     let tells = |whole: &f64| {
         let maximum = whole / RATE;
         let far = table::delay_length(RATE, maximum) - 1;
@@ -166,12 +168,13 @@ fn beyond_the_maximum<const LINEAR: bool>(random: &mut Random) -> Result<(), Str
             };
             made(&mut unit, &call)?;
         }
+        compared = compared.and(unit.ages);
     }
-    Ok(())
+    Ok(compared)
 }
 
 /// +0 and −0 in audio, every control and the line, each with each: whose sign goes where.
-fn zeros<const LINEAR: bool>() -> Result<(), String> {
+fn zeros<const LINEAR: bool>() -> Result<Compared, String> {
     let mut unit = Delay::<LINEAR>::started(&settings::<LINEAR>(8_000.0, 0.001), 0)?;
     for signs in 0..64u32 {
         let zero = |i: u32| if signs >> i & 1 == 1 { -0.0 } else { 0.0 };
@@ -191,5 +194,5 @@ fn zeros<const LINEAR: bool>() -> Result<(), String> {
         };
         made(&mut unit, &call)?;
     }
-    Ok(())
+    Ok(unit.ages)
 }

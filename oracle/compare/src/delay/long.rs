@@ -45,8 +45,12 @@ pub fn run(ticks: u64, seed: u64) -> Result<String, String> {
     made(&mut unit, after, What::Reset, ticks)?;
     let cleared = unit.state;
     made(&mut unit, cleared, What::Silent(None), ticks)?;
+    if !unit.ages.covers(ticks, 0) {
+        return Err("the age of some tick was not compared".into());
+    }
     Ok(format!(
-        "long delay: {ticks} ticks compared in a line of {length} places"
+        "long delay: {ticks} ticks compared{} in a line of {length} places",
+        unit.ages.shown()
     ))
 }
 

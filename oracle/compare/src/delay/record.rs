@@ -1,7 +1,8 @@
 //! Stored answers of the Rust for the delay.
 
 use super::call::causes;
-use super::{draw, in_rust, KIND};
+use super::{draw, in_rust, length, KIND};
+use crate::ages;
 use crate::bits::word;
 use crate::random::Random;
 use crate::table;
@@ -43,7 +44,8 @@ const RESET: u64 = 2;
 const CLEARINGS: [(u64, Option<Pace>); 4] =
     [(3, None), (33, Some(HIGH)), (35, None), (73, Some(JUMP))];
 
-/// Answers of the Rust, and of nothing of ours, to accepted calls, for a program that replays them with no Rust at hand.
+/// Answers of the Rust, and of nothing of ours, to accepted calls, for a program that replays them with no Rust at hand. The Rust
+/// knows no ages: they are those of the reading.
 ///
 /// A file is one unit's calls from its start on, as those of the effects with sweeps are. First come six words for the start,
 /// which is no record, each a u64, little-endian:
@@ -57,7 +59,7 @@ const CLEARINGS: [(u64, Option<Pace>); 4] =
 /// | 4 | bits of the glide coefficient |
 /// | 5 | 1 for linear mode, 0 for exponential |
 ///
-/// Then a list of records of 11 words, with nothing between or after them:
+/// Then a list of records of 12 words, with nothing between or after them:
 ///
 /// | word | tick | retune | reset |
 /// |---|---|---|---|
@@ -69,6 +71,7 @@ const CLEARINGS: [(u64, Option<Pace>); 4] =
 /// | 8 | the position after the call, a plain number | likewise | likewise |
 /// | 9 | bits of the glide distance after the call | likewise | likewise |
 /// | 10 | 1 if primed after the call, else 0 | likewise | likewise |
+/// | 11 | the age, a plain number | 0 | 0 |
 ///
 /// A port that is unset has any float, which the tick must not read, and so has what the mode doesn't read. Every NaN, going in
 /// or coming out, is written as 0x7ff8000000000000.
@@ -130,6 +133,7 @@ fn cleared(unit: &mut Unit, pace: Option<&Pace>) -> Vec<u64> {
     };
     let mut words = vec![code, 0, 0, 0, 0, rate, coefficient, 0];
     words.extend(left(unit));
+    words.push(0);
     words
 }
 
@@ -137,11 +141,14 @@ fn ticked(unit: &mut Unit, t: &Tick) -> Result<Vec<u64>, String> {
     if table::first(&causes(t, unit.linear())) != 0 {
         return Err("a tick that is refused is not to be recorded".into());
     }
+    let before = state(unit);
+    let age = ages::of(&[ages::delay(&before, t, length(&before))]);
     let out = in_rust(unit, t);
     let mut words = vec![TICK, u64::from(t.set & 15)];
     words.extend(t.ports.map(word));
     words.extend([word(t.milliseconds), word(out)]);
     words.extend(left(unit));
+    words.push(age);
     Ok(words)
 }
 

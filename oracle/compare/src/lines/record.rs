@@ -1,6 +1,7 @@
 //! Stored answers of the Rust for an effect with lines.
 
-use super::{draw, length, Effect};
+use super::{distances, draw, length, Effect};
+use crate::ages;
 use crate::bits::word;
 use crate::random::Random;
 use quiver_oracle::{Effect as _, Lined as _};
@@ -20,7 +21,8 @@ const RESET: u64 = 2;
 const CLEARINGS: [(u64, Option<f64>); 4] =
     [(30, None), (40, Some(HIGH)), (70, None), (77, Some(LOW))];
 
-/// Answers of the Rust, and of nothing of ours, to accepted calls, for a program that replays them with no Rust at hand.
+/// Answers of the Rust, and of nothing of ours, to accepted calls, for a program that replays them with no Rust at hand. The Rust
+/// knows no ages: they are those of the reading.
 ///
 /// A file is one unit's calls from its start on, in order: each call goes to the state and the memory that the one before it
 /// left. All of it is words, each a u64, little-endian. First come three words for the start, which is no record:
@@ -43,14 +45,15 @@ const CLEARINGS: [(u64, Option<f64>); 4] =
 /// | one for each sample | the Rust's answer: its bits | 0 | 0 |
 /// | one | the position after the call, a plain number | likewise | likewise |
 /// | one for each phase | its bits after the call | likewise | likewise |
+/// | one | the age, a plain number | 0 | 0 |
 ///
 /// So the words of a record are:
 ///
-/// | effect | ports | frequency | sines | samples | position | phases | in all |
-/// |---|---|---|---|---|---|---|---|
-/// | 4 vibrato | 2 audio, 3 depth, 4 mix | 5 | 6 | 7 | 8 | 9 | 10 |
-/// | 2 chorus | 2 audio, 3 depth, 4 mix | 5 | 6 to 8 | 9 mono, 10 left, 11 right | 12 | 13 to 15 | 16 |
-/// | 3 flanger | 2 audio, 3 depth, 4 feedback, 5 mix | 6 | 7, 8 | 9 mono, 10 left, 11 right | 12 | 13 | 14 |
+/// | effect | ports | frequency | sines | samples | position | phases | age | in all |
+/// |---|---|---|---|---|---|---|---|---|
+/// | 4 vibrato | 2 audio, 3 depth, 4 mix | 5 | 6 | 7 | 8 | 9 | 10 | 11 |
+/// | 2 chorus | 2 audio, 3 depth, 4 mix | 5 | 6 to 8 | 9 mono, 10 left, 11 right | 12 | 13 to 15 | 16 | 17 |
+/// | 3 flanger | 2 audio, 3 depth, 4 feedback, 5 mix | 6 | 7, 8 | 9 mono, 10 left, 11 right | 12 | 13 | 14 | 15 |
 ///
 /// A port that is unset has any float, which the tick must not read. Every NaN, going in or coming out, is written as
 /// 0x7ff8000000000000.
@@ -91,14 +94,17 @@ fn cleared<E: Effect>(unit: &mut E::Rust, rate: Option<f64>) -> Vec<u64> {
     words.extend([rate_word, 0]);
     words.resize(words.len() + E::FORM.sines.len(), 0);
     words.extend(left::<E>(unit, [0.0; MOST]));
+    words.push(0);
     words
 }
 
 fn ticked<E: Effect>(unit: &mut E::Rust, t: &Tick) -> Result<Vec<u64>, String> {
     let mut words = vec![TICK];
     words.extend(E::FORM.words(t)?);
+    let age = ages::of(&distances::<E>(unit.sample_rate(), t));
     let out = E::FORM.in_rust(unit, t)?;
     words.extend(left::<E>(unit, out));
+    words.push(age);
     Ok(words)
 }
 

@@ -6,7 +6,7 @@ use Rattle.port.specs.declared.Port.TheVariants.{Set}
 use Rattle.effect.specs.Run.{tick}
 use Rattle.effect.proofs.Contract.{accepts}
 use Rattle.flanger.specs.Flanger.{flanger, tick_of}
-use Rattle.flanger.proofs.Laws.{ready, tap-is, next-is, stored_is, played-is}
+use Rattle.flanger.proofs.Laws.{ready, distance-is, tap-is, age-is, next-is, stored_is, played-is}
 use Rattle.flanger.proofs.Flanger.advance.Goals as goal
 
 pub returns : goal.returns
@@ -18,9 +18,12 @@ returns c =
     let r = ready c.requires.lines_value c.requires.tick_accepted in
     let n = length m / 2 in
     let x = c.sanitize_audio-input.ensures in
-    let d0 = tap-is t a.self m r 0 n 0 a.sine0 refl (omega arith) (omega (arith, r.room)) c.clamp-amount.ensures c.distance.ensures c.read-d0.ensures in
-    let d1 = tap-is t a.self m r 1 (length m - n) n a.sine1 (omega (arith, r.long, c.requires.lines_value)) (omega arith) (omega (arith, r.room)) c.clamp-amount.ensures c.distance-2.ensures c.read-d1.ensures in
+    let at0 = distance-is t a.self m r 0 n 0 a.sine0 refl (omega (arith, r.room)) c.clamp-amount.ensures c.distance.ensures in
+    let at1 = distance-is t a.self m r 1 (length m - n) n a.sine1 (omega (arith, r.long, c.requires.lines_value)) (omega (arith, r.room)) c.clamp-amount.ensures c.distance-2.ensures in
+    let d0 = tap-is t a.self m r 0 n 0 a.sine0 refl (omega (arith, r.room)) (omega arith) at0 c.read-d0.ensures.sample in
+    let d1 = tap-is t a.self m r 1 (length m - n) n a.sine1 (omega (arith, r.long, c.requires.lines_value)) (omega (arith, r.room)) (omega arith) at1 c.read-d1.ensures.sample in
+    let age = age-is t a.self m r at0 at1 c.read-d0.ensures.age c.read-d1.ensures.age c.max.ensures in
     accepts flanger (tick t) a.self m c.requires.tick_accepted
     (next-is t a.self m r c.next_place.ensures c.advance_phase-phase.ensures refl)
     (stored_is t a.self m r x d0 d1 c.clamp-back.ensures)
-    (played-is t a.self m r x d0 d1 c.clamp-wet.ensures c.blend-left.ensures c.blend-right.ensures)
+    (played-is t a.self m r x d0 d1 c.clamp-wet.ensures c.blend-left.ensures c.blend-right.ensures age)

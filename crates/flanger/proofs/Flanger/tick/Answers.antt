@@ -20,7 +20,7 @@ returns-in-Err-causes c =
     let cause = c.in-Err-causes.cause in
     let e : number cause ≡ tick_number (filled t) = cc c.in-Err-causes.ensures in
     let told = c.refused-in-Err-causes.ensures in
-    row_refuses flanger t a.self a.mem.now cause c.in-Ok.ensures.number (e ∙ filled_number t) told.state told.answer
+    row_refuses flanger t a.self a.mem.now cause _ c.in-Ok.ensures.number (e ∙ filled_number t) told.state told.answer
 
 pub returns : goal.returns
 unfolding tick_number of_bits round

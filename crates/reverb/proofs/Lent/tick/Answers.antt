@@ -61,7 +61,7 @@ module _ (s : Reverb) (m : List Float) (t : Tick) {n : Lengths} (found : n ≡ l
         (sym (number_is 0 h))
         (w.state ∙ (λ i. next (taken i) s m))
         (w.memory ∙ (λ i. laid (writes (taken i) s m) m))
-        (w.answer ∙ (λ i. played (samples (taken i) s m)))
+        (w.answer ∙ (λ i. played (samples (taken i) s m) 0))
 
 pub returns-then-not-fits-clause-does : goal.returns-then-not-fits-clause-does
 returns-then-not-fits-clause-does c = unfit (lent_state c.args.self.now) _ _ c.lengths_at-n.ensures c.if-not-fits.ensures

@@ -3,15 +3,15 @@ use Rattle.std.proofs.Common.{ap, [], ◌∷◌}
 use Rattle.effect.specs.Run.{device_of}
 use Rattle.vibrato.specs.Vibrato.{vibrato, tick_of, state_of}
 use Rattle.vibrato.proofs.Demand1.{laws}
-use Rattle.room_effects.proofs.Laws.{ticked, not-refused}
+use Rattle.room_effects.proofs.Laws.{aged, not-refused}
 use Rattle.room_effects.proofs.vibrato_calls.room_raw_vibrato_tick.Goals as goal
 
 pub returns : goal.returns
 returns c =
     let a = c.args in
     let next = c.tick-ticked.result.state in
-    ticked vibrato laws 1 (device_of (state_of a.write_pos.now a.lfo_phase.now a.sample_rate) a.memory.now)
+    aged vibrato laws 1 (device_of (state_of a.write_pos.now a.lfo_phase.now a.sample_rate) a.memory.now)
     (λ i. tick_of (c.port_at.ensures i) (c.port_at-2.ensures i) (c.port_at-3.ensures i) a.frequency a.sine) c.tick-ticked.ensures
-    (not-refused c.in_default.not-Refused)
+    (not-refused c.in_default.not-Refused c.tick-ticked.result.age)
     (ap (state_of next.write_pos next.lfo_phase))
-    (λ i. c.first.ensures i ∷ [])
+    (λ i. c.first.ensures c.tick-ticked.result.age i ∷ []) c.tick-ticked.result.aged

@@ -1,6 +1,6 @@
 -- `Tremolo::tick`: causes 5 and 6 by the values taken from the ports; where none applies, the page's sample and state. Assumes nothing.
-use Rattle.std.proofs.Common.{rules, ◌≡◌, [], sym, ap, ◌∙◌, refl}
-use lib.Ieee.{of_bits, of_int, round}
+use Rattle.std.proofs.Common.{rules, ◌≡◌, List, [], sym, ap, ◌∙◌, refl}
+use lib.Ieee.{Float, of_bits, of_int, round}
 use Rattle.float64.specs.Number.{plus_zero, half}
 use Rattle.port.specs.Port.{value_or}
 use Rattle.port.specs.Answer.{played}
@@ -21,7 +21,7 @@ returns-in-Err-causes c =
     let blend : c.match-shape.blend ≡ value_or a.shape plus_zero = search rules in
     let causes = number-is t amount blend c.is_nan.ensures c.is_nan-2.ensures c.frequency_fits.ensures c.sine_fits.ensures in
     let told = c.refused-in-Err-causes.ensures in
-    row_refuses tremolo t a.self [] cause c.in_default.ensures.number (c.in-Err-causes.ensures ∙ causes) told.state told.answer
+    row_refuses tremolo t a.self [] cause _ c.in_default.ensures.number (c.in-Err-causes.ensures ∙ causes) told.state told.answer
 
 pub returns : goal.returns
 unfolding next of_bits of_int round
@@ -36,4 +36,4 @@ returns c =
     (sym (tick_row tremolo t a.self [] c.in_default.ensures.number (c.in_default-causes.ensures ∙ causes)))
     (rw c.advance_phase-next.ensures)
     refl
-    (ap played (samples-are t a.self input amount blend c.clamp.ensures c.lfo-lfo.ensures c.clamp-2.ensures c.modulated-y.ensures))
+    (ap (λ (l : List Float). played l 0) (samples-are t a.self input amount blend c.clamp.ensures c.lfo-lfo.ensures c.clamp-2.ensures c.modulated-y.ensures))

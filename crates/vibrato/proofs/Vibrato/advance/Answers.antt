@@ -5,7 +5,7 @@ use Rattle.port.specs.declared.Port.TheVariants.{Set}
 use Rattle.effect.specs.Run.{tick}
 use Rattle.effect.proofs.Contract.{accepts}
 use Rattle.vibrato.specs.Vibrato.{vibrato, tick_of}
-use Rattle.vibrato.proofs.Laws.{delayed-is, next-is, stored_is, played-is}
+use Rattle.vibrato.proofs.Laws.{distance-is, delayed-is, age-is, next-is, stored_is, played-is}
 use Rattle.vibrato.proofs.Vibrato.advance.Goals as goal
 
 pub returns : goal.returns
@@ -15,8 +15,9 @@ returns c =
     let m = a.places.now in
     let t = tick_of (Set a.audio) (Set a.depth) (Set a.mix) a.frequency a.sine in
     let e = c.requires.places_value in
-    let delayed = delayed-is t a.self m e c.clamp-amount.ensures c.distance.ensures c.read-delayed.ensures in
+    let at = distance-is t a.self m e c.clamp-amount.ensures c.distance.ensures in
+    let heard = c.read-delayed.ensures in
     accepts vibrato (tick t) a.self m c.requires.tick_accepted
     (next-is t a.self m e c.next_place.ensures c.advance_phase-phase.ensures refl)
     (stored_is t a.self m e refl)
-    (played-is t a.self m e refl delayed c.clamp-wet.ensures c.blend.ensures)
+    (played-is t a.self m e refl (delayed-is t a.self m e at heard.sample) c.clamp-wet.ensures c.blend.ensures (age-is t a.self m e at heard.age))

@@ -19,7 +19,7 @@ returns-in-Err-causes c =
     let cause = c.in-Err-causes.cause in
     let e : number cause ≡ tick_number (all_set t refl depth mix) = cc c.in-Err-causes.ensures in
     let told = c.refused-in-Err-causes.ensures in
-    row_refuses vibrato t a.self a.mem.now cause c.in-Ok.ensures.number (e ∙ set_number t refl depth mix) told.state told.answer
+    row_refuses vibrato t a.self a.mem.now cause _ c.in-Ok.ensures.number (e ∙ set_number t refl depth mix) told.state told.answer
 
 pub returns : goal.returns
 unfolding tick_number of_bits of_int round

@@ -1,0 +1,43 @@
+-- How far back a flanger hears, by the reads of its two lines. Assumes nothing.
+use Rattle.std.proofs.Common.{◌+◌, ◌∷◌, [], inl, inr, refl, arith}
+use lib.Ieee.{Float, is_nan, round}
+use lib.Ieee as Ieee
+use Rattle.float64.specs.Number.{half, is_number}
+use Rattle.float64.proofs.Ranges.{in-range}
+use Rattle.common.specs.Signal.{blended}
+use Rattle.common.proofs.Sweep.{control-in}
+use Rattle.effect.specs.HearsBack.{HearsBack}
+use Rattle.effect.proofs.HearsBack.{ReadLaws, hears-back}
+use Rattle.flanger.specs.Flanger.{flanger, line_length, input, depth, mix, tap, fed, next, writes, samples}
+use Rattle.flanger.proofs.Laws.{fits-parts, length_fits, tick-fits, distance-in}
+
+read-laws : ReadLaws flanger 2 line_length
+unfolding next writes samples tap is_number Ieee.fits is_nan round
+read-laws =
+    record {
+      reads =
+          record {
+            many = λ t s. refl;
+            lines = λ t s. (refl, (refl, tt));
+            stores = λ t s m. (inl (omega arith), (inr (inl (omega arith)), tt));
+            moves = λ t u s m. ((refl, (refl, refl)), ((refl, (refl, refl)), tt));
+            reads-all = λ t s m n e.
+                let w = s.write_pos in
+                let L = line_length s.sample_rate in (
+                  refl,
+                  (
+                    λ i. record { place = w; value = fed t (e.0 i) } ∷ record { place = L + w; value = fed t (e.1.0 i) } ∷ [],
+                    λ i. blended (input t) (e.0 i) (mix t) ∷ blended (input t) (e.0 i) (mix t) ∷ blended (input t) (e.1.0 i) (mix t) ∷ [],
+                  ),
+                );
+          };
+      some = omega arith;
+      short = λ s e. omega (arith, length_fits s.sample_rate (fits-parts s e).rate);
+      distances = λ t s e n.
+          let k = tick-fits t n in
+          let far = λ (sine : Float). distance-in s.sample_rate (depth t) sine (fits-parts s e).rate (in-range (control-in t.depth half k.depth refl)) in
+          (far t.sine0 k.sine0, (far t.sine1 k.sine1, tt));
+    }
+
+pub shown : HearsBack flanger 2 line_length
+shown = hears-back flanger 2 line_length read-laws
