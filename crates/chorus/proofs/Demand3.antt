@@ -68,6 +68,7 @@ pub line-laws : LineLaws chorus lines
 unfolding next writes
 line-laws =
     record {
+      in_turn = λ t s. refl;
       some = omega arith;
       fills = λ k. sym (one-mul (line_length k));
       inside = λ s e. (fits-parts s e).inside;

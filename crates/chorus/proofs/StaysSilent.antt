@@ -43,7 +43,7 @@ module _ (x d0 d1 d2 : Float) {b : Float} (audio : Zero x) (share : In binary64 
 
 -- ---- a tick of a silent chorus
 
-module _ (t : Tick) (s : Chorus) (m : List Float) (u : SilentTick chorus t s m) where
+module _ (t : Tick) (s : Chorus) (m : List Float) (u : SilentTick chorus chorus.quiet t s m) where
   heard : (sine : Float) → sine_fits sine ≡ true → Zero (voice 0 sine t s m)
   unfolding voice is_number Ieee.fits Ieee.is_nan Ieee.round
   heard sine h =

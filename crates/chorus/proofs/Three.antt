@@ -245,6 +245,7 @@ three-line-laws : LineLaws three_lined three.lines
 unfolding next three.writes
 three-line-laws =
     record {
+      in_turn = line-laws.in_turn;
       some = omega arith;
       fills = λ k. refl;
       inside = line-laws.inside;

@@ -181,6 +181,7 @@ page =
       settings_number = λ rate. cond (rate_fits rate) 0 1;
       places = line_length;
       parts = λ rate. first_places (line_length rate);
+      turn_number = λ t s. 0;
       tick_number = λ t rate. tick_number t;
       blank = blank;
       fresh = fresh;

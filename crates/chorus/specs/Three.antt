@@ -44,6 +44,7 @@ three_lined =
       settings_number = chorus.settings_number;
       places = places;
       parts = λ rate. first_places (places rate);
+      turn_number = chorus.turn_number;
       tick_number = chorus.tick_number;
       blank = chorus.blank;
       fresh = chorus.fresh;

@@ -14,9 +14,9 @@ use Rattle.port.specs.declared.Refusal.{Refusal}
 use Rattle.port.specs.Answer.{Reply, done, silent, refused, number_of, outcome_reply}
 use Rattle.common.specs.Line.{zeros}
 use Rattle.effect.specs.Effect.{Effect}
-use Rattle.effect.specs.Run.{tick, ask, CallOf, Device, if_none, memory_number, start_number, number_for, number_in, is_silent, changed, says}
+use Rattle.effect.specs.Run.{tick, ask, CallOf, Device, if_none, first, memory_number, start_number, number_for, number_now, number_in, is_silent, changed, says}
 use Rattle.effect.specs.Contract.{Does, Starts}
-use Rattle.effect.proofs.Table.{if_none-some, first_some}
+use Rattle.effect.proofs.Table.{if_none-some, first_some, first-assoc}
 use Rattle.effect.proofs.Outcomes.{outcome-reply}
 
 -- ---- a call after the start
@@ -106,18 +106,23 @@ module _ (E : Effect) (n : ℕ) (s : E.State) where
   state-refused c e = rw e
 
   -- 4, and without it the rest of the row: f is the state test's answer, and j the number of the rest
-  pub state-row : (c : CallOf E) {f : Bool} {j k : ℕ} → f ≡ E.state_fits s → (E.state_fits s ≡ true → j ≡ number_for E c n (E.settings s)) → k ≡ cond f j 4
+  pub state-row : (c : CallOf E) {f : Bool} {j k : ℕ} → f ≡ E.state_fits s → (E.state_fits s ≡ true → j ≡ number_now E c n s) → k ≡ cond f j 4
       → k ≡ number_in E c n s
   state-row c {f} {j} e rest r = r ∙ ap (λ (b : Bool). cond b j 4) e ∙ go (E.state_fits s) rest
     where
-      go : (b : Bool) → (b ≡ true → j ≡ number_for E c n (E.settings s)) → cond b j 4 ≡ cond b (number_for E c n (E.settings s)) 4
+      go : (b : Bool) → (b ≡ true → j ≡ number_now E c n s) → cond b j 4 ≡ cond b (number_now E c n s) 4
       go true h = h refl
       go false h = refl
 
-  -- tick 3; 5 and 6
-  pub tick-memory : (t : E.Tick) {k : ℕ} → E.state_fits s ≡ true → k ≡ memory_number (E.places (E.settings s)) n → k ≢ 0 → k ≡ number_in E (tick t) n s
-  tick-memory t {k} f e some = rw (f, ← e) (sym (first_some k (E.tick_number t (E.settings s)) some))
+  -- Tick: the first of 7 and 3; and past 3 the first of 7, 5 and 6. A turn's number of 0, as of an effect all of whose ticks come in turn, computes away in `first`.
+  pub tick-memory : (t : E.Tick) {k : ℕ} → E.state_fits s ≡ true → k ≡ first (E.turn_number t s) (memory_number (E.places (E.settings s)) n) → k ≢ 0
+      → k ≡ number_in E (tick t) n s
+  tick-memory t {k} f e some =
+      let others = E.tick_number t (E.settings s) in
+      rw f
+      (sym (first_some k others some) ∙ ap (λ (a : ℕ). first a others) e ∙ sym (first-assoc (E.turn_number t s) (memory_number (E.places (E.settings s)) n) others))
 
-  pub tick-number : (t : E.Tick) {k : ℕ} → E.state_fits s ≡ true → 0 ≡ memory_number (E.places (E.settings s)) n → k ≡ E.tick_number t (E.settings s)
+  pub tick-number : (t : E.Tick) {k : ℕ} → E.state_fits s ≡ true → 0 ≡ memory_number (E.places (E.settings s)) n
+      → k ≡ first (E.turn_number t s) (E.tick_number t (E.settings s))
       → k ≡ number_in E (tick t) n s
   tick-number t f z e = rw (f, ← z) e

@@ -1,4 +1,4 @@
--- `Among` leaves out no list of later calls that document 01 allows, and lets in no other. Assumes the effect's laws.
+-- `Among` leaves out no list of later calls that document 01 allows, and lets in no other. Assumes the effect's laws, and that all its ticks come in turn.
 use Prim.Native.Nat.{ℕ, zero, suc}
 use mathlib.Core.Path.{◌≡◌, refl, ap, ◌∙◌}
 use mathlib.Core.Bool.{Bool, true, false, not, cond}
@@ -8,9 +8,9 @@ use Rattle.effect.specs.Effect.{Effect}
 use Rattle.effect.specs.Run.{tick, retune, reset, ask, CallOf, Device, if_none, number_for, step, after, final}
 use Rattle.effect.specs.Later.{is_refusal, idles, Among, end, later, idle}
 use Rattle.effect.specs.Covers.{is_clearing, before_clearing, taken, later_ticks, Covers}
-use Rattle.effect.proofs.Laws.{Laws}
+use Rattle.effect.proofs.Laws.{Laws, InTurn}
 use Rattle.effect.proofs.Table.{if_none-both}
-use Rattle.effect.proofs.Runs.{InRun, number_is, step-cases, step_in, after-in, run_in}
+use Rattle.effect.proofs.Runs.{InRun, number_by, step-cases, step_in, after-in, run_in}
 use Rattle.effect.proofs.Later.{refusal-skips, idle-still}
 
 -- the choice b for call 0, and those of f for the calls after it
@@ -80,7 +80,7 @@ module _ (E : Effect) (n : ℕ) (k : E.Settings) where
   choices-take (later {t} {ts} a) = ap (λ (l : List E.Tick). taken E n k true (tick t) l) (choices-take a) ∙ tick-taken t ts
   choices-take (idle {c} {ts} i a) = ap (λ (l : List E.Tick). taken E n k false c l) (choices-take a) ∙ not_taken c ts i
 
-module _ (E : Effect) (laws : Laws E) where
+module _ (E : Effect) (laws : Laws E) (turns : InTurn E) where
   -- such calls leave the settings in force
   same-settings : {n : ℕ} {k : E.Settings} {ts : List E.Tick} {cs : List (CallOf E)} → Among E n k ts cs → (h : Device E.State) → InRun E n h
       → E.settings h.state ≡ k → E.settings (after E cs h).state ≡ k
@@ -90,12 +90,12 @@ module _ (E : Effect) (laws : Laws E) where
       same-settings a (step E (tick t) h) (step_in E laws (tick t) r)
       (step-cases E (λ u. E.settings u.state ≡ k) (tick t) r e (λ z. laws.next-settings t h.state h.memory ∙ e))
   same-settings (idle {c} {ts} {cs} i a) h r e =
-      ap (λ (u : Device E.State). E.settings (after E cs u).state) (idle-still E c r e i) ∙ same-settings a h r e
+      ap (λ (u : Device E.State). E.settings (after E cs u).state) (idle-still E turns c r e i) ∙ same-settings a h r e
 
   pub covers : Covers E
   covers =
       record {
         all = all E;
         only = λ n k ts cs a. (before-all E n k a, (choices E n k a, choices-take E n k a));
-        numbers = λ x ts cs a c. number_is E c (after-in E laws cs (run_in E laws x)) (same-settings a (final E x) (run_in E laws x) refl);
+        numbers = λ x ts cs a c. number_by E turns c (after-in E laws cs (run_in E laws x)) (same-settings a (final E x) (run_in E laws x) refl);
       }

@@ -99,7 +99,7 @@ module _ (E : Effect) (laws : Laws E) where
             (ap (λ (h : Device E.State). after E cs h) e, ap (λ (h : Device E.State). replies E cs h) e);
         cleared = λ x. cleared x x.calls;
         passes = λ x. (run_in E laws x).state_fits;
-        numbers = λ x c. number_is E c (run_in E laws x) refl;
+        numbers = λ x c. number_is E c (run_in E laws x);
         enough = λ x. (run_in E laws x).enough;
         in_order = laws.in_order;
         in_use = λ k p. below 0 (E.places k) (E.parts k) (laws.in_order k);

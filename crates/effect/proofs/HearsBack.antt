@@ -1,6 +1,6 @@
--- The age answered to an accepted tick is that of the oldest sample which one of its reads weighed above 0, of every effect whose reads lie in its lines.
+-- The age answered to an accepted tick is that of the oldest sample which one of its reads weighed above 0, or 0, of every effect whose reads lie in its lines.
 -- Assumes the effect's laws of reads.
-use Rattle.std.proofs.Common.{ℕ, ◌-◌, ◌^◌, ◌≤◌, ◌<◌, ◌≡◌, inl, inr, max, true, List, [], ◌∷◌, refl, ap, subst, arith}
+use Rattle.std.proofs.Common.{ℕ, ◌-◌, ◌^◌, ◌≤◌, ◌<◌, ◌≡◌, inl, inr, max, true, List, [], ◌∷◌, refl, sym, ap, ◌∙◌, subst, arith}
 use Rattle.std.proofs.lemmas.Bool.{cases_lt}
 use lib.ListN.{length}
 use lib.Ieee.{binary64, lt}
@@ -14,10 +14,9 @@ use Rattle.effect.specs.Run.{tick, number_at, says}
 use Rattle.effect.specs.HearsBack.{EachRead, SomeRead, ReadsLines, age_of, WhenAccepted, HearsBack}
 use Rattle.effect.proofs.Table.{if_none-some, accepted, tick-accepted}
 
--- What an effect shows: how its reads lie, that there is one, and that they are at distances from 1 to L − 1.
-pub record ReadLaws (E : Effect) (count : ℕ) (L : E.Settings → ℕ) : Type 0 where
+-- What an effect shows: how its reads lie, and that they are at distances from 1 to L − 1.
+pub record ReadLaws (E : Effect) (count : E.Tick → ℕ) (L : E.Settings → ℕ) : Type 0 where
   pub reads : ReadsLines E count L
-  pub some : 0 < count
   pub short : (s : E.State) → E.state_fits s ≡ true → L (E.settings s) - 1 ≤ 2 ^ 24
   pub distances : (t : E.Tick) (s : E.State) → E.state_fits s ≡ true → E.tick_number t (E.settings s) ≡ 0
       → EachRead (λ r. In binary64 (float_of 1) (float_of (L (E.settings s) - 1)) r.distance) (E.reads t s)
@@ -34,6 +33,10 @@ EachAged M rs = EachRead (λ r. Aged M r.distance) rs
 largest-low : (M : ℕ) (rs : List Read) → 0 < length rs → EachAged M rs → 1 ≤ largest_age rs
 largest-low M [] l a = absurd (omega arith)
 largest-low M (r ∷ rs) l a = omega (arith, a.0.age_low)
+
+largest-none : (rs : List Read) → length rs ≡ 0 → largest_age rs ≡ 0
+largest-none [] l = refl
+largest-none (r ∷ rs) l = absurd (omega arith)
 
 largest-high : (M : ℕ) (rs : List Read) → EachAged M rs → largest_age rs ≤ M
 largest-high M [] a = omega arith
@@ -60,7 +63,7 @@ none-beyond M k (r ∷ rs) l a = (λ d h. a.0.age_oldest d (omega arith), none-b
 
 -- ---- a tick
 
-module _ (E : Effect) (count : ℕ) (L : E.Settings → ℕ) (laws : ReadLaws E count L) where
+module _ (E : Effect) (count : E.Tick → ℕ) (L : E.Settings → ℕ) (laws : ReadLaws E count L) where
   -- of an accepted one the reads have their ages, and the largest is answered
   ages : WhenAccepted E (λ t h. EachAged (L (E.settings h.state) - 1) (E.reads t h.state))
   ages t h e =
@@ -72,18 +75,19 @@ module _ (E : Effect) (count : ℕ) (L : E.Settings → ℕ) (laws : ReadLaws E 
   answered : WhenAccepted E (λ t h. largest_age (E.reads t h.state) ≡ age_of E t h)
   answered t h e = rw e refl
 
-  low : WhenAccepted E (λ t h. 1 ≤ largest_age (E.reads t h.state))
-  low t h e = largest-low (L (E.settings h.state) - 1) (E.reads t h.state) (omega (arith, laws.some, laws.reads.many t h.state)) (ages t h e)
+  low : WhenAccepted E (λ t h. 0 < count t → 1 ≤ largest_age (E.reads t h.state))
+  low t h e some = largest-low (L (E.settings h.state) - 1) (E.reads t h.state) (omega (arith, laws.reads.many t h.state)) (ages t h e)
 
   pub hears-back : HearsBack E count L
   hears-back =
       record {
         reads = laws.reads;
-        within = λ t h e. (omega (arith, low t h e, answered t h e), omega (arith, largest-high (L (E.settings h.state) - 1) (E.reads t h.state) (ages t h e), answered t h e));
-        weighs = λ t h e.
+        within = λ t h e some. (omega (arith, low t h e some, answered t h e), omega (arith, largest-high (L (E.settings h.state) - 1) (E.reads t h.state) (ages t h e), answered t h e));
+        weighs = λ t h e some.
             let rs = E.reads t h.state in
             subst (λ (d : ℕ). SomeRead (λ r. lt plus_zero (weight_at r.distance d) ≡ true) rs) (answered t h e)
-            (one-weighs (L (E.settings h.state) - 1) rs (low t h e) (ages t h e));
+            (one-weighs (L (E.settings h.state) - 1) rs (low t h e some) (ages t h e));
         none-older = λ t h e. none-beyond (L (E.settings h.state) - 1) (age_of E t h) (E.reads t h.state) (omega (arith, answered t h e)) (ages t h e);
+        none = λ t h e z. sym (answered t h e) ∙ largest-none (E.reads t h.state) (laws.reads.many t h.state ∙ z);
         refused = λ t h f. ap reply_age (if_none-some (number_at E (tick t) h) (says E (tick t) h) (refused (number_at E (tick t) h)) f);
       }

@@ -10,10 +10,10 @@ use Rattle.effect.specs.Run.{tick, retune, reset, ask, CallOf, Device, if_none, 
 use Rattle.effect.specs.Lines.{Lines}
 use Rattle.effect.specs.Past.{Past, put}
 use Rattle.effect.specs.Later.{is_refusal, idles, Among, end, later, idle, picked}
-use Rattle.effect.proofs.Laws.{Laws}
+use Rattle.effect.proofs.Laws.{Laws, InTurn}
 use Rattle.effect.proofs.LineLaws.{LineLaws}
 use Rattle.effect.proofs.Table.{if_none-both, memory-enough}
-use Rattle.effect.proofs.Runs.{InRun, number_is, changed-in}
+use Rattle.effect.proofs.Runs.{InRun, number-in-turn, number_by, changed-in}
 use Rattle.effect.proofs.Past.{Shows, changed-shows}
 
 -- the replies to ticks, by the recent past and the phases
@@ -29,9 +29,9 @@ refusal-skips zero x y e = let z : ◌≡◌ {A = ℕ} 0 1 = cc in absurd (omega
 refusal-skips (suc a) x y e = refl
 
 -- silent questions and refused calls leave the unit as it was
-pub idle-still : (E : Effect) {n : ℕ} {h : Device E.State} {k : E.Settings} (c : CallOf E) → InRun E n h → E.settings h.state ≡ k
+pub idle-still : (E : Effect) → InTurn E → {n : ℕ} {h : Device E.State} {k : E.Settings} (c : CallOf E) → InRun E n h → E.settings h.state ≡ k
     → idles c (number_for E c n k) ≡ true → step E c h ≡ h
-idle-still E {n} {h} {k} c r e i = rw (number_is E c r e) (go c (number_for E c n k) i)
+idle-still E turns {n} {h} {k} c r e i = rw (number_by E turns c r e) (go c (number_for E c n k) i)
   where
     go : (c : CallOf E) (a : ℕ) → idles c a ≡ true → if_none a (changed E c h) h ≡ h
     go (tick t) a f = refusal-skips a (changed E (tick t) h) h f
@@ -53,7 +53,7 @@ module _ (E : Effect) (I : Lines E) (laws : Laws E) (lined : LineLaws E I) where
       → ((u : Device E.State) (q : Past E.Settings) → InRun E n u → Shows E I u q → E.settings u.state ≡ E.settings h.state → rest u ≡ heard E I lined q (I.phase u.state) ts)
       → reply E (tick t) h ∷ rest (step E (tick t) h) ≡ heard E I lined p (I.phase h.state) (t ∷ ts)
   unfolding heard
-  next-heard {n} {h} {p} t ts r v rest on = rw (number_is E (tick t) r v.settings ∙ tick-number-by t r v) (go (E.tick_number t p.settings) refl)
+  next-heard {n} {h} {p} t ts r v rest on = rw (number_by E lined.in_turn (tick t) r v.settings ∙ tick-number-by t r v) (go (E.tick_number t p.settings) refl)
     where
       s : E.State
       s = h.state
@@ -65,7 +65,7 @@ module _ (E : Effect) (I : Lines E) (laws : Laws E) (lined : LineLaws E I) where
           (refused a ∷ heard E I lined p (I.phase s) ts)
       go zero e =
           let e' = ap (λ (k : E.Settings). E.tick_number t k) v.settings ∙ e in
-          let r' = changed-in E laws (tick t) r (ap (λ (k : E.Settings). number_for E (tick t) n k) v.settings ∙ tick-number-by t r v ∙ e) in
+          let r' = changed-in E laws (tick t) r (number-in-turn E lined.in_turn n (tick t) s ∙ ap (λ (k : E.Settings). number_for E (tick t) n k) v.settings ∙ tick-number-by t r v ∙ e) in
           let plays = lined.plays t s h.memory p.samples r.state_fits (omega (arith, r.enough, r.size)) e' v.lines in
           let heard-on = on (changed E (tick t) h) (put E I (tick t) p) r' (changed-shows E I laws lined (tick t) r r' v) (laws.next-settings t s h.memory) in
           λ i. ((λ j. played (plays j) (lined.ages t s j)) ∙ (λ j. played (lined.played t (v.settings j) (I.phase s) p.samples) (lined.age t (v.settings j)))) i
@@ -80,4 +80,4 @@ module _ (E : Effect) (I : Lines E) (laws : Laws E) (lined : LineLaws E I) where
   picked-heard (later {t} {ts} {cs} a) h p r v e =
       next-heard t ts r v (λ u. picked a (replies E cs u)) (λ u q r' v' s. picked-heard a u q r' v' (s ∙ e))
   picked-heard (idle {c} {ts} {cs} i a) h p r v e =
-      ap (λ (u : Device E.State). picked a (replies E cs u)) (idle-still E c r e i) ∙ picked-heard a h p r v e
+      ap (λ (u : Device E.State). picked a (replies E cs u)) (idle-still E lined.in_turn c r e i) ∙ picked-heard a h p r v e

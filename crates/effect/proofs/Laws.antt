@@ -2,20 +2,11 @@
 use Prim.Native.Nat.{ℕ, ◌≤◌, ◌<◌}
 use mathlib.Core.Path.{◌≡◌}
 use mathlib.Core.Bool.{true, false}
-use mathlib.Core.List.{List, [], ◌∷◌}
+use mathlib.Core.List.{List}
 use lib.ListN.{length}
 use lib.Ieee.{Float}
 use Rattle.effect.specs.Parts.{InOrder}
-use Rattle.effect.specs.Effect.{Effect, Write, InUse}
-
--- every write has the property P
-abbrev pub EachWrite : (Write → Type 0) → List Write → Type 0
-EachWrite P [] = Unit {0}
-EachWrite P (w ∷ ws) = P w × EachWrite P ws
-
--- every value that is written
-abbrev pub EachWritten : (Float → Type 0) → List Write → Type 0
-EachWritten P ws = EachWrite (λ w. P w.value) ws
+use Rattle.effect.specs.Effect.{Effect, Write, EachWrite, InUse}
 
 -- all the places that are written are in P
 abbrev pub Within : (ℕ → Type 0) → List Write → Type 0
@@ -24,6 +15,10 @@ Within P ws = EachWrite (λ w. P w.place) ws
 -- they lie below n
 abbrev pub Below : ℕ → List Write → Type 0
 Below n ws = Within (λ p. p < n) ws
+
+-- all ticks come in turn: cause 7 never applies
+abbrev pub InTurn : Effect → Type 0
+InTurn E = (t : E.Tick) (s : E.State) → E.turn_number t s ≡ 0
 
 pub record Laws (E : Effect) : Type 0 where
   -- the blank state is refused

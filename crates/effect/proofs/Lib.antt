@@ -14,6 +14,8 @@ pub mod Past
 pub mod Later
 pub mod Demand3
 pub mod Covers
+pub mod EachTick
+pub mod PlacesKeep
 pub mod SilentLaws
 pub mod StaysSilent
 pub mod HearsBack

@@ -9,8 +9,10 @@ use Rattle.common.specs.Line.{next_place}
 use Rattle.common.specs.Reads.{largest_age}
 use Rattle.effect.specs.Effect.{Effect}
 use Rattle.effect.specs.Lines.{Lines, in_each, line_of}
+use Rattle.effect.proofs.Laws.{InTurn}
 
 pub record LineLaws (E : Effect) (I : Lines E) : Type 0 where
+  pub in_turn : InTurn E
   -- the lines are the places in use
   pub some : 0 < I.count
   pub fills : (k : E.Settings) → E.places k ≡ I.count * I.line_length k

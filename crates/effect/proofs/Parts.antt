@@ -11,9 +11,9 @@ use Rattle.common.specs.Line.{zeros, place, line_at, read_at, all_zero}
 use Rattle.common.proofs.Zeros.{zeros-append, zero-at, all-zero-by, cleared-part, zero-put-part}
 use Rattle.common.proofs.Ring.{place-lt}
 use Rattle.common.proofs.ZeroBlends.{read-zero}
-use Rattle.effect.specs.Effect.{Write, laid}
+use Rattle.effect.specs.Effect.{Write, laid, EachWritten}
 use Rattle.effect.specs.Parts.{Part, part, first_places, held_in, InPart, here, further, InOrder}
-use Rattle.effect.proofs.Laws.{EachWritten, Within, Below}
+use Rattle.effect.proofs.Laws.{Within, Below}
 
 -- ---- which places
 

@@ -14,7 +14,7 @@ use Rattle.effect.specs.Past.{Past, cleared_past, put, past_from, recent_past}
 use Rattle.effect.proofs.Laws.{Laws}
 use Rattle.effect.proofs.LineLaws.{LineLaws}
 use Rattle.effect.proofs.Lines.{line-end, push-each}
-use Rattle.effect.proofs.Runs.{InRun, number_is, changed-in, step_in, start-in}
+use Rattle.effect.proofs.Runs.{InRun, number-in-turn, number_by, changed-in, step_in, start-in}
 
 -- a unit shows a past: its settings are in force, and its samples are each line
 pub record Shows (E : Effect) (I : Lines E) (h : Device E.State) (p : Past E.Settings) : Type 0 where
@@ -64,10 +64,10 @@ module _ (E : Effect) (I : Lines E) (laws : Laws E) (lined : LineLaws E I) where
 
   step-shows : {n : ℕ} {h : Device E.State} {p : Past E.Settings} (c : CallOf E) → InRun E n h → Shows E I h p
       → Shows E I (step E c h) (if_none (number_for E c n p.settings) (put E I c p) p)
-  step-shows {n} {h} {p} c r v = rw (number_is E c r v.settings) (go (number_for E c n p.settings) refl)
+  step-shows {n} {h} {p} c r v = rw (number_by E lined.in_turn c r v.settings) (go (number_for E c n p.settings) refl)
     where
       go : (k : ℕ) → number_for E c n p.settings ≡ k → Shows E I (if_none k (changed E c h) h) (if_none k (put E I c p) p)
-      go zero e = changed-shows c r (changed-in E laws c r (ap (λ (q : E.Settings). number_for E c n q) v.settings ∙ e)) v
+      go zero e = changed-shows c r (changed-in E laws c r (number-in-turn E lined.in_turn n c h.state ∙ ap (λ (q : E.Settings). number_for E c n q) v.settings ∙ e)) v
       go (suc k) e = v
 
   after-shows : {n : ℕ} {h : Device E.State} {p : Past E.Settings} (cs : List (CallOf E)) → InRun E n h → Shows E I h p

@@ -7,11 +7,11 @@ use lib.ListN.{length, length-replicate}
 use Rattle.float64.specs.Number.{plus_zero}
 use Rattle.common.specs.Line.{zeros}
 use Rattle.effect.specs.Effect.{Effect, laid}
-use Rattle.effect.specs.Run.{tick, retune, reset, ask, CallOf, Device, if_none, number_for, number_at, start, changed, step, after, Run, final}
+use Rattle.effect.specs.Run.{tick, retune, reset, ask, CallOf, Device, if_none, number_for, turn_of, number_now, number_at, start, changed, step, after, Run, final}
 use Rattle.effect.specs.Trace.{Trace, laid_out, added, trace, traced_from, traced}
-use Rattle.effect.proofs.Laws.{Laws}
+use Rattle.effect.proofs.Laws.{Laws, InTurn}
 use Rattle.effect.proofs.Memory.{length-laid, laid-append}
-use Rattle.effect.proofs.Table.{settings-accepted, tick-accepted, Accepted}
+use Rattle.effect.proofs.Table.{none_first, settings-accepted, tick-accepted, Accepted}
 
 -- what holds of a unit along a run in a memory of n places
 pub record InRun (E : Effect) (n : ℕ) (h : Device E.State) : Type 0 where
@@ -20,17 +20,27 @@ pub record InRun (E : Effect) (n : ℕ) (h : Device E.State) : Type 0 where
   pub enough : E.places (E.settings h.state) ≤ n
 
 module _ (E : Effect) where
-  -- cause 4 never applies: acceptance is settled by the arguments, the memory's length and the settings in force
-  pub number_is : {n : ℕ} {h : Device E.State} {k : E.Settings} (c : CallOf E) → InRun E n h → E.settings h.state ≡ k
+  -- cause 4 never applies
+  pub number_is : {n : ℕ} {h : Device E.State} (c : CallOf E) → InRun E n h → number_at E c h ≡ number_now E c n h.state
+  number_is c i = rw (i.state_fits, i.size)
+
+  -- where all ticks come in turn, acceptance is settled by the arguments, the memory's length and the settings in force
+  pub number-in-turn : InTurn E → (n : ℕ) (c : CallOf E) (s : E.State) → number_now E c n s ≡ number_for E c n (E.settings s)
+  number-in-turn turns n (tick t) s = rw (turns t s)
+  number-in-turn turns n (retune r) s = refl
+  number-in-turn turns n reset s = refl
+  number-in-turn turns n ask s = refl
+
+  pub number_by : InTurn E → {n : ℕ} {h : Device E.State} {k : E.Settings} (c : CallOf E) → InRun E n h → E.settings h.state ≡ k
       → number_at E c h ≡ number_for E c n k
-  number_is c i e = rw (i.state_fits, i.size, e)
+  number_by turns {n} {h} c i e = number_is c i ∙ number-in-turn turns n c h.state ∙ ap (λ (k : E.Settings). number_for E c n k) e
 
   -- what holds of the unit, and after the call if that is accepted, holds after the call
   pub step-cases : (P : Device E.State → Type 0) {n : ℕ} {h : Device E.State} (c : CallOf E) → InRun E n h → P h
-      → (number_for E c n (E.settings h.state) ≡ 0 → P (changed E c h)) → P (step E c h)
-  step-cases P {n} {h} c i p q = rw (number_is c i refl) (go (number_for E c n (E.settings h.state)) refl)
+      → (number_now E c n h.state ≡ 0 → P (changed E c h)) → P (step E c h)
+  step-cases P {n} {h} c i p q = rw (number_is c i) (go (number_now E c n h.state) refl)
     where
-      go : (k : ℕ) → number_for E c n (E.settings h.state) ≡ k → P (if_none k (changed E c h) h)
+      go : (k : ℕ) → number_now E c n h.state ≡ k → P (if_none k (changed E c h) h)
       go zero e = q e
       go (suc k) e = p
 
@@ -78,12 +88,13 @@ module _ (E : Effect) (laws : Laws E) where
         enough = rw (x.accepted, laws.fresh-settings k) v.enough;
       }
 
-  pub changed-in : {n : ℕ} {h : Device E.State} (c : CallOf E) → InRun E n h → number_for E c n (E.settings h.state) ≡ 0 → InRun E n (changed E c h)
+  pub changed-in : {n : ℕ} {h : Device E.State} (c : CallOf E) → InRun E n h → number_now E c n h.state ≡ 0 → InRun E n (changed E c h)
   changed-in {n} {h} c i e =
+      let v = none_first (turn_of E c h.state) (number_for E c n (E.settings h.state)) e in
       record {
         size = length-changed E c h ∙ i.size;
-        state_fits = changed-fits c h (record { state_fits = i.state_fits; number = rw i.size e });
-        enough = changed-enough n c h i.enough e;
+        state_fits = changed-fits c h (record { state_fits = i.state_fits; turn = v.0; number = rw i.size v.1 });
+        enough = changed-enough n c h i.enough v.1;
       }
 
   pub step_in : {n : ℕ} {h : Device E.State} (c : CallOf E) → InRun E n h → InRun E n (step E c h)
@@ -121,7 +132,7 @@ module _ (E : Effect) (laws : Laws E) where
   changed-traced n t ask = refl
 
   step-traced : {n : ℕ} (c : CallOf E) (t : Trace E.State) → InRun E n (laid_out n t) → step E c (laid_out n t) ≡ laid_out n (trace E n c t)
-  step-traced {n} c t i = rw (number_is E c i refl) (go (number_for E c n (E.settings t.state)))
+  step-traced {n} c t i = rw (number_is E c i) (go (number_now E c n t.state))
     where
       t' : Trace E.State
       t' = record { state = (changed E c (laid_out n t)).state; written = added E c (laid_out n t) t.written }

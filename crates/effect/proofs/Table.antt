@@ -7,7 +7,7 @@ use mathlib.Core.Bool.{Bool, true, false, cond}
 use lib.Dec.{ltb}
 use borrow.Author.Tests.{ltb-false, le-ltb}
 use Rattle.effect.specs.Effect.{Effect}
-use Rattle.effect.specs.Run.{tick, CallOf, if_none, first, memory_number, number_for, number_in}
+use Rattle.effect.specs.Run.{tick, CallOf, if_none, first, memory_number, number_for, turn_of, number_now, number_in}
 
 -- ---- numbers
 
@@ -24,7 +24,11 @@ pub first_some : (a b : ℕ) → a ≢ 0 → first a b ≡ a
 first_some zero b f = absurd (f refl)
 first_some (suc a) b f = refl
 
-none_first : (a b : ℕ) → first a b ≡ 0 → (a ≡ 0) × (b ≡ 0)
+pub first-assoc : (a b c : ℕ) → first a (first b c) ≡ first (first a b) c
+first-assoc zero b c = refl
+first-assoc (suc a) b c = refl
+
+pub none_first : (a b : ℕ) → first a b ≡ 0 → (a ≡ 0) × (b ≡ 0)
 none_first zero b e = (refl, e)
 none_first (suc a) b e = absurd (omega arith)
 
@@ -81,11 +85,12 @@ module _ (E : Effect) (n : ℕ) where
   -- the state of any
   pub record Accepted (c : CallOf E) (s : E.State) : Type 0 where
     pub state_fits : E.state_fits s ≡ true
+    pub turn : turn_of E c s ≡ 0
     pub number : number_for E c n (E.settings s) ≡ 0
 
   pub accepted : (c : CallOf E) (s : E.State) → number_in E c n s ≡ 0 → Accepted c s
   accepted c s e = go (E.state_fits s) refl e
     where
-      go : (b : Bool) → E.state_fits s ≡ b → ◌≡◌ {A = ℕ} (cond b (number_for E c n (E.settings s)) 4) 0 → Accepted c s
-      go true f g = record { state_fits = f; number = g }
+      go : (b : Bool) → E.state_fits s ≡ b → ◌≡◌ {A = ℕ} (cond b (number_now E c n s) 4) 0 → Accepted c s
+      go true f g = let v = none_first (turn_of E c s) (number_for E c n (E.settings s)) g in record { state_fits = f; turn = v.0; number = v.1 }
       go false f g = absurd (omega arith)

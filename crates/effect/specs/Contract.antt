@@ -1,11 +1,8 @@
 -- What the contracts of an effect's calls say: state, memory and answer, each equated with the defined one. Assumes nothing.
-use Rattle.std.specs.Prelude.{ℕ, ◌≡◌, List, Float, Result, Ok, Err}
+use Rattle.std.specs.Prelude.{◌≡◌, List, Float}
 use Rattle.std.specs.Borrow.{MutBor}
 use denote.Triple.Both.{Both}
-use Rattle.port.specs.declared.Refusal.{Refusal}
-use Rattle.port.specs.Answer.{Reply, silent, refused, number}
-use Rattle.common.specs.Line.{all_zero}
-use Rattle.effect.specs.Parts.{first_places, held_in}
+use Rattle.port.specs.Answer.{Reply}
 use Rattle.effect.specs.Effect.{Effect}
 use Rattle.effect.specs.Run.{CallOf, device_of, step, reply, start, start_reply}
 
@@ -20,11 +17,6 @@ pub record Starts (E : Effect) (x : E.Start) (m : List Float) (s' : E.State) (m'
   pub state : s' ≡ (start E x m).state
   pub memory : m' ≡ (start E x m).memory
   pub answer : a ≡ start_reply E x m
-
--- The question, of a unit whose tests passed with so many places in use, from place 0 on, or did not.
-abbrev pub silence_of : Result ℕ Refusal → List Float → Reply
-silence_of (Ok used) m = silent (all_zero (held_in (first_places used) m))
-silence_of (Err r) m = refused (number r)
 
 -- ---- a call on lent numbers, at its two moments
 

@@ -5,7 +5,7 @@ use Rattle.float64.specs.Number.{plus_zero}
 use Rattle.common.specs.Line.{zeros}
 use Rattle.effect.specs.Parts.{InOrder}
 use Rattle.effect.specs.Effect.{Effect, InUse, Unnamed}
-use Rattle.effect.specs.Run.{tick, retune, reset, ask, CallOf, Device, number_for, number_at, start_number, start, step, after, replies, Run, final}
+use Rattle.effect.specs.Run.{tick, retune, reset, ask, CallOf, Device, number_now, number_at, start_number, start, step, after, replies, Run, final}
 use Rattle.effect.specs.Trace.{traced, laid_out}
 
 -- The calls after a start that left the unit h end at a clearing: at the start itself, or at an accepted reset or retune.
@@ -41,7 +41,7 @@ pub record Demand1 (E : Effect) : Type 0 where
   pub cleared : (x : Run E) (c : EndsCleared E (initial E x) x.calls) → (final E x).state ≡ cleared_state E (initial E x) (E.settings (final E x).state) c
   -- every state of a run passes the state test, so cause 4 never applies
   pub passes : (x : Run E) → E.state_fits (final E x).state ≡ true
-  pub numbers : (x : Run E) (c : CallOf E) → number_at E c (final E x) ≡ number_for E c (length x.memory) (E.settings (final E x).state)
+  pub numbers : (x : Run E) (c : CallOf E) → number_at E c (final E x) ≡ number_now E c (length x.memory) (final E x).state
   -- the places needed are there; those in use follow each other among them, none twice; and all others are +0
   pub enough : (x : Run E) → E.places (E.settings (final E x).state) ≤ length x.memory
   pub in_order : (k : E.Settings) → InOrder 0 (E.places k) (E.parts k)

@@ -1,6 +1,6 @@
 -- What an effect is: its states, its rows of the table of refusals, and what each accepted call does. Each effect is one value of `Effect`.
 -- Definitions only. Assumes nothing.
-use Rattle.std.specs.Prelude.{ℕ, ◌≢◌, Bool, List, [], ◌∷◌, set, Float}
+use Rattle.std.specs.Prelude.{ℕ, ◌≡◌, ◌≢◌, ◌⊎◌, Bool, List, [], ◌∷◌, set, Float}
 use Rattle.common.specs.Reads.{Read}
 use Rattle.effect.specs.Parts.{Part, InPart}
 
@@ -16,16 +16,30 @@ abbrev pub laid : List Write → List Float → List Float
 laid [] m = m
 laid (w ∷ ws) m = laid ws (set m w.place w.value)
 
--- the place p is not among those written
+-- the place p is among those written
+abbrev pub Named : ℕ → List Write → Type 0
+Named p [] = ⊥
+Named p (w ∷ ws) = (w.place ≡ p) ⊎ Named p ws
+
+-- and is not
 abbrev pub Unnamed : ℕ → List Write → Type 0
 Unnamed p [] = Unit {0}
 Unnamed p (w ∷ ws) = (p ≢ w.place) × Unnamed p ws
+
+-- every write has the property P
+abbrev pub EachWrite : (Write → Type 0) → List Write → Type 0
+EachWrite P [] = Unit {0}
+EachWrite P (w ∷ ws) = P w × EachWrite P ws
+
+-- every value that is written has it
+abbrev pub EachWritten : (Float → Type 0) → List Write → Type 0
+EachWritten P ws = EachWrite (λ w. P w.value) ws
 
 -- ---- the effect
 
 pub record Effect : Type 1 where
   pub State : Type 0
-  -- what is in force from one clearing to the next: the rate; for the delay the coefficient, the maximum and the mode too
+  -- what is in force from one clearing to the next: the rate; for the tape delay the coefficient, for the delay that, the maximum and the mode too
   pub Settings : Type 0
   -- what a start, a retune and a tick are handed; an effect without retune has none
   pub Start : Type 0
@@ -42,6 +56,9 @@ pub record Effect : Type 1 where
   -- the places needed, and those in use, part by part in order: all of these, but for the reverb, whose lines have room up to their longest length
   pub places : Settings → ℕ
   pub parts : Settings → List Part
+  -- Cause 7, 0 for none: of the effect whose tick comes in two calls, a half that is not the one whose turn it is; it stands between causes 4 and 3.
+  -- 0 of every other effect.
+  pub turn_number : Tick → State → ℕ
   -- causes 5 and 6: the number of the first that applies, 0 for none
   pub tick_number : Tick → Settings → ℕ
   -- the state that a refused start gives
@@ -56,9 +73,11 @@ pub record Effect : Type 1 where
   -- the reads that it makes of lines at a distance, whose largest age it answers beside the samples; none of tremolo, reverb (which reads its lines at whole
   -- numbers of samples) and phaser
   pub reads : Tick → State → List Read
-  -- the audio of a tick as the tick takes it: the port's number, +0 if unset, and after the input rule where the effect has that
+  -- the audio of a tick as the tick takes it: the port's number, +0 if unset, and after the input rule where the effect has that; of a tape's store half the value that
+  -- it is handed
   pub input : Tick → Float
-  -- what the state itself keeps of the sound is +0 or −0: the reverb's damping stores, the numbers of the phaser's chains; true where it keeps nothing
+  -- what the state itself keeps of the sound is +0 or −0: the reverb's damping stores, the numbers of the phaser's chains; of the tape delay that no read waits;
+  -- true where it keeps nothing
   pub quiet : State → Bool
 
 -- What an effect's page gives: the fields of `Effect` behind its types, over states S, settings K, and what a start (A), a retune (R) and a tick (T) are handed.
@@ -71,6 +90,7 @@ pub record Page (S K A R T : Type 0) : Type 0 where
   pub settings_number : K → ℕ
   pub places : K → ℕ
   pub parts : K → List Part
+  pub turn_number : T → S → ℕ
   pub tick_number : T → K → ℕ
   pub blank : S
   pub fresh : K → S
@@ -97,6 +117,7 @@ effect_of {S} {K} {A} {R} {T} p =
       settings_number = p.settings_number;
       places = p.places;
       parts = p.parts;
+      turn_number = p.turn_number;
       tick_number = p.tick_number;
       blank = p.blank;
       fresh = p.fresh;

@@ -43,21 +43,32 @@ module _ (E : Effect) where
   abbrev pub DeviceOf : Type 0
   DeviceOf = Device E.State
 
-  -- ---- the table: start 1, 2, 3; retune 4, 1, 2, 3; reset and silent 4, 3; tick 4, 3, 5, 6. The first that applies is given; 0 is none
+  -- ---- the table: start 1, 2, 3; retune 4, 1, 2, 3; reset and silent 4, 3; tick 4, 7, 3, 5, 6. The first that applies is given; 0 is none
 
   abbrev pub start_number : E.Start → ℕ → ℕ
   start_number a n = first (E.settings_number (E.start_settings a)) (memory_number (E.places (E.start_settings a)) n)
 
-  -- without cause 4: by the arguments, the memory's length n and the settings k in force
+  -- without causes 4 and 7: by the arguments, the memory's length n and the settings k in force
   abbrev pub number_for : CallOf → ℕ → E.Settings → ℕ
   number_for (tick t) n k = first (memory_number (E.places k) n) (E.tick_number t k)
   number_for (retune r) n k = first (E.settings_number (E.retune_settings r k)) (memory_number (E.places (E.retune_settings r k)) n)
   number_for reset n k = memory_number (E.places k) n
   number_for ask n k = memory_number (E.places k) n
 
+  -- cause 7, of ticks alone
+  abbrev pub turn_of : CallOf → E.State → ℕ
+  turn_of (tick t) s = E.turn_number t s
+  turn_of (retune r) s = 0
+  turn_of reset s = 0
+  turn_of ask s = 0
+
+  -- without cause 4: cause 7 stands before the others
+  abbrev pub number_now : CallOf → ℕ → E.State → ℕ
+  number_now c n s = first (turn_of c s) (number_for c n (E.settings s))
+
   -- the whole table: cause 4 stands first
   abbrev pub number_in : CallOf → ℕ → E.State → ℕ
-  number_in c n s = cond (E.state_fits s) (number_for c n (E.settings s)) 4
+  number_in c n s = cond (E.state_fits s) (number_now c n s) 4
 
   abbrev pub number_at : CallOf → DeviceOf → ℕ
   number_at c h = number_in c (length h.memory) h.state

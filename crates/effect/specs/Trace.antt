@@ -3,7 +3,7 @@
 use Rattle.std.specs.Prelude.{ℕ, List, [], ◌∷◌, ◌++◌}
 use Rattle.common.specs.Line.{zeros}
 use Rattle.effect.specs.Effect.{Effect, Write, laid}
-use Rattle.effect.specs.Run.{tick, retune, reset, ask, CallOf, Device, if_none, number_for, changed}
+use Rattle.effect.specs.Run.{tick, retune, reset, ask, CallOf, Device, if_none, number_now, changed}
 
 pub record Trace (S : Type 0) : Type 0 where
   pub state : S
@@ -25,7 +25,7 @@ module _ (E : Effect) where
   -- one call in a memory of n places
   abbrev pub trace : ℕ → CallOf E → Trace E.State → Trace E.State
   trace n c t =
-      if_none (number_for E c n (E.settings t.state))
+      if_none (number_now E c n t.state)
       (record { state = (changed E c (laid_out n t)).state; written = added c (laid_out n t) t.written })
       t
 

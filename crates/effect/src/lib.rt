@@ -5,10 +5,10 @@
 ghost use Rattle.std.specs.Prelude.{◌≡◌, cond, length, Ok};
 ghost use Rattle.std.specs.Result.{result_and};
 ghost use Rattle.port.specs.declared.Answer.TheVariants.{Refused};
-ghost use Rattle.port.specs.Answer.{number_of, answer_reply, silence_reply, reply_age};
-ghost use Rattle.common.specs.Line.{zeros};
+ghost use Rattle.port.specs.Answer.{number_of, answer_reply, reply_age};
+ghost use Rattle.common.specs.Line.{zeros, all_zero};
 ghost use Rattle.effect.specs.Run.{if_none, memory_number};
-ghost use Rattle.effect.specs.Contract.{silence_of};
+ghost use Rattle.effect.specs.Parts.{first_places, held_in};
 ghost use Rattle.effect.specs.Needed.{rate_number};
 
 mod unit;
@@ -92,12 +92,11 @@ pub fn clear<T: Copy>(tested: Result<T, Refusal>, mem: &mut [f64])
     }
 }
 
-// The answer to "silent?" of a unit whose tests passed with so many places in use, or did not: whether the first `used` places are +0 or -0.
+// Whether the first `used` places are +0 or -0.
 #[tactic(auto, using(std::proofs::lemmas::List::take_min, crate::proofs::Parts::first_zeros))]
-pub fn silence(used: Result<u64, Refusal>, mem: &[f64]) -> Result<bool, Refusal>
-    ensures { silence_reply result ≡ silence_of used mem.now }
+pub fn first_places_zero(used: u64, mem: &[f64]) -> bool
+    ensures { result ≡ all_zero (held_in (first_places used) mem.now) }
 {
-    let used = used?;
     let end = (used as usize).min(mem.len());
-    Ok(common::all_zero(&mem[..end]))
+    common::all_zero(&mem[..end])
 }

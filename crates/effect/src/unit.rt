@@ -7,7 +7,7 @@ ghost use Rattle.effect.specs.Effect.{Page, effect_of};
 ghost use Rattle.effect.specs.Run.{retune, reset, ask, start_number, number_for, number_in};
 ghost use Rattle.effect.specs.Contract.{Does, Starts};
 
-use crate::{Cleared, check_memory, check_state, clear, silence};
+use crate::{Cleared, check_memory, check_state, clear, first_places_zero};
 use port::Refusal;
 
 // What an effect gives: its page, the states that a start and a reset leave, and its own tests, a few lines each. A trait below, of the six effects that are handed a
@@ -97,16 +97,22 @@ pub trait InMemory: Unit {
     }
 }
 
-// An effect whose places in use are the first of its memory, as many as it needs, and whose state keeps nothing of the sound.
+// An effect whose places in use are the first of its memory, as many as it needs.
 pub trait InOnePart: Unit {
-    // Silent? Whether every place in use is +0 or -0.
+    // Whether the state keeps nothing of the sound.
+    fn quiet(self) -> bool
+        ensures { result ≡ Self.page.quiet self };
+
+    // Silent? Whether that is so, and every place in use is +0 or -0.
     fn silent(self, mem: &[f64]) -> Result<bool, Refusal>
         ensures { Does (effect_of Self.page) ask self mem.now self mem.now (silence_reply result) }
     {
-        silence(self.checked(mem.len()), mem)
+        let used = self.checked(mem.len())?;
+        if !self.quiet() {
+            return Ok(false);
+        }
+        Ok(first_places_zero(used, mem))
     }
-
-    ghost keeps_nothing: { (s : Self) → Self.page.quiet s ≡ true };
 
     ghost one_part: { (s : Self) → Self.page.parts (Self.page.settings s) ≡ first_places (Self.page.places (Self.page.settings s)) };
 }

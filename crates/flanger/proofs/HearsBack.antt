@@ -6,12 +6,12 @@ use Rattle.float64.specs.Number.{half, is_number}
 use Rattle.float64.proofs.Ranges.{in-range}
 use Rattle.common.specs.Signal.{blended}
 use Rattle.common.proofs.Sweep.{control-in}
-use Rattle.effect.specs.HearsBack.{HearsBack}
+use Rattle.effect.specs.HearsBack.{StoresWhereItReads, HearsTicks}
 use Rattle.effect.proofs.HearsBack.{ReadLaws, hears-back}
 use Rattle.flanger.specs.Flanger.{flanger, line_length, input, depth, mix, tap, fed, next, writes, samples}
 use Rattle.flanger.proofs.Laws.{fits-parts, length_fits, tick-fits, distance-in}
 
-read-laws : ReadLaws flanger 2 line_length
+read-laws : ReadLaws flanger (λ t. 2) line_length
 unfolding next writes samples tap is_number Ieee.fits is_nan round
 read-laws =
     record {
@@ -19,8 +19,6 @@ read-laws =
           record {
             many = λ t s. refl;
             lines = λ t s. (refl, (refl, tt));
-            stores = λ t s m. (inl (omega arith), (inr (inl (omega arith)), tt));
-            moves = λ t u s m. ((refl, (refl, refl)), ((refl, (refl, refl)), tt));
             reads-all = λ t s m n e.
                 let w = s.write_pos in
                 let L = line_length s.sample_rate in (
@@ -31,7 +29,6 @@ read-laws =
                   ),
                 );
           };
-      some = omega arith;
       short = λ s e. omega (arith, length_fits s.sample_rate (fits-parts s e).rate);
       distances = λ t s e n.
           let k = tick-fits t n in
@@ -39,5 +36,14 @@ read-laws =
           (far t.sine0 k.sine0, (far t.sine1 k.sine1, tt));
     }
 
-pub shown : HearsBack flanger 2 line_length
-shown = hears-back flanger 2 line_length read-laws
+-- each of its reads is from the position at which the tick stores
+stored : StoresWhereItReads flanger
+unfolding next writes
+stored =
+    record {
+      stores = λ t s m. (inl (omega arith), (inr (inl (omega arith)), tt));
+      moves = λ t u s m. ((refl, (refl, refl)), ((refl, (refl, refl)), tt));
+    }
+
+pub shown : HearsTicks flanger 2 line_length
+shown = record { hears = hears-back flanger (λ t. 2) line_length read-laws; in_ticks = stored }

@@ -10,8 +10,8 @@ use Rattle.common.specs.Signal.{blended}
 use Rattle.common.specs.Line.{all_zero}
 use Rattle.common.proofs.Sweep.{control-in}
 use Rattle.common.proofs.ZeroBlends.{mix-zero, fed-zero}
+use Rattle.effect.specs.Effect.{EachWritten}
 use Rattle.effect.specs.StaysSilent.{StaysSilent}
-use Rattle.effect.proofs.Laws.{EachWritten}
 use Rattle.effect.proofs.Parts.{first-read}
 use Rattle.effect.proofs.SilentLaws.{SilentTick, keeps-nothing}
 use Rattle.effect.proofs.StaysSilent.{stays-silent}
@@ -20,7 +20,7 @@ use Rattle.flanger.specs.Flanger.{Tick, flanger, line_length, places, input, dep
 use Rattle.flanger.proofs.Laws.{fits-parts, length_fits, tick-fits, distance-in}
 use Rattle.flanger.proofs.Demand1.{laws}
 
-module _ (t : Tick) (s : Flanger) (m : List Float) (u : SilentTick flanger t s m) where
+module _ (t : Tick) (s : Flanger) (m : List Float) (u : SilentTick flanger flanger.quiet t s m) where
   -- line i is read
   heard : (i : ℕ) (sine : Float) → i * line_length s.sample_rate + line_length s.sample_rate ≤ places s.sample_rate → sine_fits sine ≡ true → Zero (tap i sine t s m)
   unfolding tap is_number Ieee.fits Ieee.is_nan Ieee.round

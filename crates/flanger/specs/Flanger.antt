@@ -139,6 +139,7 @@ page =
       settings_number = λ rate. cond (rate_fits rate) 0 1;
       places = places;
       parts = λ rate. first_places (places rate);
+      turn_number = λ t s. 0;
       tick_number = λ t rate. tick_number t;
       blank = blank;
       fresh = fresh;

@@ -60,7 +60,7 @@ running : (c : Float) → (1 ≤ stages_at c) × (stages_at c ≤ max_stages)
 unfolding stages_at
 running c = (grind arith, grind arith)
 
-module _ (t : Tick) (s : Phaser) (m : List Float) (u : SilentTick phaser t s m) where
+module _ (t : Tick) (s : Phaser) (m : List Float) (u : SilentTick phaser phaser.quiet t s m) where
   k : TickFits t
   k = tick-fits t u.number
 
@@ -73,7 +73,7 @@ module _ (t : Tick) (s : Phaser) (m : List Float) (u : SilentTick phaser t s m) 
 
   quiet-parts : Quiet
   unfolding quiet
-  quiet-parts = let q = u.quiet in record { x1_l = grind arith; x1_r = grind arith; y1_l = grind arith; y1_r = grind arith }
+  quiet-parts = let q = u.state_calm in record { x1_l = grind arith; x1_r = grind arith; y1_l = grind arith; y1_r = grind arith }
 
   -- a side's chain after the tick
   side : (coef : Float) (x1 y1 : List Float) → allpass_fits coef ≡ true → Zeros x1 → Zeros y1 → Still (chain_after t coef x1 y1)
@@ -112,14 +112,14 @@ fresh-quiet : (rate : Float) → quiet (fresh rate) ≡ true
 unfolding quiet all_zero eq
 fresh-quiet rate = refl
 
-silent-laws : SilentLaws phaser
+silent-laws : SilentLaws phaser phaser.quiet
 silent-laws =
     record {
-      fresh-quiet = fresh-quiet;
-      retuned-quiet = λ rate s. fresh-quiet rate;
+      fresh-calm = fresh-quiet;
+      retuned-calm = λ rate s. fresh-quiet rate;
       answers = answers;
       writes = λ t s m u. tt;
-      next-quiet = next-quiet;
+      next-calm = next-quiet;
     }
 
 pub shown : StaysSilent phaser

@@ -4,10 +4,10 @@ use lib.Ieee.{Float, le, of_int}
 use lib.Ieee as Ieee
 use Rattle.float64.specs.Number.{rate_fits, in_range}
 use Rattle.common.proofs.Ring.{next-lt}
-use Rattle.effect.specs.Effect.{Write, InUse}
+use Rattle.effect.specs.Effect.{Write, EachWrite, InUse}
 use Rattle.effect.specs.Demand1.{Demand1}
 use Rattle.effect.proofs.Table.{none_1}
-use Rattle.effect.proofs.Laws.{EachWrite, Laws, Within}
+use Rattle.effect.proofs.Laws.{Laws, Within}
 use Rattle.effect.proofs.Memory.{each-append}
 use Rattle.effect.proofs.Demand1.{demand-1}
 use Rattle.reverb.specs.declared.tick.Controls.{Controls}

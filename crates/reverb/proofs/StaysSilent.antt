@@ -12,9 +12,8 @@ use Rattle.common.proofs.Tables.{length-table, get_or-table}
 use Rattle.common.proofs.Zeros.{entry-zero, all-zero-by}
 use Rattle.common.proofs.Sweep.{control-in}
 use Rattle.common.proofs.ZeroBlends.{mix-zero}
-use Rattle.effect.specs.Effect.{InUse}
+use Rattle.effect.specs.Effect.{EachWritten, InUse}
 use Rattle.effect.specs.StaysSilent.{StaysSilent}
-use Rattle.effect.proofs.Laws.{EachWritten}
 use Rattle.effect.proofs.Memory.{each-append}
 use Rattle.effect.proofs.Parts.{zero_in, line-zero}
 use Rattle.effect.proofs.SilentLaws.{SilentTick, SilentLaws}
@@ -70,7 +69,7 @@ passed-zero x h (suc n) a z =
 
 -- ---- a tick of a silent reverb
 
-module _ (t : Tick) (s : Reverb) (m : List Float) (u : SilentTick reverb t s m) where
+module _ (t : Tick) (s : Reverb) (m : List Float) (u : SilentTick reverb reverb.quiet t s m) where
   abbrev c : Controls
   c = controls_of t
 
@@ -96,8 +95,8 @@ module _ (t : Tick) (s : Reverb) (m : List Float) (u : SilentTick reverb t s m) 
   -- the stores
   store-zero : (side : Side) (i : ℕ) → i < 8 → Zero (get_or (stores s side) i nan)
   unfolding quiet
-  store-zero left i h = entry-zero 8 s.comb_filter_state_l i nan (both (are_zeros 8 s.comb_filter_state_l) (are_zeros 8 s.comb_filter_state_r) u.quiet).0 h
-  store-zero right i h = entry-zero 8 s.comb_filter_state_r i nan (both (are_zeros 8 s.comb_filter_state_l) (are_zeros 8 s.comb_filter_state_r) u.quiet).1 h
+  store-zero left i h = entry-zero 8 s.comb_filter_state_l i nan (both (are_zeros 8 s.comb_filter_state_l) (are_zeros 8 s.comb_filter_state_r) u.state_calm).0 h
+  store-zero right i h = entry-zero 8 s.comb_filter_state_r i nan (both (are_zeros 8 s.comb_filter_state_l) (are_zeros 8 s.comb_filter_state_r) u.state_calm).1 h
 
   predelay-zero : Zero (predelayed c s m)
   unfolding delayed
@@ -166,14 +165,14 @@ fresh-quiet : (rate : Float) → quiet (fresh rate) ≡ true
 unfolding quiet all_zero eq
 fresh-quiet rate = refl
 
-silent-laws : SilentLaws reverb
+silent-laws : SilentLaws reverb reverb.quiet
 silent-laws =
     record {
-      fresh-quiet = fresh-quiet;
-      retuned-quiet = λ rate s. fresh-quiet rate;
+      fresh-calm = fresh-quiet;
+      retuned-calm = λ rate s. fresh-quiet rate;
       answers = answers;
       writes = written;
-      next-quiet = next-quiet;
+      next-calm = next-quiet;
     }
 
 pub shown : StaysSilent reverb

@@ -184,6 +184,7 @@ page =
       settings_number = λ rate. cond (rate_fits rate) 0 1;
       places = λ rate. tank_size;
       parts = λ rate. parts (lengths_at rate);
+      turn_number = λ t s. 0;
       tick_number = λ t rate. tick_number t;
       blank = blank;
       fresh = fresh;

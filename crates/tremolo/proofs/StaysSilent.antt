@@ -23,7 +23,7 @@ use Rattle.tremolo.proofs.Demand1.{laws}
 abbrev Signed : Float → Type 0
 Signed x = In binary64 (neg (float_of 1)) (float_of 1) x
 
-module _ (t : Tick) (s : Tremolo) (m : List Float) (u : SilentTick tremolo t s m) where
+module _ (t : Tick) (s : Tremolo) (m : List Float) (u : SilentTick tremolo tremolo.quiet t s m) where
   phase-in : In binary64 plus_zero (float_of 1) s.lfo_phase
   unfolding state_fits
   phase-in = unit-in (both (rate_fits s.sample_rate) (phase_fits s.lfo_phase) u.state_fits).1

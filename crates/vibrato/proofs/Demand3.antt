@@ -46,6 +46,7 @@ pub line-laws : LineLaws vibrato lines
 unfolding next writes
 line-laws =
     record {
+      in_turn = λ t s. refl;
       some = omega arith;
       fills = λ k. sym (one-mul (line_length k));
       inside = λ s e. (fits-parts s e).inside;

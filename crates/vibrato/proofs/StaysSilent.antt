@@ -16,7 +16,7 @@ use Rattle.vibrato.specs.Vibrato.{Tick, vibrato, line_length, input, depth, dist
 use Rattle.vibrato.proofs.Laws.{fits-parts, length-fits, tick-fits, distance-in}
 use Rattle.vibrato.proofs.Demand1.{laws}
 
-answers : (t : Tick) (s : Vibrato) (m : List Float) → SilentTick vibrato t s m → all_zero (samples t s m) ≡ true
+answers : (t : Tick) (s : Vibrato) (m : List Float) → SilentTick vibrato vibrato.quiet t s m → all_zero (samples t s m) ≡ true
 unfolding samples delayed all_zero is_number Ieee.fits Ieee.is_nan of_int Ieee.round
 answers t s m u =
     let rate = s.sample_rate in
