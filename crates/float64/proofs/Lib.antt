@@ -1,4 +1,4 @@
--- The float laws. A client needs Interval, Ranges, Clamped, Scaled, Phase, Glide, Parts, Complement and Lengths, and its attributes Literals; what is below them counts values in units of the smallest one. Assumes nothing.
+-- The float laws. A client needs Interval, Ranges, Clamped, Scaled, Phase, Glide, Parts, Complement, Gains and Lengths, and its attributes Literals; what is below them counts values in units of the smallest one. Assumes nothing.
 pub mod Literals
 pub mod Units
 pub mod Round
@@ -16,6 +16,7 @@ pub mod Wholes
 pub mod Glide
 pub mod Parts
 pub mod Complement
+pub mod Gains
 pub mod Lengths
 pub mod Rounding
 pub mod Fields

@@ -1,12 +1,12 @@
 -- The tests for a NaN, an infinity and +0, and conjunctions of tests. Assumes nothing.
-use Rattle.std.proofs.Common.{◌≡◌, Bool, true, false, ◌&&◌, T, sym, refl, ap, ◌∙◌, subst, eqb, ne_eqb}
+use Rattle.std.proofs.Common.{◌≡◌, Bool, true, false, ◌&&◌, T, sym, refl, ap, ◌∙◌, subst, eqb, ne_eqb, eqb-true}
 use mathlib.Core.Bool.{not-not}
 use lib.Ieee as Ieee
 use lib.Ieee.{Float, fin, inf, nan, binary64}
 use lib.Ieee.Scale.{finite}
 use lib.Ieee.Bits.{of_bits-to_bits}
 use Rattle.std.proofs.num.Patterns.{differs}
-use Rattle.float64.specs.Number.{plus_zero}
+use Rattle.float64.specs.Number.{plus_zero, is_zero, is_plus_zero}
 -- both tests of a conjunction that passes pass
 pub use Rattle.std.proofs.lemmas.Bool.{and_parts as both}
 
@@ -43,3 +43,10 @@ no_bits x h e = sym (of_bits-to_bits binary64 x h) ∙ ap (Ieee.of_bits binary64
 pub other_bits : (x : Float) → T (Ieee.fits binary64 x) → Ieee.eq x plus_zero ≡ false → eqb (Ieee.to_bits binary64 x) 0 ≡ false
 unfolding Ieee.eq
 other_bits x h e = ne_eqb (Ieee.to_bits binary64 x) 0 (λ k. clash (ap (λ (y : Float). Ieee.eq y plus_zero) (no_bits x h k)) e)
+
+-- so what passes the test for +0 is a zero
+pub plus-zero-zero : (x : Float) → is_plus_zero x ≡ true → is_zero x ≡ true
+unfolding is_plus_zero Ieee.eq
+plus-zero-zero x h =
+    let p = both (Ieee.fits binary64 x) (eqb (Ieee.to_bits binary64 x) 0) h in
+    ap is_zero (no_bits x (subst T (sym p.0) tt) (eqb-true (Ieee.to_bits binary64 x) 0 p.1))

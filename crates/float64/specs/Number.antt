@@ -63,7 +63,7 @@ coefficient_fits c = in_unit c
 abbrev pub phase_fits : Float → Bool
 phase_fits p = in_unit p
 
--- a frequency in Hz, a sine, and the coefficient of an all-pass, cause 6
+-- a frequency in Hz, a sine, the coefficient of an all-pass, and a saturated value, cause 6
 abbrev pub frequency_fits : Float → Bool
 frequency_fits f = in_range f plus_zero (float_of 32)
 
@@ -72,6 +72,9 @@ sine_fits s = in_signed_unit s
 
 abbrev pub allpass_fits : Float → Bool
 allpass_fits c = in_signed_unit c
+
+abbrev pub saturated_fits : Float → Bool
+saturated_fits v = in_signed_unit v
 
 -- ---- clamp
 

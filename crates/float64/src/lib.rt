@@ -3,7 +3,7 @@
 #![tactic(auto)]
 
 ghost use Rattle.std.specs.Prelude.{◌≡◌, not};
-ghost use Rattle.float64.specs.Number.{is_number, is_finite, in_range, in_unit, in_signed_unit, is_plus_zero, rate_fits, coefficient_fits, phase_fits, frequency_fits, sine_fits, allpass_fits, clamp_of, at_least, at_most, absolute, whole_part, significand_of, Small, round_half_away};
+ghost use Rattle.float64.specs.Number.{is_number, is_finite, in_range, in_unit, in_signed_unit, is_plus_zero, rate_fits, coefficient_fits, phase_fits, frequency_fits, sine_fits, allpass_fits, saturated_fits, clamp_of, at_least, at_most, absolute, whole_part, significand_of, Small, round_half_away};
 
 // IEEE 754's exponent field, the eleven bits under the sign. The field of 1.0: a number with a lower one is below one.
 const FIELD_OF_ONE: u64 = 1023;
@@ -96,7 +96,7 @@ pub fn frequency_fits(x: f64) -> bool
 }
 
 // Whether x is a sine.
-// The test of `allpass_fits` under a name of its own: each names a number that the table tests, both for cause 6, of other effects.
+// The test of `allpass_fits` and `saturated_fits` under a name of its own: each names a number that the table tests, all for cause 6, of other effects.
 pub fn sine_fits(x: f64) -> bool
     ensures { result ≡ sine_fits x }
 {
@@ -106,6 +106,13 @@ pub fn sine_fits(x: f64) -> bool
 // Whether x is the coefficient of an all-pass.
 pub fn allpass_fits(x: f64) -> bool
     ensures { result ≡ allpass_fits x }
+{
+    in_signed_unit(x)
+}
+
+// Whether x is a value that was saturated.
+pub fn saturated_fits(x: f64) -> bool
+    ensures { result ≡ saturated_fits x }
 {
     in_signed_unit(x)
 }
