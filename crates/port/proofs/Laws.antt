@@ -9,7 +9,7 @@ use Rattle.port.specs.declared.Port.{Port}
 use Rattle.port.specs.declared.Port.TheVariants.{Set, Unset}
 use Rattle.port.specs.Port.{value_or, is_nan_set}
 use Rattle.port.specs.declared.Refusal.{Refusal}
-use Rattle.port.specs.declared.Refusal.TheVariants.{SampleRate, GlideCoefficient, Memory, State, Control, Curve}
+use Rattle.port.specs.declared.Refusal.TheVariants.{SampleRate, GlideCoefficient, Memory, State, Control, Curve, Turn}
 use Rattle.port.specs.Answer.{number}
 
 -- a NaN test of a port's value, where the default is a number, is the test that the port is set and NaN
@@ -28,3 +28,4 @@ number-some Memory = omega arith
 number-some State = omega arith
 number-some Control = omega arith
 number-some Curve = omega arith
+number-some Turn = omega arith

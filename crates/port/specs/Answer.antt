@@ -2,7 +2,7 @@
 use Rattle.std.specs.Prelude.{ℕ, Bool, cond, List, [], ◌∷◌, get_or, Float, Result, Ok, Err}
 use Rattle.float64.specs.Number.{plus_zero}
 use Rattle.port.specs.declared.Refusal.{Refusal}
-use Rattle.port.specs.declared.Refusal.TheVariants.{SampleRate, GlideCoefficient, Memory, State, Control, Curve}
+use Rattle.port.specs.declared.Refusal.TheVariants.{SampleRate, GlideCoefficient, Memory, State, Control, Curve, Turn}
 use Rattle.port.specs.declared.Answer.{Answer}
 use Rattle.port.specs.declared.Answer.TheVariants as answer
 
@@ -22,6 +22,7 @@ number Memory = 3
 number State = 4
 number Control = 5
 number Curve = 6
+number Turn = 7
 
 -- the table's number of an outcome, 0 for none
 abbrev pub number_of : {A : Type 0} → Result A Refusal → ℕ

@@ -22,9 +22,10 @@ pub enum Refusal {
     State,
     Control,
     Curve,
+    Turn,
 }
 
-// What a tick answers, in one enum, as document 01 asks: one sample (delay, vibrato, tremolo), two (reverb: left, right), three (chorus, flanger, phaser: mono, left, right), or a refusal.
+// What a tick answers, in one enum, as document 01 asks: one sample (delay, vibrato, tremolo; either half of a tape delay), two (reverb: left, right), three (chorus, flanger, phaser: mono, left, right), or a refusal.
 #[derive(Clone, Copy)]
 pub enum Answer {
     One(f64),
@@ -52,6 +53,7 @@ impl From<Refusal> for u32 {
             Refusal::State => 4,
             Refusal::Control => 5,
             Refusal::Curve => 6,
+            Refusal::Turn => 7,
         }
     }
 }
