@@ -6,7 +6,6 @@ use mathlib.Core.List.{List}
 use lib.Ieee.{Float, le, of_int, to_bits}
 use lib.Ieee as Ieee
 use Rattle.float64.specs.Number.{in_range, is_plus_zero, rate_fits, coefficient_fits}
-use Rattle.float64.proofs.Ranges.{in-range}
 use Rattle.common.proofs.Ring.{next-lt}
 use Rattle.effect.proofs.Parts.{first_in_order, within_first}
 use Rattle.effect.proofs.Table.{none-1-2}
@@ -15,42 +14,44 @@ use Rattle.effect.specs.Demand1.{Demand1}
 use Rattle.effect.proofs.Demand1.{demand-1}
 use Rattle.delay_line.specs.declared.DelayLine.{DelayLine}
 use Rattle.delay_line.specs.declared.Settings.{Settings}
-use Rattle.delay_line.specs.DelayLine.{Tick, delay_line, state_fits, settings, settings_number, maximum_fits, cleared, blank, glide_fits, tick_number, next, writes, places}
-use Rattle.delay_line.proofs.Laws.{fits-parts, fit, held_fits, length-low, size, tick-fits, distance-in}
+use Rattle.delay_line.specs.Halves.{maximum_fits, glide_fits, reader_fits, size}
+use Rattle.delay_line.specs.DelayLine.{Tick, delay_line, state_fits, settings, reader, settings_number, cleared, blank, tick_number, delay_samples, next, writes, places}
+use Rattle.delay_line.proofs.ReaderLaws.{fits-parts, fit, length-low, glide-left}
+use Rattle.delay_line.proofs.Laws.{held_fits, tick-fits, delay-number}
 
 -- ---- the laws
 
 blank-refused : state_fits blank ≡ false
-unfolding state_fits in_range le of_int Ieee.fits
+unfolding reader_fits in_range le of_int Ieee.fits
 blank-refused = refl
 
 -- a clearing leaves a state that passes, where its settings fit
 cleared-fits : (k : Settings) → rate_fits k.rate ≡ true → coefficient_fits k.coefficient ≡ true → maximum_fits k.maximum ≡ true → state_fits (cleared k) ≡ true
 unfolding glide_fits is_plus_zero Ieee.fits to_bits
 cleared-fits k r c m =
-    fit (cleared k) (record { rate = r; maximum = m; inside = omega (arith, length-low k.rate k.maximum (rw (r, m))); coefficient = c; glide = refl })
+    fit (reader (cleared k)) (record { rate = r; maximum = m; inside = omega (arith, length-low k.rate k.maximum (rw (r, m))); coefficient = c; glide = refl })
 
 -- the row of settings that are accepted
 row : (rate coefficient : Float) → settings_number rate coefficient ≡ 0 → (rate_fits rate ≡ true) × (coefficient_fits coefficient ≡ true)
 unfolding settings_number
 row rate coefficient e = none-1-2 (rate_fits rate) (coefficient_fits coefficient) e
 
-next_fits : (t : Tick) (s : DelayLine) → state_fits s ≡ true → tick_number t s.linear_time ≡ 0 → state_fits (next t s) ≡ true
-unfolding next glide_fits
-next_fits t s e n =
-    let f = fits-parts s e in
-    fit (next t s)
+next_fits : (t : Tick) (s : DelayLine) (m : List Float) → state_fits s ≡ true → tick_number t s.linear_time ≡ 0 → state_fits (next t s m) ≡ true
+unfolding next
+next_fits t s m e n =
+    let f = fits-parts (reader s) e in
+    fit (reader (next t s m))
     (record {
       rate = f.rate;
       maximum = f.maximum;
-      inside = next-lt (size s) s.write_pos f.inside;
+      inside = next-lt (size (reader s)) s.write_pos f.inside;
       coefficient = f.coefficient;
-      glide = in-range (distance-in t s f (tick-fits t s.linear_time n));
+      glide = glide-left (reader s) (delay_samples t s) f (delay-number t s f (tick-fits t s.linear_time n));
     })
 
 inside : (t : Tick) (s : DelayLine) (m : List Float) → state_fits s ≡ true → Below (places (settings s)) (writes t s m)
 unfolding writes
-inside t s m e = ((fits-parts s e).inside, tt)
+inside t s m e = ((fits-parts (reader s) e).inside, tt)
 
 pub laws : Laws delay_line
 unfolding next
@@ -61,11 +62,11 @@ laws =
       retuned-settings = λ k s. refl;
       next-settings = λ t s m. refl;
       start_fits = λ x e. let r = row x.rate x.coefficient e in cleared-fits (delay_line.start_settings x) r.0 r.1 (held_fits x.maximum);
-      reset-fits = λ s e. let f = fits-parts s e in cleared-fits (settings s) f.rate f.coefficient f.maximum;
+      reset-fits = λ s e. let f = fits-parts (reader s) e in cleared-fits (settings s) f.rate f.coefficient f.maximum;
       retuned-fits = λ a s e f.
           let r = row a.rate a.coefficient e in
-          cleared-fits (delay_line.retune_settings a (settings s)) r.0 r.1 (fits-parts s f).maximum;
-      next_fits = λ t s m e r n. next_fits t s e n;
+          cleared-fits (delay_line.retune_settings a (settings s)) r.0 r.1 (fits-parts (reader s) f).maximum;
+      next_fits = λ t s m e r n. next_fits t s m e n;
       in_order = λ k. first_in_order (places k);
       inside = λ t s m e. within_first (places (settings s)) (writes t s m) (inside t s m e);
     }

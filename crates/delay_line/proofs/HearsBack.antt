@@ -1,34 +1,42 @@
 -- How far back a delay hears, by its one read, at the distance to which it has glided. Assumes nothing.
 use Rattle.std.proofs.Common.{◌∷◌, [], inl, refl, arith}
-use lib.Ieee.{binary64, add, mul}
-use Rattle.common.specs.Signal.{blended}
-use Rattle.effect.specs.HearsBack.{HearsBack}
+use Rattle.port.specs.Port.{value_or}
+use Rattle.float64.specs.Number.{plus_zero, half}
+use Rattle.effect.specs.HearsBack.{StoresWhereItReads, HearsTicks}
 use Rattle.effect.proofs.HearsBack.{ReadLaws, hears-back}
-use Rattle.delay_line.specs.DelayLine.{delay_line, places, input, feedback, mix, distance, delayed_by, delayed, next, writes, samples}
-use Rattle.delay_line.proofs.Laws.{fits-parts, size-fits, tick-fits, distance-in}
+use Rattle.delay_line.specs.Halves.{size, delayed_by, kept_of, sum_of, stores, half_stored}
+use Rattle.delay_line.specs.DelayLine.{delay_line, ceiling, reader, places, next, writes, samples}
+use Rattle.delay_line.proofs.ReaderLaws.{fits-parts, size-fits}
+use Rattle.delay_line.proofs.Laws.{tick-fits, distance-in}
 
-read-laws : ReadLaws delay_line 1 places
-unfolding next writes samples distance delayed delayed_by
+read-laws : ReadLaws delay_line (λ t. 1) places
+unfolding next writes samples delayed_by
 read-laws =
     record {
       reads =
           record {
             many = λ t s. refl;
             lines = λ t s. (refl, tt);
-            stores = λ t s m. (inl (omega arith), tt);
-            moves = λ t u s m. ((refl, (refl, refl)), tt);
             reads-all = λ t s m n e. (
               refl,
               (
-                λ i. record { place = s.write_pos; value = add binary64 (input t) (mul binary64 (e.0 i) (feedback t)) } ∷ [],
-                λ i. blended (input t) (e.0 i) (mix t) ∷ [],
+                λ i. stores s.write_pos (sum_of ceiling (value_or t.feedback plus_zero) (kept_of (value_or t.audio plus_zero) (e.0 i) (value_or t.mix half))),
+                λ i. (half_stored (size (reader s)) s.write_pos (kept_of (value_or t.audio plus_zero) (e.0 i) (value_or t.mix half))).sample ∷ [],
               ),
             );
           };
-      some = omega arith;
-      short = λ s e. omega (arith, (size-fits s (fits-parts s e)).1);
-      distances = λ t s e n. (distance-in t s (fits-parts s e) (tick-fits t s.linear_time n), tt);
+      short = λ s e. omega (arith, (size-fits (reader s) (fits-parts (reader s) e)).1);
+      distances = λ t s e n. (distance-in t s (fits-parts (reader s) e) (tick-fits t s.linear_time n), tt);
     }
 
-pub shown : HearsBack delay_line 1 places
-shown = hears-back delay_line 1 places read-laws
+-- its read is from the position at which the tick stores
+stored : StoresWhereItReads delay_line
+unfolding next writes
+stored =
+    record {
+      stores = λ t s m. (inl (omega arith), tt);
+      moves = λ t u s m. ((refl, (refl, refl)), tt);
+    }
+
+pub shown : HearsTicks delay_line 1 places
+shown = record { hears = hears-back delay_line (λ t. 1) places read-laws; in_ticks = stored }

@@ -1,3 +1,4 @@
+pub mod ReaderLaws
 pub mod Laws
 pub mod Demand1
 pub mod StaysSilent

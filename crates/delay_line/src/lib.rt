@@ -1,22 +1,22 @@
 // The delay line: one line in lent memory, fed back into itself, read at a distance that glides to the delay time. The state goes in and out by value.
 #![tactic(auto)]
 
-ghost use Rattle.std.specs.Prelude.{◌≡◌, true, false, cond, ◌&&◌, ◌≤◌, [], ◌∷◌, length, set, refl};
-ghost use Rattle.std.specs.Bool.{then_some};
-ghost use Rattle.std.specs.Float.{binary64};
-ghost use Rattle.std.specs.Float.Ieee.{add, mul};
-ghost use Rattle.float64.specs.Number.{plus_zero, float_of, fraction, is_number, rate_fits, coefficient_fits, clamp_of};
+ghost use Rattle.std.specs.Prelude.{◌≡◌, true, false, cond, [], ◌∷◌, length, set, refl};
+ghost use Rattle.float64.specs.Number.{plus_zero, is_number};
 ghost use Rattle.port.specs.declared.Port.TheVariants.{Set, Unset};
 ghost use Rattle.port.specs.Answer.{played, number_of, outcome_reply, answer_reply};
-ghost use Rattle.common.specs.Signal.{sanitized, blended};
-ghost use Rattle.common.specs.Reads.{age_at};
-ghost use Rattle.effect.specs.Run.{tick, memory_number, number_in};
+ghost use Rattle.effect.specs.Run.{tick, number_in};
 ghost use Rattle.effect.specs.Contract.{Does, Starts};
 ghost use Rattle.effect.specs.Needed.{places_if_accepted};
-ghost use Rattle.delay_line.specs.DelayLine.{Tick, page, delay_line, handing, start_settings, retune_settings, settings, tick_of, held_maximum, maximum_fits, line_length, state_of, cleared, glide_fits, state_fits, samples_of, glided, reads_at, delayed_by, next_state};
+ghost use Rattle.delay_line.specs.Halves.{settings_row, size, linear_ms, samples_of, half_read};
+ghost use Rattle.delay_line.specs.DelayLine.{Tick, page, delay_line, ceiling, handing, start_settings, retune_settings, settings, reader, tick_of, held_maximum, state_of, cleared, state_fits, Advances};
 
-use common::Line;
+mod halves;
+
 use effect::{Cleared, InMemory, InOnePart, Ticked, Unit};
+pub use halves::{
+    HalfRead, HalfStored, Kept, Reader, line_length, linear_ms, samples_of, settings_refusal,
+};
 use port::{Answer, Port, Refusal};
 
 #[derive(Clone, Copy)]
@@ -56,28 +56,11 @@ impl Settings {
         linear: false,
     };
 
-    // The places of the line; none where the rate or the maximum is out of range.
-    #[tactic(auto, using(crate::proofs::Laws::size_cases), unfolding(crate::specs::DelayLine::line_length))]
-    fn line_length(self) -> Option<u64>
-        ensures { result ≡ then_some (rate_fits self.rate && maximum_fits self.maximum) (line_length self.rate self.maximum) }
-    {
-        if !(float64::rate_fits(self.rate) & DelayLine::maximum_fits(self.maximum)) {
-            return None;
-        }
-        Some(float64::whole_part_small(self.rate * self.maximum) + 1)
-    }
-
-    // Causes 1, 2 and 3, the second of which no other effect has. A maximum out of range, which only a state that fails its test has, counts as a refused rate: the state
-    // test stands before these, and gives 4.
+    // Causes 1, 2 and 3.
     fn refusal(self, places: usize) -> Result<(), Refusal>
-        ensures { number_of result ≡ cond (rate_fits self.rate && maximum_fits self.maximum)
-            (cond (coefficient_fits self.coefficient) (memory_number (line_length self.rate self.maximum) places) 2) 1 }
+        ensures { number_of result ≡ settings_row self.rate self.maximum self.coefficient places }
     {
-        let n = self.line_length().ok_or(Refusal::SampleRate)?;
-        if !float64::coefficient_fits(self.coefficient) {
-            return Err(Refusal::GlideCoefficient);
-        }
-        effect::check_memory(n, places)
+        halves::settings_refusal(self.rate, self.maximum, self.coefficient, places)
     }
 
     // With the maximum held.
@@ -147,16 +130,8 @@ impl Unit for DelayLine {
         handed.held().refusal(places)
     }
 
-    #[tactic(auto, using(crate::proofs::Laws::size_cases), unfolding(crate::specs::DelayLine::state_fits))]
     fn fitting_places(self) -> Option<u64> {
-        let n = self.settings().line_length()?;
-        if self.write_pos >= n {
-            return None;
-        }
-        if !float64::coefficient_fits(self.delay_smooth_coef) {
-            return None;
-        }
-        self.glide_fits(n).then_some(n)
+        self.reader().fitting_places()
     }
 }
 
@@ -172,7 +147,10 @@ impl InMemory for DelayLine {
 }
 
 impl InOnePart for DelayLine {
-    ghost keeps_nothing = { λ s. refl };
+    // Its state keeps nothing of the sound.
+    fn quiet(self) -> bool {
+        true
+    }
 
     ghost one_part = { λ s. refl };
 }
@@ -181,8 +159,10 @@ impl DelayLine {
     pub const MAX_DELAY_SECS: f64 = 2.0;
 
     pub const MAX_DELAY_CAP_SECS: f64 = 60.0;
-    // The Rust has this limit as a bare number.
+    // The Rust has these limits as bare numbers.
     pub const MIN_DELAY_SECS: f64 = 0.001;
+
+    pub const MAX_FEEDBACK: f64 = 0.99;
 
     // The maximum in seconds: not finite means 2, else clamped.
     #[tactic(auto, unfolding(crate::specs::DelayLine::held_maximum, float64::proofs::Literals::of_bits, float64::proofs::Literals::of_int, float64::proofs::Literals::round))]
@@ -196,28 +176,12 @@ impl DelayLine {
         float64::clamp(seconds, DelayLine::MIN_DELAY_SECS, most)
     }
 
-    #[tactic(auto, unfolding(float64::proofs::Literals::of_bits, float64::proofs::Literals::of_int, float64::proofs::Literals::round))]
-    fn maximum_fits(seconds: f64) -> bool
-        ensures { result ≡ maximum_fits seconds }
-    {
-        float64::in_range(
-            seconds,
-            DelayLine::MIN_DELAY_SECS,
-            DelayLine::MAX_DELAY_CAP_SECS,
-        )
-    }
-
     // The places that a start needs at the rate, with a maximum still to be held; none for a rate that is refused. The coefficient has no part in it.
     #[tactic(auto, using(crate::proofs::Laws::held_fits, crate::proofs::Laws::zero_fits), unfolding(crate::specs::DelayLine::settings_number))]
     pub fn places_needed(rate: f64, seconds: f64) -> Option<u64>
         ensures { result ≡ places_if_accepted delay_line (start_settings (handing rate plus_zero seconds false)) }
     {
-        let settings = Settings {
-            rate,
-            maximum: DelayLine::held_maximum(seconds),
-            ..Settings::NONE
-        };
-        settings.line_length()
+        halves::line_length(rate, DelayLine::held_maximum(seconds))
     }
 
     // Start, by the Rust's name, with the glide coefficient from the host; `linear` is the Rust's `with_linear_time`.
@@ -251,44 +215,33 @@ impl DelayLine {
         }
     }
 
-    // The glide distance in a line of n places: +0 while unprimed, else 1 to n - 1.
-    #[tactic(auto, unfolding(crate::specs::DelayLine::glide_fits, float64::proofs::Literals::of_bits, float64::proofs::Literals::of_int))]
-    fn glide_fits(self, n: u64) -> bool
-        requires n_at_least { 1 ≤ n }
-        requires n_bound { n ≤ 11520001 }
-        ensures { result ≡ glide_fits self.delay_primed self.smoothed_delay n }
+    // What reads its line.
+    fn reader(self) -> Reader
+        ensures { result ≡ reader self }
     {
-        if self.delay_primed {
-            return float64::in_range(self.smoothed_delay, 1.0, f64::from((n - 1) as u32));
+        Reader {
+            write_pos: self.write_pos,
+            sample_rate: self.sample_rate,
+            max_delay_secs: self.max_delay_secs,
+            smoothed_delay: self.smoothed_delay,
+            delay_smooth_coef: self.delay_smooth_coef,
+            delay_primed: self.delay_primed,
         }
-        float64::is_plus_zero(self.smoothed_delay)
     }
 
-    // The distance to read at: the target itself on the first tick after a clearing, later ones glide to it. It stays inside the line by itself, so that
-    // no clamp follows.
-    #[tactic(auto, unfolding(crate::specs::DelayLine::glided))]
-    fn glided(self, target: f64) -> f64
-        ensures { result ≡ glided self.delay_primed self.smoothed_delay self.delay_smooth_coef target }
-    {
-        if !self.delay_primed {
-            return target;
-        }
-        target + (self.smoothed_delay - target) * self.delay_smooth_coef
-    }
-
-    // The delay in samples, not yet held to the line: milliseconds x rate / 1000, in linear mode of the time port's seconds, else of those handed. It is
-    // NaN where what it is read from is.
-    #[tactic(auto, unfolding(crate::specs::DelayLine::samples_of, float64::proofs::Literals::of_bits, float64::proofs::Literals::of_int))]
+    // The delay in samples, not yet held to the line: in linear mode of the time port's seconds, else of the milliseconds handed. It is NaN where what it is read
+    // from is.
     fn delay_samples(self, time: f64, milliseconds: f64) -> f64
-        ensures value { result ≡ samples_of self.sample_rate
-            (cond self.linear_time (mul binary64 (clamp_of time plus_zero self.max_delay_secs) (float_of 1000)) milliseconds) }
+        ensures value { result ≡ samples_of self.sample_rate (cond self.linear_time (linear_ms self.max_delay_secs time) milliseconds) }
         ensures from_numbers { is_number result ≡ true → cond self.linear_time (is_number time) (is_number milliseconds) ≡ true }
     {
         if self.linear_time {
-            return float64::clamp(time, 0.0, self.max_delay_secs) * 1000.0 * self.sample_rate
-                / 1000.0;
+            return halves::samples_of(
+                self.sample_rate,
+                halves::linear_ms(self.max_delay_secs, time),
+            );
         }
-        milliseconds * self.sample_rate / 1000.0
+        halves::samples_of(self.sample_rate, milliseconds)
     }
 
     // Causes 4, 3, 5 and 6 of a tick with these numbers, in that order: for a tick that met a NaN.
@@ -322,9 +275,8 @@ impl DelayLine {
         }
     }
 
-    // An accepted tick with its ports' numbers and its delay in samples, of the line by itself, which is read before the store. The glide goes to the samples,
-    // held to the line.
-    #[tactic(auto, using(crate::proofs::Laws::ready, crate::proofs::Laws::read_on_line), unfolding(crate::specs::DelayLine::reads_at, crate::specs::DelayLine::delayed_by, float64::proofs::Literals::of_bits, float64::proofs::Literals::of_int, float64::proofs::Literals::round))]
+    // An accepted tick with its ports' numbers and its delay in samples, of the line by itself: the read half, and then the store half with the sum as it is.
+    #[tactic(auto, using(crate::proofs::ReaderLaws::ready), unfolding(float64::proofs::Literals::of_bits, float64::proofs::Literals::round))]
     fn advance(
         self,
         places: &mut [f64],
@@ -333,34 +285,25 @@ impl DelayLine {
         feedback: f64,
         mix: f64,
     ) -> Ticked<DelayLine>
-        requires places_value { length places.old ≡ line_length self.sample_rate self.max_delay_secs }
+        requires places_value { length places.old ≡ size (reader self) }
         requires self_fits { state_fits self ≡ true }
         requires samples_is_number { is_number samples ≡ true }
-        ensures state_value { result.state ≡ next_state (length places.old) (reads_at self samples) self }
-        ensures answer_value { answer_reply result.answer result.age ≡ played
-            (blended (sanitized audio) (delayed_by self samples places.old) (clamp_of mix plus_zero (float_of 1)) ∷ []) (age_at (reads_at self samples)) }
-        ensures places_after { places.new ≡ set places.old self.write_pos
-            (add binary64 (sanitized audio)
-            (mul binary64 (delayed_by self samples places.old) (clamp_of feedback plus_zero (fraction 99 100)))) }
+        ensures { Advances self (half_read ceiling (reader self) samples audio feedback mix places.old) places.old result.state
+            places.new (answer_reply result.answer result.age) }
     {
-        let w = self.write_pos as usize;
-        let line = Line {
-            places: &places[..],
-            write_pos: w,
-        };
-        let target = line.hold(samples);
-        let distance = self.glided(target);
-        let input = common::sanitize_audio(audio);
-        let back = float64::clamp(feedback, 0.0, 0.99);
-        let wet = float64::clamp(mix, 0.0, 1.0);
-        let delayed = line.read(distance);
-        let write_pos = line.next_place();
-        places[w] = input + delayed.sample * back;
-        let out = common::blend(input, delayed.sample, wet);
+        let half = self.reader().read_half(
+            &places[..],
+            samples,
+            audio,
+            feedback,
+            mix,
+            DelayLine::MAX_FEEDBACK,
+        );
+        let stored = half.kept.store_half(places, self.write_pos, half.sum);
         Ticked {
-            state: self.next(write_pos, distance),
-            answer: Answer::One(out),
-            age: delayed.age,
+            state: self.next(stored.write_pos, half.smoothed_delay),
+            answer: Answer::One(stored.sample),
+            age: half.age,
         }
     }
 

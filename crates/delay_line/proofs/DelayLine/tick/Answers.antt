@@ -59,6 +59,6 @@ returns c =
     let does = c.advance.ensures in
     accepts delay_line (tick t) s m
     (sym (tick_row delay_line t s m passed (sym none ∙ set-row t s.linear_time time back wet)))
-    (next-is t s m long passed audio time back wet read does.state_value)
-    (stored_is t s m long passed audio time back wet read does.places_after)
-    (played-is t s m long passed audio time back wet read does.answer_value)
+    (next-is t s m long passed audio time back wet read does.state)
+    (stored_is t s m long passed audio time back wet read does.memory)
+    (played-is t s m long passed audio time back wet read does.answer)
