@@ -1,0 +1,4 @@
+pub mod Laws
+pub mod Demand1
+pub mod StaysSilent
+pub mod HearsBack
