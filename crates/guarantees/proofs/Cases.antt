@@ -10,6 +10,7 @@ use Rattle.chorus.specs.Chorus as cho
 use Rattle.flanger.specs.Flanger as flan
 use Rattle.vibrato.specs.Vibrato as vib
 use Rattle.tremolo.specs.Tremolo as trem
+use Rattle.delay_line.specs.Halves as halves
 use Rattle.delay_line.specs.DelayLine as delay
 use Rattle.reverb.specs.Freeverb.{comb_store, comb_fed, combed, pass_output, pass_fed}
 use Rattle.reverb.specs.Tunings.{ratio, scaled, spread, beside}
@@ -18,7 +19,7 @@ use Rattle.needed.specs.Needed.{needed_by}
 use Rattle.guarantees.specs.Starred.{Starred}
 
 pub starred-hold : Starred
-unfolding needed_by replies read_at age_at blended comb_store comb_fed combed pass_output pass_fed ratio scaled spread beside delay_samples is_number is_finite in_range in_unit is_plus_zero clamp_of at_most round_half_away add sub mul div neg eq lt le fits is_nan of_int round to_unsigned to_bits cho.line_length flan.line_length vib.line_length trem.state_fits trem.tick_number trem.samples trem.modulated trem.lfo trem.triangle delay.held_maximum delay.settings_number delay.line_length delay.glide_fits delay.state_fits delay.tick_number delay.delay_ms delay.samples_of delay.glided delay.reads_at delay.distance delay.delayed_by delay.delayed delay.next delay.writes delay.samples
+unfolding needed_by replies read_at age_at blended comb_store comb_fed combed pass_output pass_fed ratio scaled spread beside delay_samples is_number is_finite in_range in_unit is_plus_zero clamp_of at_most round_half_away add sub mul div neg eq lt le fits is_nan of_int round to_unsigned to_bits cho.line_length flan.line_length vib.line_length trem.state_fits trem.tick_number trem.samples trem.modulated trem.lfo trem.triangle halves.line_length halves.glide_fits halves.reader_fits halves.linear_ms halves.samples_of halves.glided halves.reads_at halves.delayed_by delay.held_maximum delay.settings_number delay.tick_number delay.delay_ms delay.next delay.writes delay.samples
 starred-hold =
     record {
       hold = (refl, (refl, (refl, (refl, (refl, (refl, (refl, (refl, (refl, (refl, (refl, ((refl, refl), ((refl, refl), ((refl, refl), (refl, (refl, (refl, (refl, (refl, (refl, ((refl, refl), ((refl, refl), (refl, (refl, tt))))))))))))))))))))))));

@@ -1,3 +1,4 @@
 pub mod Shown
 pub mod Cases
+pub mod Pairs
 pub mod Places

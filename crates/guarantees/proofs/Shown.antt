@@ -1,5 +1,5 @@
 -- The statements of specs/, each by what its effects show. Assumes nothing.
-use Rattle.std.proofs.Common.{◌≡◌, ℕ, zero, suc, ◌≤◌, [], refl, sym, ap}
+use Rattle.std.proofs.Common.{◌≡◌, ℕ, zero, suc, ◌≤◌, [], refl, sym, ap, arith}
 use mathlib.Core.Bool.{or-false}
 use lib.Ieee.{nan, inf, fin, eq}
 use Rattle.float64.specs.Number.{is_zero}
@@ -44,8 +44,12 @@ use Rattle.phaser.specs.Phaser.{phaser, Tick, stages, next, chain_after}
 use Rattle.phaser.proofs.Demand1 as phaser1
 use Rattle.phaser.proofs.StaysSilent as phaser-silent
 use Rattle.phaser.proofs.Idle.{x1-kept, y1-kept}
+use Rattle.tape_delay.specs.TapeDelay as tape
+use Rattle.tape_delay.proofs.Demand1 as tape1
+use Rattle.tape_delay.proofs.HearsBack as tape-ages
 use Rattle.guarantees.proofs.Places.{places-needed}
 use Rattle.guarantees.proofs.Cases.{starred-hold}
+use Rattle.guarantees.proofs.Pairs.{tapes, tape-lamp}
 use Rattle.guarantees.specs.CleanMemory.{CleanMemory}
 use Rattle.guarantees.specs.RecentPasts.{RecentPasts}
 use Rattle.guarantees.specs.WholePart.{WholePart}
@@ -64,6 +68,7 @@ clean-memory =
       tremolos = tremolo1.shown;
       reverbs = reverb1.shown;
       phasers = phaser1.shown;
+      tapes = tape1.shown;
     }
 
 pub recent-pasts : RecentPasts
@@ -71,8 +76,8 @@ recent-pasts =
     record {
       choruses = chorus3.shown3;
       vibratos = vibrato3.shown3;
-      chorus-lists = covers chorus chorus1.laws;
-      vibrato-lists = covers vibrato vibrato1.laws;
+      chorus-lists = covers chorus chorus1.laws (λ t s. refl);
+      vibrato-lists = covers vibrato vibrato1.laws (λ t s. refl);
     }
 
 pub whole_part : WholePart
@@ -133,6 +138,7 @@ lamp =
       tremolos = record { input_is = λ t. refl; stays = tremolo-silent.shown };
       reverbs = record { input_is = λ t. refl; stays = reverb-silent.shown };
       phasers = record { input_is = λ t. refl; stays = phaser-silent.shown };
+      tapes = tape-lamp;
       as_it_is_zero = as_it_is_zero;
       under_rule_zero = under_rule_zero;
     }
@@ -144,12 +150,15 @@ ageless : (E : Effect) → ((t : E.Tick) (s : E.State) → E.reads t s ≡ []) �
 ageless E none t h = if_none-both (λ r. reply_age r ≡ 0) (number_at E (tick t) h) (ap largest_age (none t h.state)) refl
 
 pub ages : Ages
+unfolding tape.reads
 ages =
     record {
       delay-lines = delay-ages.shown;
       choruses = chorus-ages.shown;
       flangers = flanger-ages.shown;
       vibratos = vibrato-ages.shown;
+      tapes = tape-ages.shown;
+      tape_position = λ p s. (omega arith, tt);
       tremolos = ageless tremolo (λ t s. refl);
       reverbs = ageless reverb (λ t s. refl);
       phasers = ageless phaser (λ t s. refl);
@@ -159,4 +168,4 @@ ages =
     }
 
 -- what the functions' contracts say
-pub ruleset statements = (clean-memory, recent-pasts, places-needed, starred-hold, whole_part, one_line, idle_stages, lamp, ages)
+pub ruleset statements = (clean-memory, recent-pasts, places-needed, starred-hold, whole_part, one_line, idle_stages, lamp, ages, tapes)

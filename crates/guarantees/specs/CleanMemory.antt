@@ -8,6 +8,7 @@ use Rattle.vibrato.specs.Vibrato.{vibrato}
 use Rattle.tremolo.specs.Tremolo.{tremolo}
 use Rattle.reverb.specs.Reverb.{reverb}
 use Rattle.phaser.specs.Phaser.{phaser}
+use Rattle.tape_delay.specs.TapeDelay.{tape_delay}
 
 pub record CleanMemory : Type 0 where
   pub delay-lines : Demand1 delay_line
@@ -17,3 +18,4 @@ pub record CleanMemory : Type 0 where
   pub tremolos : Demand1 tremolo
   pub reverbs : Demand1 reverb
   pub phasers : Demand1 phaser
+  pub tapes : Demand1 tape_delay

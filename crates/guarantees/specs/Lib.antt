@@ -7,3 +7,4 @@ pub mod OneLine
 pub mod IdleStages
 pub mod Lamp
 pub mod Ages
+pub mod Tapes

@@ -11,6 +11,7 @@ ghost use Rattle.guarantees.specs.OneLine.{OneLine};
 ghost use Rattle.guarantees.specs.IdleStages.{IdleStages};
 ghost use Rattle.guarantees.specs.Lamp.{Lamp};
 ghost use Rattle.guarantees.specs.Ages.{Ages};
+ghost use Rattle.guarantees.specs.Tapes.{Tapes};
 ghost use Rattle.std.specs.Prelude.{◌≡◌};
 ghost use Rattle.tremolo.specs.Tremolo as tremolo_page;
 ghost use Rattle.vibrato.specs.Vibrato as vibrato_page;
@@ -19,6 +20,7 @@ ghost use Rattle.flanger.specs.Flanger as flanger_page;
 ghost use Rattle.delay_line.specs.DelayLine as delay_page;
 ghost use Rattle.reverb.specs.Reverb as reverb_page;
 ghost use Rattle.phaser.specs.Phaser as phaser_page;
+ghost use Rattle.tape_delay.specs.TapeDelay as tape_page;
 
 use chorus::Chorus;
 use delay_line::DelayLine;
@@ -26,6 +28,7 @@ use effect::Unit;
 use flanger::Flanger;
 use phaser::Phaser;
 use reverb::Reverb;
+use tape_delay::TapeDelay;
 use tremolo::Tremolo;
 use vibrato::Vibrato;
 
@@ -64,7 +67,7 @@ pub fn idle_stages()
     ensures { IdleStages }
 {}
 
-// A silent unit of any effect, given zero audio, answers zeros and stays silent.
+// A silent unit of any effect, given zero audio, answers zeros and is silent after each tick.
 pub fn lamp()
     ensures { Lamp }
 {}
@@ -72,6 +75,11 @@ pub fn lamp()
 // The age that a tick answers is that of the oldest sample that its reads weighed above 0.
 pub fn ages()
     ensures { Ages }
+{}
+
+// Every place of a tape's line lies from -5 to 5; its two halves are a tick; and what becomes of a read that waits.
+pub fn tapes()
+    ensures { Tapes }
 {}
 
 // The page by which each effect's start, retune, reset and question go is its own.
@@ -83,4 +91,5 @@ pub fn pages()
     ensures of_delay { ⟦<DelayLine as Unit>⟧.page ≡ delay_page.page }
     ensures of_reverb { ⟦<Reverb as Unit>⟧.page ≡ reverb_page.page }
     ensures of_phaser { ⟦<Phaser as Unit>⟧.page ≡ phaser_page.page }
+    ensures of_tape_delay { ⟦<TapeDelay as Unit>⟧.page ≡ tape_page.page }
 {}
