@@ -12,7 +12,8 @@
  *   room_E_start(&state, memory, places, ...)
  *                                        makes a state at a sample rate
  *   room_E_tick(&state, memory, places, ports..., curve numbers..., out, &age)
- *                                        one sample in, one, two or three out; see "Ages"
+ *                                        one sample in, one, two or three out; see "Ages". The tape delay's tick is two
+ *                                        calls, a read half and a store half: see there
  *   room_E_retune(&state, memory, places, ...)
  *                                        goes to another sample rate, its lines cleared (effects with lines)
  *   room_E_reset(&state, memory, places) back to what start left, at the same rate
@@ -27,30 +28,33 @@
  * Every call returns 0 if it was accepted, else the number of the cause for which it was refused (enum room_cause):
  *
  *   1  the sample rate is NaN or outside 8,000 to 192,000
- *   2  the glide coefficient is NaN, below 0, or 1 or more (delay only)
+ *   2  the glide coefficient is NaN, below 0, or 1 or more (delay and tape delay only)
  *   3  the memory has fewer places than the effect needs at its rate, for a retune at the new one (effects with lines)
  *   4  a field of the state is outside what its struct's comments say
  *   5  a control that this tick reads is set and is NaN
- *   6  a curve number is NaN, a sine or an all-pass coefficient is outside -1 to 1, or a frequency is outside 0 to 32
+ *   6  a curve number is NaN, a sine, an all-pass coefficient or a saturated value is outside -1 to 1, or a frequency is
+ *      outside 0 to 32
+ *   7  a half of a tick is out of turn: a read half while a read waits, a store half while none does (tape delay only)
  *
- * Where several apply, the first in this order is returned: start 1, 2, 3; retune 4, 1, 2, 3; reset and silent 4, 3; tick 4,
- * 3, 5, 6.
+ * Where several apply, the first in this order is returned: start 1, 2, 3; retune 4, 1, 2, 3; reset and silent 4, 3; tick 4, 7,
+ * 3, 5, 6, of which the tape delay's read half has 4, 7, 3, 5, and its store half 4, 7, 3, 6.
  *
- * A refused call changes nothing: every field of the state and every place of the memory is left as it was, to the bit. What
- * it puts out is written all the same, so that a host that overlooks the number plays silence and not noise: a refused tick
- * puts +0 into every sample of `out` and 0 into the age, a refused silent puts 0, for no, and a refused start, which has no
- * state to leave, writes a state of zeros, which every later call refuses with 4.
+ * A refused call changes nothing: every field of the state and every place of the memory is left as it was, to the bit. What it
+ * puts out is written all the same, so that a host that overlooks the number plays silence and not noise: a refused tick puts
+ * +0 into every sample of `out`, or into the sum, and 0 into the age, a refused silent puts 0, for no, and a refused start,
+ * which has no state to leave, writes a state of zeros, which every later call refuses with 4.
  *
  * Memory
  *
  * An effect with lines is lent its places with each call: `memory` is the address of the first, `places` how many there are.
- * The host keeps them. It lends a unit the same places each time, writes nothing there between calls, and keeps them apart
- * from the state, from `out` and from the age, and those from each other. What they hold before a start is of no account.
+ * The host keeps them. It lends a unit the same places each time, writes nothing there between calls, and keeps them apart from
+ * the state, from `out` or the sum and from the age, and those from each other. What they hold before a start is of no account.
  *
  * A line has L places, by the sample rate: the whole part of n x rate / 1000, plus 10, with n as the effect says; the delay's
- * has the whole part of rate x maximum, plus 1. A unit's lines follow each other from place 0. The reverb's lie in a tank of
- * one size: see there. The memory may be longer than that. Start, retune and reset put +0 into every place, spare ones too; a
- * tick writes one place of each line and never a spare one. room_places_needed says how many places an effect needs.
+ * has the whole part of rate x maximum, plus 1, and the tape delay's as many as with a maximum of 12 s. A unit's lines follow
+ * each other from place 0. The reverb's lie in a tank of one size: see there. The memory may be longer than that. Start, retune
+ * and reset put +0 into every place, spare ones too; a tick writes one place of each line and never a spare one; of the tape
+ * delay's halves the read half writes none. room_places_needed says how many places an effect needs.
  *
  * With 0 places the address is not used and may be NULL: an effect with lines refuses that as any memory that is too short.
  * Every other address that a call is handed is that of an object of its type, never NULL: that of the age too, where a host
@@ -63,12 +67,13 @@
  *
  * Ages
  *
- * A tick of delay, chorus, flanger or vibrato answers, beside its samples, an age: how many ticks back the oldest sample lies
- * that its reads weigh above 0. A read between two places weighs both, the older one by the fraction of its distance; so the
- * age of a read is the whole part of its distance, plus 1 where the fraction is not 0. That of a tick is the largest over its
- * reads: one in delay and vibrato, two in the flanger, three in the chorus. It is 1 to L - 1, where 1 is what the tick before
- * stored. Where it is more than the accepted ticks made between the last clearing and this one, that sample is a +0 that the
- * clearing left. In milliseconds it is age x 1000.0 / rate: age x 1000 may be too large for 32 bits. A refused tick answers 0.
+ * A tick of delay, tape delay, chorus, flanger or vibrato answers, beside its samples, an age: how many ticks back the oldest
+ * sample lies that its reads weigh above 0. A read between two places weighs both, the older one by the fraction of its
+ * distance; so the age of a read is the whole part of its distance, plus 1 where the fraction is not 0. That of a tick is the
+ * largest over its reads: one in delay, tape delay and vibrato, two in the flanger, three in the chorus. The tape delay's read
+ * half answers it, the sum beside it. It is 1 to L - 1, where 1 is what the tick before stored. Where it is more than the
+ * accepted ticks made between the last clearing and this one, that sample is a +0 that the clearing left. In milliseconds it is
+ * age x 1000.0 / rate: age x 1000 may be too large for 32 bits. A refused tick answers 0.
  *
  * It speaks of reads. A mix of 0 hides none. While a delay glides, its age is that of the glide, where the tick reads, and not
  * of the target. Where a line feeds back, a sample carries older sound on: the age is the sample's.
@@ -79,16 +84,21 @@
  * Silence
  *
  * "Silent?" is answered yes where every place in use is +0 or -0, and with them what the state itself keeps of the sound: the
- * reverb's damping stores, the phaser's 24 numbers. A silent unit whose audio is 0 (unset, +0 or -0; in delay, chorus, flanger,
- * reverb and phaser also NaN or infinite) and whose controls are accepted puts out only +0 and -0, and is silent after the
- * tick: it stays so until other audio comes. So a lamp that shows the answer may be trusted.
+ * reverb's damping stores, the phaser's 24 numbers; while a read of the tape delay waits, it is no. A silent unit whose audio
+ * is 0 (unset, +0 or -0; in delay, tape delay, chorus, flanger, reverb and phaser also NaN or infinite) and whose controls are
+ * accepted puts out only +0 and -0, and is silent after the tick: it stays so until other audio comes. So a lamp that shows the
+ * answer may be trusted. Of the tape delay that holds of each pair of halves where the host hands in a zero for a sum that is a
+ * zero, as its formula does.
  *
  * A unit that feeds back may never fall silent by itself, however long its audio is 0: delay and flanger with a feedback above
- * 0.5 (of the flanger also below -0.5), the reverb from a size of about 0.315 on, so at its default of 0.5 too. What goes round
- * becomes subnormal, and there every product is rounded to a multiple of 2^-1074: 1 x 2^-1074 x 0.6 is nearer to 1 x 2^-1074
- * than to 0, so the sample stays as it is and goes round for good. (x 0.5 it is a tie, which goes to the even neighbour, 0.)
- * That is more than 6,000 dB below full scale; but "silent?" says no, and ticks over subnormal numbers take longer, the
- * reverb's twice as long. The remedy is a reset, once nothing can be heard any more.
+ * 0.5 (of the flanger also below -0.5), the tape delay from 0.5 on, and from 0.46875 on where it reads half way between two
+ * places, the reverb from a size of about 0.315 on, so at its default of 0.5 too. What goes round becomes subnormal, and there
+ * every product is rounded to a multiple of 2^-1074: 1 x 2^-1074 x 0.6 is nearer to 1 x 2^-1074 than to 0, so the sample stays
+ * as it is and goes round for good. (x 0.5 it is a tie, which goes to the even neighbour, 0; but what the tape's saturation
+ * rounds up, as 15 x 2^-1074, comes back as it was. Half of 15 is rounded to 8, so a read half way between two such places
+ * finds 16, of which 0.46875 is enough.) That is more than 6,000 dB below full scale; but "silent?" says no, and ticks over
+ * subnormal numbers take longer, the reverb's twice as long. The remedy is a reset, once nothing can be heard any more. A tape
+ * delay with a feedback above 1 does not fade: it grows until its saturation holds it.
  *
  * The phaser's answer reads the 24 numbers of its state, those of all-passes that are not in use too, which no tick changes. It
  * need not feed back to go on for good: an all-pass multiplies its own last output by its coefficient, and one above 0.5 or
@@ -123,20 +133,22 @@
  * What calls cost
  *
  * A tick takes some 10 ns (tremolo) to 66 to 72 ns (reverb at 44,100 to 96,000) on an Intel Xeon of 2.5 GHz, whatever the
- * length of the lines, but for two. The reverb takes 92 ns at rates whose lengths are not at hand (at hand are 44,100, 48,000,
- * 88,200, 96,000, 176,400 and 192,000), and more above some 130,000, where more than eight of its combs are equally long and
- * fall into one set of the cache; from 161,819 on all sixteen are. At 150,000, 176,400 and 192,000 it took 1.9 to 2.2 times as
- * long as at 96,000, and at 162,000, whose lengths are not at hand, 2.4 times. A delay whose time is swept over a line that no
- * cache holds takes up to 150 ns. Start, retune and reset write all places that are lent, at memset's speed; silent reads the
- * places in use, up to the first part of 512 that sounds. Seen there: reset 15 us for the reverb, 16 ms for a delay of 60 s at
- * 192,000; silent, of a unit that is, 28 us and 15 ms. A sample at 192,000 lasts 5.2 us: these calls belong between
- * takes. docs/BENCHMARKS.md has more.
+ * length of the lines, but for three. The reverb takes 92 ns at rates whose lengths are not at hand (at hand are 44,100,
+ * 48,000, 88,200, 96,000, 176,400 and 192,000), and more above some 130,000, where more than eight of its combs are equally
+ * long and fall into one set of the cache; from 161,819 on all sixteen are. At 150,000, 176,400 and 192,000 it took 1.9 to 2.2
+ * times as long as at 96,000, and at 162,000, whose lengths are not at hand, 2.4 times. A delay whose time is swept over a
+ * line that no cache holds takes up to 150 ns. The tape delay's halves together take about twice as long as a delay's tick,
+ * without what the host computes between them; with a time that is swept at 192,000, over 2,304,001 places, up to 170 ns.
+ * Start, retune and reset write all places that are lent, at memset's speed; silent reads the places in use, up to the first
+ * part of 512 that sounds. Seen there: reset 15 us for the reverb, 16 ms for a delay of 60 s at 192,000; silent, of a unit
+ * that is, 28 us and 15 ms. A sample at 192,000 lasts 5.2 us: these calls belong between takes. docs/BENCHMARKS.md has more.
  *
  * Curve numbers
  *
  * The host computes them before the tick: a frequency in Hz from its rate control, and the sine of 2 pi times the phase that
  * the state holds before the tick. (The flanger's second sine is of a phase further on: see there.) The delay has one, a time
- * in milliseconds. (Its glide coefficient goes to start and retune, and is cause 2.) The reverb has none.
+ * in milliseconds. (Its glide coefficient goes to start and retune, and is cause 2.) The tape delay's is made between its
+ * halves, of what the first answers: see there. The reverb has none.
  *
  * The phaser has a frequency and, instead of sines, an all-pass coefficient for each side, which the host makes of a sine, the
  * sample rate and its depth control, 0 to 1:
@@ -161,7 +173,7 @@
  * mixes 1.x and 2.x links without a word, and its ticks then write an age to an address that nobody gave them.
  */
 #define ROOM_EFFECTS_VERSION_MAJOR 2
-#define ROOM_EFFECTS_VERSION_MINOR 0
+#define ROOM_EFFECTS_VERSION_MINOR 1
 #define ROOM_EFFECTS_VERSION_PATCH 0
 
 /* The effects by their numbers, for room_places_needed. */
@@ -172,7 +184,8 @@ enum room_effect {
     ROOM_VIBRATO = 4,
     ROOM_TREMOLO = 5,
     ROOM_REVERB = 6,
-    ROOM_PHASER = 7
+    ROOM_PHASER = 7,
+    ROOM_TAPE_DELAY = 8
 };
 
 /* What a call returns: that it was accepted, or why it was refused. */
@@ -183,7 +196,8 @@ enum room_cause {
     ROOM_REFUSED_MEMORY = 3,
     ROOM_REFUSED_STATE = 4,
     ROOM_REFUSED_CONTROL = 5,
-    ROOM_REFUSED_CURVE = 6
+    ROOM_REFUSED_CURVE = 6,
+    ROOM_REFUSED_TURN = 7
 };
 
 /*
@@ -236,7 +250,8 @@ static inline uint32_t room_set_mask(room_port first, room_port second, room_por
  * a field has `new_` before that name. Ports come as a mask of those that are set and their numbers; memory comes as the
  * address of its first place and the count of places. Numbers returned, and what is written on a refusal, are as said above.
  * Masks: 1 is the tick's first port, 2 the second, 4 the third, 8 the fourth, 16 the fifth; bits beyond its ports are not
- * read. A silent's `out` gets 1 for yes, else 0; 0 on a refusal. A tick's `age` is as said above.
+ * read. A silent's `out` gets 1 for yes, else 0; 0 on a refusal. The tape delay's read half has no `out`: its `sum` gets the
+ * sum, +0 on a refusal. A tick's `age`, and a read half's, is as said above.
  */
 #ifdef __cplusplus
 extern "C" {
@@ -300,6 +315,29 @@ uint32_t room_raw_delay_silent(uint64_t write_pos, double smoothed_delay, uint32
                                double delay_smooth_coef, double max_delay_secs, uint32_t linear_time, const double *memory,
                                uint64_t places, uint32_t *out);
 
+uint32_t room_raw_tape_delay_start(double new_sample_rate, double new_delay_smooth_coef, double *memory, uint64_t places,
+                                   uint64_t *write_pos, double *smoothed_delay, uint32_t *delay_primed, uint32_t *waiting,
+                                   double *kept_audio, double *kept_read, double *kept_mix, double *sample_rate,
+                                   double *delay_smooth_coef);
+uint32_t room_raw_tape_delay_retune(double new_sample_rate, double new_delay_smooth_coef, double *memory, uint64_t places,
+                                    uint64_t *write_pos, double *smoothed_delay, uint32_t *delay_primed, uint32_t *waiting,
+                                    double *kept_audio, double *kept_read, double *kept_mix, double *sample_rate,
+                                    double *delay_smooth_coef);
+uint32_t room_raw_tape_delay_reset(double *memory, uint64_t places, uint64_t *write_pos, double *smoothed_delay,
+                                   uint32_t *delay_primed, uint32_t *waiting, double *kept_audio, double *kept_read,
+                                   double *kept_mix, double sample_rate, double delay_smooth_coef);
+uint32_t room_raw_tape_delay_read_half(uint64_t write_pos, double *smoothed_delay, uint32_t *delay_primed, uint32_t *waiting,
+                                       double *kept_audio, double *kept_read, double *kept_mix, double sample_rate,
+                                       double delay_smooth_coef, const double *memory, uint64_t places, uint32_t set,
+                                       double audio, double time, double feedback, double mix, double *sum, uint32_t *age);
+uint32_t room_raw_tape_delay_store_half(uint64_t *write_pos, double smoothed_delay, uint32_t delay_primed, uint32_t *waiting,
+                                        double *kept_audio, double *kept_read, double *kept_mix, double sample_rate,
+                                        double delay_smooth_coef, double *memory, uint64_t places, double saturated,
+                                        double *out);
+uint32_t room_raw_tape_delay_silent(uint64_t write_pos, double smoothed_delay, uint32_t delay_primed, uint32_t waiting,
+                                    double kept_audio, double kept_read, double kept_mix, double sample_rate,
+                                    double delay_smooth_coef, const double *memory, uint64_t places, uint32_t *out);
+
 uint32_t room_raw_reverb_start(double new_sample_rate, double *memory, uint64_t places, uint64_t comb_pos_l[8],
                                uint64_t comb_pos_r[8], double comb_filter_state_l[8], double comb_filter_state_r[8],
                                uint64_t allpass_pos_l[4], uint64_t allpass_pos_r[4], uint64_t *predelay_pos,
@@ -333,9 +371,9 @@ uint32_t room_raw_phaser_silent(const double allpass_x1_l[6], const double allpa
 
 /*
  * How many places an effect needs at this rate, for a controller that asks at power-up. effect: 1 delay, 2 chorus, 3 flanger,
- * 4 vibrato, 5 tremolo, 6 reverb, 7 phaser (enum room_effect). max_delay_secs: the delay's alone, held as its start holds it;
- * the others' counts don't read it. Tremolo and phaser need 0. For another number, and for a rate that is refused, 2^64 - 1. A
- * host calls this one as it is.
+ * 4 vibrato, 5 tremolo, 6 reverb, 7 phaser, 8 tape delay (enum room_effect). max_delay_secs: the delay's alone, held as its
+ * start holds it; the others' counts don't read it. Tremolo and phaser need 0. For another number, and for a rate that is
+ * refused, 2^64 - 1. A host calls this one as it is.
  */
 uint64_t room_places_needed(uint32_t effect, double sample_rate, double max_delay_secs);
 
@@ -621,6 +659,126 @@ static inline uint32_t room_delay_silent(const room_delay *state, const double *
     const uint32_t number = room_raw_delay_silent(state->write_pos, state->smoothed_delay, state->delay_primed,
                                                   state->sample_rate, state->delay_smooth_coef, state->max_delay_secs,
                                                   state->linear_time, memory, places, &yes);
+    *silent = yes != 0u;
+    return number;
+}
+
+/*
+ * The tape delay. One line of L places, the whole part of rate x 12, plus 1: at 44,100 it needs 529,201 places, at 8,000
+ * 96,001, at 192,000 2,304,001. Flags and the glide coefficient are as the delay's.
+ *
+ * What goes onto the tape is saturated, which is the host's to do, in the middle of a tick. So a tick is two calls:
+ *
+ *   room_tape_delay_read_half(&state, memory, places, audio, time, feedback, mix, &sum, &age)
+ *   v = tanh_sat(sum / 5.0, 1.0)
+ *   room_tape_delay_store_half(&state, memory, places, v, out)
+ *
+ * where the host computes tanh_sat as
+ *
+ *   t = max(tanh(1.0), 0.001)
+ *   v = tanh((sum / 5.0) x t) / t       held to -1 to 1
+ *
+ * From a read half that is accepted to the store half after it the read waits: the state keeps what the store half puts out,
+ * every other read half is refused with 7, and the unit is not silent, whatever its line holds. Start, retune and reset drop a
+ * read that waits, and its tick is never heard. A store half that is refused leaves it waiting, for the right one to follow.
+ * There is no call that drops a read that waits and keeps the line: a host that wants to keep it hands a store half a value,
+ * which plays the tick and stores five times that value.
+ *
+ * Every place lies in -5 to 5 as long as nobody else writes there. In memory that somebody wrote, a read may find a NaN, or an
+ * infinity, of which 0 x infinity makes one: the sum is then NaN, and so is v, with which the store half is refused with 6, and
+ * the read goes on waiting. A host then clears (start, retune or reset), or hands a store half any value from -1 to 1, as 0.0:
+ * that ends the read, stores five times the value, and puts out NaN or an infinity, of what was read.
+ */
+
+typedef struct room_tape_delay {
+    uint64_t write_pos;       /* below L */
+    double smoothed_delay;    /* how many places back the last read was: 1 to L - 1; +0, sign included, while not primed */
+    uint32_t delay_primed;    /* a flag: whether a read half has read since the last start, retune or reset */
+    uint32_t waiting;         /* a flag: whether a read waits for its store half */
+    double kept_audio;        /* of a read that waits the audio, any float; +0, sign included, while none waits */
+    double kept_read;         /* what was read, any float; likewise */
+    double kept_mix;          /* the mix, 0 to 1; likewise */
+    double sample_rate;       /* 8,000 to 192,000 */
+    double delay_smooth_coef; /* of the glide: at least 0 and below 1 */
+} room_tape_delay;
+
+/*
+ * A tape delay at this rate with this glide coefficient: position 0, not primed, smoothed_delay +0, no read that waits, +0 in
+ * every place. Refusals: 1, 2, 3.
+ */
+static inline uint32_t room_tape_delay_start(room_tape_delay *state, double *memory, uint64_t places, double sample_rate,
+                                             double delay_smooth_coef)
+{
+    return room_raw_tape_delay_start(sample_rate, delay_smooth_coef, memory, places, &state->write_pos,
+                                     &state->smoothed_delay, &state->delay_primed, &state->waiting, &state->kept_audio,
+                                     &state->kept_read, &state->kept_mix, &state->sample_rate, &state->delay_smooth_coef);
+}
+
+/*
+ * As a new start, the same rate or another, and the coefficient that goes with it: position 0, not primed, smoothed_delay +0,
+ * no read that waits, +0 in every place. Refusals: 4, 1, 2, 3.
+ */
+static inline uint32_t room_tape_delay_retune(room_tape_delay *state, double *memory, uint64_t places, double sample_rate,
+                                              double delay_smooth_coef)
+{
+    return room_raw_tape_delay_retune(sample_rate, delay_smooth_coef, memory, places, &state->write_pos,
+                                      &state->smoothed_delay, &state->delay_primed, &state->waiting, &state->kept_audio,
+                                      &state->kept_read, &state->kept_mix, &state->sample_rate, &state->delay_smooth_coef);
+}
+
+/* Position 0, not primed, smoothed_delay +0, no read that waits, +0 in every place; the rest stays. Refusals: 4, 3. */
+static inline uint32_t room_tape_delay_reset(room_tape_delay *state, double *memory, uint64_t places)
+{
+    return room_raw_tape_delay_reset(memory, places, &state->write_pos, &state->smoothed_delay, &state->delay_primed,
+                                     &state->waiting, &state->kept_audio, &state->kept_read, &state->kept_mix,
+                                     state->sample_rate, state->delay_smooth_coef);
+}
+
+/*
+ * The first half of a tick: reads the line, and puts into *sum the audio plus what it read times the feedback, of which the
+ * host makes v. It writes no place and leaves the position; the read waits from then on. Audio that is NaN or infinite counts
+ * as +0. time: seconds, 0 to 12; 0.5 if unset; it goes as (time x 1000) x rate / 1000 places back, clamped to 1 to L - 1, so
+ * that a time of 0 is one sample. The first read after a start, a retune or a reset is there; later ones glide there, and are
+ * at that target + (smoothed_delay - the target) x delay_smooth_coef.
+ * feedback: 0 to 1.5; 0 if unset. mix: 0 dry to 1 wet; 0.5 if unset. Audio is 0 if unset.
+ * *age is that of its read, which glides; 0 on a refusal, as *sum is +0. Refusals: 4, 7, 3, 5.
+ */
+static inline uint32_t room_tape_delay_read_half(room_tape_delay *state, const double *memory, uint64_t places,
+                                                 room_port audio, room_port time, room_port feedback, room_port mix,
+                                                 double *sum, uint32_t *age)
+{
+    return room_raw_tape_delay_read_half(state->write_pos, &state->smoothed_delay, &state->delay_primed, &state->waiting,
+                                         &state->kept_audio, &state->kept_read, &state->kept_mix, state->sample_rate,
+                                         state->delay_smooth_coef, memory, places,
+                                         room_set_mask(audio, time, feedback) | room_set_bit(mix, 8u), audio.value,
+                                         time.value, feedback.value, mix.value, sum, age);
+}
+
+/*
+ * The second half: stores 5 times `saturated`, which is v, -1 to 1, at the position, which moves on, and puts one sample into
+ * out[0]: the audio of the read that waits, blended with what it read. None waits then, and what was kept is +0. A store half
+ * has no age. Refusals: 4, 7, 3, 6.
+ */
+static inline uint32_t room_tape_delay_store_half(room_tape_delay *state, double *memory, uint64_t places, double saturated,
+                                                  double out[1])
+{
+    return room_raw_tape_delay_store_half(&state->write_pos, state->smoothed_delay, state->delay_primed, &state->waiting,
+                                          &state->kept_audio, &state->kept_read, &state->kept_mix, state->sample_rate,
+                                          state->delay_smooth_coef, memory, places, saturated, out);
+}
+
+/*
+ * Whether the unit is silent: no read waits, and every place of its line is +0 or -0. On a refusal *silent is 0.
+ * Refusals: 4, 3.
+ */
+static inline uint32_t room_tape_delay_silent(const room_tape_delay *state, const double *memory, uint64_t places,
+                                              int *silent)
+{
+    uint32_t yes = 0u;
+    const uint32_t number =
+        room_raw_tape_delay_silent(state->write_pos, state->smoothed_delay, state->delay_primed, state->waiting,
+                                   state->kept_audio, state->kept_read, state->kept_mix, state->sample_rate,
+                                   state->delay_smooth_coef, memory, places, &yes);
     *silent = yes != 0u;
     return number;
 }

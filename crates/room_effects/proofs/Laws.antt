@@ -1,5 +1,4 @@
--- An accepted call of the C interface from the effect's own: what it writes back, for any effect. Of the effect's laws only those on its settings are used.
--- Assumes nothing.
+-- An accepted call of the C interface from the effect's own: what it writes back, for any effect. Assumes nothing.
 use Prim.Native.Nat.{ℕ}
 use mathlib.Core.Path.{◌≡◌, refl, sym, ap, ◌∙◌, subst}
 use mathlib.Core.Bool.{Bool, true, false}
@@ -13,7 +12,6 @@ use Rattle.port.specs.Answer.{Reply, answer_reply, reply_number, reply_age}
 use Rattle.effect.specs.Effect.{Effect}
 use Rattle.effect.specs.Run.{tick, Device, number_at, step}
 use Rattle.effect.specs.Contract.{Does}
-use Rattle.effect.proofs.Laws.{Laws}
 use Rattle.effect.proofs.Table.{if_none-both}
 use Rattle.room_effects.specs.States.{is_on, FlagWritten}
 use Rattle.room_effects.specs.Lent.{samples_from, TickReturns, AgedReturns}
@@ -37,26 +35,26 @@ not-refused {a = Two x y} h age = refl
 not-refused {a = Three x y z} h age = refl
 not-refused {a = Refused cause} h age = absurd (h cause refl)
 
-module _ (E : Effect) (laws : Laws E) where
-  -- the settings of the state that is left are those of h
-  abbrev Keeps : Device E.State → Device E.State → Type 0
-  Keeps h u = E.settings h.state ≡ E.settings u.state
+-- `kept` is what a tick leaves of a state as it is, so that it need not be written: of most effects the settings
+module _ (E : Effect) {K : Type 0} (kept : E.Tick → E.State → K) (stays : (t : E.Tick) (s : E.State) (m : List Float) → kept t (E.next t s m) ≡ kept t s) where
+  -- that of the state that is left is that of h
+  abbrev Keeps : E.Tick → Device E.State → Device E.State → Type 0
+  Keeps t h u = kept t h.state ≡ kept t u.state
 
-  -- a tick leaves the settings in force, so that these need not be written
-  tick-keeps : (t : E.Tick) (h : Device E.State) → Keeps h (step E (tick t) h)
-  tick-keeps t h = if_none-both (Keeps h) (number_at E (tick t) h) (sym (laws.next-settings t h.state h.memory)) refl
+  tick-keeps : (t : E.Tick) (h : Device E.State) → Keeps t h (step E (tick t) h)
+  tick-keeps t h = if_none-both (Keeps t h) (number_at E (tick t) h) (sym (stays t h.state h.memory)) refl
 
-  -- The effect's own call is handed the tick t; the lent numbers, the mask among them, make t₀ of it, and are left as s, which is the state left where the settings
-  -- are those of before. The number is r, and the samples are put out.
+  -- The effect's own call is handed the tick t; the lent numbers, the mask among them, make t₀ of it, and are left as s, which is the state left where what is kept
+  -- is that of before. The number is r, and the samples are put out.
   module _ (k : ℕ) (u : Device E.State) {t t₀ : E.Tick} {s s' : E.State} {m' out' : List Float} {a : Reply} {r : ℕ} (same : t ≡ t₀)
-      (own : Does E (tick t) u.state u.memory s' m' a) (number : r ≡ reply_number a) (left : E.settings u.state ≡ E.settings s' → s ≡ s') (put : out' ≡ samples_from 0 k a) where
+      (own : Does E (tick t) u.state u.memory s' m' a) (number : r ≡ reply_number a) (left : kept t₀ u.state ≡ kept t₀ s' → s ≡ s') (put : out' ≡ samples_from 0 k a) where
     does : Does E (tick t₀) u.state u.memory s' m' a
     does = subst (λ (t : E.Tick). Does E (tick t) u.state u.memory s' m' a) same own
 
     pub ticked : TickReturns E k t₀ u (record { state = s; memory = m' }) out' r
     ticked =
         record {
-          called = record { state = left (tick-keeps t₀ u ∙ ap E.settings (sym does.state)) ∙ does.state; memory = does.memory; number = number ∙ ap reply_number does.answer };
+          called = record { state = left (tick-keeps t₀ u ∙ ap (kept t₀) (sym does.state)) ∙ does.state; memory = does.memory; number = number ∙ ap reply_number does.answer };
           samples = put ∙ ap (samples_from 0 k) does.answer;
         }
 

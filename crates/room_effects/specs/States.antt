@@ -1,9 +1,11 @@
--- States in lent numbers where these are not just the state's fields: the delay's, and flags. The others' are `state_of` of each page.
+-- States in lent numbers where these are not just the state's fields: those of delay and tape delay, and flags. The others' are `state_of` of each page.
 -- Definitions only. Assumes nothing.
 use Rattle.std.specs.Prelude.{ℕ, ◌≡◌, Bool, not, cond, eqb, Float}
 use Rattle.effect.specs.Run.{if_none}
 use Rattle.delay_line.specs.declared.DelayLine.{DelayLine}
 use Rattle.delay_line.specs.DelayLine as delay
+use Rattle.tape_delay.specs.declared.TapeDelay.{TapeDelay}
+use Rattle.tape_delay.specs.TapeDelay as tape
 
 -- ---- a flag in a lent number: 0 is off, any other is on, and 1 is written for it
 
@@ -18,7 +20,11 @@ FlagWritten n = n ≡ cond (is_on n) 1 0
 abbrev pub FlagLeft : ℕ → ℕ → ℕ → Type 0
 FlagLeft r n n' = n' ≡ if_none r (cond (is_on n') 1 0) n
 
--- ---- the delay, whose settings are lent one by one
+-- ---- delay and tape delay, whose settings are lent one by one, and of the tape what is kept
 
 abbrev pub delay_of : ℕ → Float → Bool → Float → Float → Float → Bool → DelayLine
 delay_of pos distance primed rate coefficient maximum linear = delay.state_of pos distance primed (delay.handing rate coefficient maximum linear)
+
+abbrev pub tape_delay_of : ℕ → Float → Bool → Bool → Float → Float → Float → Float → Float → TapeDelay
+tape_delay_of pos distance primed waiting audio read mix rate coefficient =
+    tape.state_of pos distance primed waiting (record { audio = audio; read = read; mix = mix }) (tape.handing rate coefficient)

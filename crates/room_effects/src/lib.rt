@@ -10,5 +10,6 @@ mod phaser_calls;
 mod places;
 mod reverb_calls;
 mod shared;
+mod tape_delay_calls;
 mod tremolo_calls;
 mod vibrato_calls;

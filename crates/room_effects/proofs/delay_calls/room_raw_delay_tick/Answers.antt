@@ -13,7 +13,7 @@ returns c =
     let state = delay_of a.write_pos.now a.smoothed_delay.now (is_on a.delay_primed.now) a.sample_rate a.delay_smooth_coef a.max_delay_secs (is_on a.linear_time) in
     let next = c.tick-ticked.result.state in
     let primed = on-flag next.delay_primed c.from-2.ensures in (
-      aged delay_line laws 1 (device_of state a.memory.now)
+      aged delay_line (λ t. delay_line.settings) laws.next-settings 1 (device_of state a.memory.now)
           (λ i. tick_of (c.port_at.ensures i) (c.port_at-2.ensures i) (c.port_at-3.ensures i) (c.port_at-4.ensures i) a.milliseconds)
           (rw c.delay_of-state.ensures at c.tick-ticked.ensures)
           (not-refused c.in_default.not-Refused c.tick-ticked.result.age)

@@ -9,7 +9,7 @@ use Rattle.room_effects.proofs.tremolo_calls.room_raw_tremolo_tick.Goals as goal
 pub returns : goal.returns
 returns c =
     let a = c.args in
-    ticked tremolo laws 1 (device_of (state_of a.lfo_phase.now a.sample_rate) [])
+    ticked tremolo (λ t. tremolo.settings) laws.next-settings 1 (device_of (state_of a.lfo_phase.now a.sample_rate) [])
     (λ i. tick_of (c.port_at.ensures i) (c.port_at-2.ensures i) (c.port_at-3.ensures i) a.frequency a.sine) c.tick-ticked.ensures
     (not-refused c.in_default.not-Refused c.tick-ticked.result.age)
     (ap (state_of c.tick-ticked.result.state.lfo_phase))

@@ -10,7 +10,7 @@ pub returns : goal.returns
 returns c =
     let a = c.args in
     let next = c.tick-ticked.result.state in
-    aged vibrato laws 1 (device_of (state_of a.write_pos.now a.lfo_phase.now a.sample_rate) a.memory.now)
+    aged vibrato (λ t. vibrato.settings) laws.next-settings 1 (device_of (state_of a.write_pos.now a.lfo_phase.now a.sample_rate) a.memory.now)
     (λ i. tick_of (c.port_at.ensures i) (c.port_at-2.ensures i) (c.port_at-3.ensures i) a.frequency a.sine) c.tick-ticked.ensures
     (not-refused c.in_default.not-Refused c.tick-ticked.result.age)
     (ap (state_of next.write_pos next.lfo_phase))
