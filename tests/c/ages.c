@@ -1,6 +1,6 @@
 /* Ages: how many ticks back the oldest sample lies that a tick's reads weigh above 0. Distances are worked out from document
    01's formulas, and ages from those by document 02. ages_sweeps.c has the effects with sweeps; that refused ticks answer the
-   age 0 is held by the tests of each effect too. */
+   age 0 is held by the tests of each effect too, and the tape delay's have its distances. */
 #include "ages.h"
 
 #include <stdlib.h>
@@ -188,11 +188,13 @@ static void after_a_clearing(void)
 static struct effect_call wet_tick(int effect, unsigned which)
 {
     const double sines[3] = {spread_number(which), -1.0, -0.5};
-    struct effect_call c = effect == ROOM_DELAY ? tick_for_age(ROOM_DELAY, 8000.0, MAXIMUM) : sweep_of(effect, 8000.0, sines);
+    const int glides_there = effect == ROOM_DELAY || effect == ROOM_TAPE_DELAY;
+    struct effect_call c = glides_there ? tick_for_age(effect, 8000.0, MAXIMUM) : sweep_of(effect, 8000.0, sines);
     c.ports[0] = room_set(0.0);
     c.ports[2] = c.ports[3] = room_set(1.0);
-    if (effect == ROOM_DELAY) {
-        c.curves[0] = which * 0.3125; /* whole distances and halves */
+    if (glides_there) {
+        c.curves[0] = which * 0.3125; /* whole distances and halves, and so by the seconds */
+        c.ports[1] = room_set(which * 0x1p-7);
     }
     return c;
 }
@@ -253,7 +255,7 @@ static void distances_alone(int effect)
         ages_as(&after, &other, age, "a mix hides no age, 0 neither", i);
         after = state;
         other.ports[0] = i == 0u ? room_unset() : room_set(audios[i]);
-        other.ports[2] = others[i]; /* the feedback of delay and flanger */
+        other.ports[2] = others[i]; /* the feedback of the delays and the flanger */
         ages_as(&after, &other, age, "audio and feedback change no age", i);
     }
 }
@@ -327,9 +329,13 @@ void ages(void)
     after_a_clearing();
     ages_of_sweeps();
     no_dependence();
+    for (effect = ROOM_DELAY; effect < EFFECTS_END; effect++) {
+        if (effect_aged(effect)) {
+            weights(effect);
+            distances_alone(effect);
+        }
+    }
     for (effect = ROOM_DELAY; effect <= ROOM_VIBRATO; effect++) {
-        weights(effect);
-        distances_alone(effect);
         for (number = 3; number <= 6u; number++) {
             refused_between(effect, number);
         }

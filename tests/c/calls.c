@@ -73,6 +73,13 @@ double nearer(double x)
     return of_bits(bits(x) - 1u);
 }
 
+double saturated(double sum)
+{
+    const double t = fmax(tanh(1.0), 0.001);
+    const double v = tanh((sum / 5.0) * t) / t;
+    return v < -1.0 ? -1.0 : v > 1.0 ? 1.0 : v;
+}
+
 #define NUMBERS(...) {COUNT(((const double[]){__VA_ARGS__})), {__VA_ARGS__}}
 
 struct numbers rates_accepted(void)
@@ -118,6 +125,20 @@ struct numbers sines_refused(void)
     return n;
 }
 
+struct numbers coefficients_accepted(void)
+{
+    const struct numbers n = {6, {0.0, -0.0, SMALLEST, 0.5, exp(-1.0 / (0.005 * 44100.0)), nearer(1.0)}};
+    return n;
+}
+
+struct numbers coefficients_refused(void)
+{
+    const double infinity = (double)INFINITY;
+    const struct numbers n = {10, {1.0, farther(1.0), 2.0, DBL_MAX, -SMALLEST, -0.5, infinity, -infinity, (double)NAN,
+                                   ODD_NAN}};
+    return n;
+}
+
 struct numbers at_least_one(void)
 {
     const struct numbers n = NUMBERS(1.0, farther(1.0), 2.0, 1e308, DBL_MAX, (double)INFINITY);
@@ -135,3 +156,5 @@ struct numbers not_read(void)
     const struct numbers n = NUMBERS(0.0, 1.0, (double)NAN, ODD_NAN, (double)INFINITY);
     return n;
 }
+
+const uint32_t flags_on[FLAGS_ON] = {1u, 2u, 256u, UINT32_C(0x80000000), UINT32_MAX};

@@ -37,6 +37,9 @@ uint32_t age_at(double distance);
 double farther(double x);
 double nearer(double x);
 
+/* A tape delay's host between the halves: tanh_sat(sum / 5, 1), of the header. NaN passes, as the Rust's clamp lets it. */
+double saturated(double sum);
+
 /* The smallest float above 0, and a NaN whose bits must survive a refusal. */
 #define SMALLEST of_bits(1u)
 #define ODD_NAN of_bits(UINT64_C(0xfff8000000001234))
@@ -53,12 +56,18 @@ struct numbers rates_refused(void);
 struct numbers phases_accepted(void);
 struct numbers phases_refused(void);
 struct numbers frequencies_refused(void);
-struct numbers sines_refused(void); /* and an all-pass coefficient's */
+struct numbers sines_refused(void); /* an all-pass coefficient's and a saturated value's too */
+struct numbers coefficients_accepted(void); /* of a glide */
+struct numbers coefficients_refused(void);
 struct numbers at_least_one(void);
 struct numbers at_most_zero(void);
 
 /* What an unset port may hold: it is not read. */
 struct numbers not_read(void);
+
+/* A flag is off where it is 0: numbers at which it is on. */
+#define FLAGS_ON 5u
+extern const uint32_t flags_on[FLAGS_ON];
 
 void tremolo(void);
 void vibrato(void);
@@ -67,6 +76,7 @@ void flanger(void);
 void delay(void);
 void reverb(void);
 void phaser(void);
+void tape(void);
 void places(void);
 void order_of_causes(void);
 void ends(void);

@@ -4,8 +4,6 @@
 /* Rates, and how long document 01 has a line with that maximum. */
 static const struct length lengths[] = {{8000.0, 501}, {44100.0, 2757}, {192000.0, 12001}, {11025.0, 690}, {48000.0, 3001}};
 
-const uint32_t flags_on[FLAGS_ON] = {1u, 2u, 256u, UINT32_C(0x80000000), UINT32_MAX};
-
 struct tick_of_delay delay_tick(double audio, double mix, double milliseconds)
 {
     struct tick_of_delay t;
@@ -87,20 +85,6 @@ int delay_is(const room_delay *is, room_delay should)
 }
 
 /* Numbers */
-
-static struct numbers coefficients_accepted(void)
-{
-    const struct numbers n = {6, {0.0, -0.0, SMALLEST, 0.5, exp(-1.0 / (0.005 * 44100.0)), nearer(1.0)}};
-    return n;
-}
-
-static struct numbers coefficients_refused(void)
-{
-    const double infinity = (double)INFINITY;
-    const struct numbers n = {10, {1.0, farther(1.0), 2.0, DBL_MAX, -SMALLEST, -0.5, infinity, -infinity, (double)NAN,
-                                   ODD_NAN}};
-    return n;
-}
 
 static struct numbers maxima_refused(void)
 {

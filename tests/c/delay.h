@@ -8,10 +8,6 @@
 #define MAXIMUM 0.0625
 #define LENGTH 501u
 
-/* A flag is off where it is 0: numbers at which it is on. */
-#define FLAGS_ON 5u
-extern const uint32_t flags_on[FLAGS_ON];
-
 struct tick_of_delay {
     room_port audio, time, feedback, mix;
     double milliseconds;

@@ -5,19 +5,19 @@
 
 unsigned effect_ports(int effect)
 {
-    static const unsigned counts[EFFECTS_END] = {0, 4, 3, 4, 3, 3, 5, 4};
+    static const unsigned counts[EFFECTS_END] = {0, 4, 3, 4, 3, 3, 5, 4, 4};
     return counts[effect];
 }
 
 unsigned effect_curves(int effect)
 {
-    static const unsigned counts[EFFECTS_END] = {0, 1, 4, 3, 2, 2, 0, 3};
+    static const unsigned counts[EFFECTS_END] = {0, 1, 4, 3, 2, 2, 0, 3, 1};
     return counts[effect];
 }
 
 unsigned effect_samples(int effect)
 {
-    static const unsigned counts[EFFECTS_END] = {0, 1, 3, 3, 1, 1, 2, 3};
+    static const unsigned counts[EFFECTS_END] = {0, 1, 3, 3, 1, 1, 2, 3, 1};
     return counts[effect];
 }
 
@@ -28,17 +28,30 @@ int effect_lined(int effect)
 
 int effect_aged(int effect)
 {
-    return effect >= ROOM_DELAY && effect <= ROOM_VIBRATO;
+    return (effect >= ROOM_DELAY && effect <= ROOM_VIBRATO) || effect == ROOM_TAPE_DELAY;
 }
 
 int effect_has(int effect, int call)
 {
-    return effect_lined(effect) || call != RETUNE;
+    return call == STORE ? effect == ROOM_TAPE_DELAY : effect_lined(effect) || call != RETUNE;
+}
+
+unsigned effect_answers(int effect, int call)
+{
+    return call == TICK || call == STORE ? effect_samples(effect) : call == SILENT ? 1u : 0u;
+}
+
+void effect_take_turn(struct effect_state *state, int call)
+{
+    if (call == STORE) {
+        state->tape_delay.waiting = 1u;
+        state->tape_delay.kept_mix = 0.5;
+    }
 }
 
 int effect_can_refuse(int effect, unsigned number)
 {
-    return !((number == 2u && effect != ROOM_DELAY) || (number == 3u && !effect_lined(effect)) ||
+    return !((number == 2u && effect != ROOM_DELAY && effect != ROOM_TAPE_DELAY) || (number == 3u && !effect_lined(effect)) ||
              (number == 6u && effect == ROOM_REVERB));
 }
 
@@ -176,6 +189,25 @@ static uint32_t made_phaser(room_phaser *s, const struct effect_call *c, double 
     }
 }
 
+static uint32_t made_tape_delay(room_tape_delay *s, const struct effect_call *c, double *out, uint32_t *age, int *yes)
+{
+    const room_port *p = c->ports;
+    switch (c->call) {
+    case START:
+        return room_tape_delay_start(s, c->lent, c->places, c->rate, c->coefficient);
+    case RETUNE:
+        return room_tape_delay_retune(s, c->lent, c->places, c->rate, c->coefficient);
+    case RESET:
+        return room_tape_delay_reset(s, c->lent, c->places);
+    case TICK:
+        return room_tape_delay_read_half(s, c->lent, c->places, p[0], p[1], p[2], p[3], out, age);
+    case STORE:
+        return room_tape_delay_store_half(s, c->lent, c->places, c->curves[0], out);
+    default:
+        return room_tape_delay_silent(s, c->lent, c->places, yes);
+    }
+}
+
 uint32_t effect_make(struct effect_state *state, const struct effect_call *c, double out[3], uint32_t *age)
 {
     int yes = 7;
@@ -185,7 +217,8 @@ uint32_t effect_make(struct effect_state *state, const struct effect_call *c, do
                             : c->effect == ROOM_VIBRATO ? made_vibrato(&state->vibrato, c, out, age, &yes)
                             : c->effect == ROOM_TREMOLO ? made_tremolo(&state->tremolo, c, out, &yes)
                             : c->effect == ROOM_REVERB  ? made_reverb(&state->reverb, c, out, &yes)
-                                                        : made_phaser(&state->phaser, c, out, &yes);
+                            : c->effect == ROOM_PHASER  ? made_phaser(&state->phaser, c, out, &yes)
+                                                        : made_tape_delay(&state->tape_delay, c, out, age, &yes);
     if (c->call == SILENT) {
         out[0] = yes;
     }

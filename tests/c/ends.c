@@ -20,6 +20,7 @@ static const struct {
     {ROOM_TREMOLO, 0.0, 0, 0},
     {ROOM_REVERB, 0.0, 87136, 87136},
     {ROOM_PHASER, 0.0, 0, 0},
+    {ROOM_TAPE_DELAY, 0.0, 96001, 2304001},
 };
 
 /* The most that is lent, and one place behind it. */
@@ -57,14 +58,15 @@ static void memory_at(unsigned which, double *lent, double rate, uint64_t places
         if (!effect_has(effect, call)) {
             continue;
         }
-        numbered(&state, &c, 0, "at the end of the rates, with the places needed", i);
         if (places > 0u && call != START) {
             struct effect_state kept;
             c.places = places - 1u;
             memcpy(&kept, &state, sizeof kept);
             numbered(&state, &c, 3, "one place short", i);
             check(memcmp(&kept, &state, sizeof kept) == 0, "one place short leaves the state", i);
+            c.places = places;
         }
+        numbered(&state, &c, 0, "at the end of the rates, with the places needed", i);
     }
     if (places > 0u) {
         const struct effect_call c = effect_good(effect, START, lent, places - 1u, rate, units[which].maximum);
@@ -98,16 +100,20 @@ static void lent_nothing(int effect)
     double out[3];
     uint32_t age;
     int call;
-    c.lent = calloc(87136u, sizeof *c.lent);
-    c.places = 87136u;
+    c.lent = calloc(96001u, sizeof *c.lent);
+    c.places = 96001u;
     memset(&started, 0, sizeof started);
     memset(&zeros, 0, sizeof zeros);
     check(c.lent != NULL && effect_make(&started, &c, out, &age) == ROOM_ACCEPTED, "a start in memory", (unsigned)effect);
     free(c.lent);
     for (call = START; call < CALLS; call++) {
         const unsigned i = 10u * (unsigned)effect + (unsigned)call;
-        const unsigned answers = call == TICK ? effect_samples(effect) : call == SILENT ? 1u : 0u;
+        const unsigned answers = effect_answers(effect, call);
+        if (!effect_has(effect, call)) {
+            continue;
+        }
         c = effect_good(effect, call, NULL, 0, 8000.0, 0.001);
+        effect_take_turn(&started, call);
         memcpy(&state, &started, sizeof state);
         out[0] = out[1] = out[2] = JUNK;
         age = JUNK_AGE;

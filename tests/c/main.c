@@ -16,10 +16,10 @@ static void ports(void)
 static void names(void)
 {
     const unsigned effects[] = {ROOM_DELAY,   ROOM_CHORUS, ROOM_FLANGER, ROOM_VIBRATO,
-                                ROOM_TREMOLO, ROOM_REVERB, ROOM_PHASER};
+                                ROOM_TREMOLO, ROOM_REVERB, ROOM_PHASER,  ROOM_TAPE_DELAY};
     const unsigned causes[] = {ROOM_ACCEPTED,      ROOM_REFUSED_SAMPLE_RATE, ROOM_REFUSED_GLIDE_COEFFICIENT,
                                ROOM_REFUSED_MEMORY, ROOM_REFUSED_STATE,       ROOM_REFUSED_CONTROL,
-                               ROOM_REFUSED_CURVE};
+                               ROOM_REFUSED_CURVE,  ROOM_REFUSED_TURN};
     unsigned i;
     for (i = 0; i < COUNT(effects); i++) {
         check(effects[i] == i + 1u, "the number of an effect", i);
@@ -46,6 +46,7 @@ int main(void)
     test("delay", delay);
     test("reverb", reverb);
     test("phaser", phaser);
+    test("tape delay", tape);
     test("places", places);
     test("order of causes", order_of_causes);
     test("ends", ends);

@@ -6,16 +6,21 @@
 
 #define RATE 8000.0
 #define MAXIMUM 0.0625
-#define ORDER_ROOM 87200u
+#define ORDER_ROOM 96100u
 
 static double lent[ORDER_ROOM];
 static double as_lent[ORDER_ROOM];
 
-/* The places at 8,000 by document 01, of chorus and phaser by document 02; the delay's with that maximum. */
-static const uint64_t places_at_8000[EFFECTS_END] = {0, 501, 266, 180, 170, 0, 87136, 0};
+/* The places at 8,000 by document 01, of chorus, phaser and tape delay by document 02; the delay's with that maximum. */
+static const uint64_t places_at_8000[EFFECTS_END] = {0, 501, 266, 180, 170, 0, 87136, 0, 96001};
 
-/* "start 1, 2, 3; retune 4, 1, 2, 3; reset and silent 4, 3; tick 4, 3, 5, 6" */
-static const char *const orders[CALLS] = {"123", "4123", "43", "4356", "43"};
+/* "start 1, 2, 3; retune 4, 1, 2, 3; reset and silent 4, 3; tick 4, 3, 5, 6", and of the tape delay the read half 4, 7, 3, 5
+   and the store half 4, 7, 3, 6. */
+static const char *order_of(int effect, int call)
+{
+    static const char *const orders[CALLS] = {"123", "4123", "43", "4356", "43", "4736"};
+    return effect == ROOM_TAPE_DELAY && call == TICK ? "4735" : orders[call];
+}
 
 static void set_wrong_reverb(room_reverb *state, unsigned way)
 {
@@ -48,6 +53,31 @@ static void set_wrong_delay(room_delay *state, unsigned way)
     }
 }
 
+static void set_wrong_tape(room_tape_delay *state, unsigned way)
+{
+    switch (way % 4u) {
+    case 0:
+        state->write_pos = 96001u;
+        break;
+    case 1:
+        state->smoothed_delay = nearer(1.0);
+        break;
+    case 2:
+        state->sample_rate = (double)NAN;
+        break;
+    default:
+        state->delay_smooth_coef = 1.0;
+    }
+}
+
+/* Cause 7: whether a read waits is turned, in a state that passes. */
+static void set_wrong_turn(room_tape_delay *state)
+{
+    state->waiting = state->waiting == 0u;
+    state->kept_audio = state->kept_read = 0.0;
+    state->kept_mix = state->waiting != 0u ? 0.5 : 0.0;
+}
+
 /* Cause 4: one number of the state that no start leads to. */
 static void set_wrong_state(int effect, struct effect_state *s, unsigned way)
 {
@@ -56,6 +86,8 @@ static void set_wrong_state(int effect, struct effect_state *s, unsigned way)
     const uint64_t position = UINT64_C(6154) << way;
     if (effect == ROOM_DELAY) {
         set_wrong_delay(&s->delay, way);
+    } else if (effect == ROOM_TAPE_DELAY) {
+        set_wrong_tape(&s->tape_delay, way);
     } else if (effect == ROOM_REVERB) {
         set_wrong_reverb(&s->reverb, way);
     } else if (effect == ROOM_TREMOLO) {
@@ -95,8 +127,9 @@ static void set_wrong_argument(struct effect_call *c, char cause, unsigned way)
     }
 }
 
-/* A state after a start and a tick, in memory that sounds from then on. */
-static void begin(int effect, struct effect_state *state)
+/* A state after a start and a tick, in memory that sounds from then on; of the tape delay, for a store half, with a read that
+   waits. */
+static void begin(int effect, int call, struct effect_state *state)
 {
     struct effect_call c = effect_good(effect, START, lent, places_at_8000[effect], RATE, MAXIMUM);
     double out[3];
@@ -105,6 +138,11 @@ static void begin(int effect, struct effect_state *state)
     check(effect_make(state, &c, out, &age) == 0, "start for an order", (unsigned)effect);
     c.call = TICK;
     check(effect_make(state, &c, out, &age) == 0, "tick for an order", (unsigned)effect);
+    if (effect_has(effect, STORE)) {
+        c.call = STORE;
+        check(effect_make(state, &c, out, &age) == 0, "store half for an order", (unsigned)effect);
+    }
+    effect_take_turn(state, call);
 }
 
 /* Brings about the causes of a set, bit n for the n-th of the call's order: the number by the table, or NONE if one of them
@@ -113,7 +151,7 @@ static void begin(int effect, struct effect_state *state)
 
 static uint32_t bring_about(struct effect_call *c, struct effect_state *state, unsigned set, unsigned way)
 {
-    const char *const causes = orders[c->call];
+    const char *const causes = order_of(c->effect, c->call);
     uint32_t number = 0;
     unsigned i;
     for (i = 0; causes[i] != '\0'; i++) {
@@ -126,6 +164,8 @@ static uint32_t bring_about(struct effect_call *c, struct effect_state *state, u
         number = number == 0u ? (uint32_t)(causes[i] - '0') : number;
         if (causes[i] == '4') {
             set_wrong_state(c->effect, state, way);
+        } else if (causes[i] == '7') {
+            set_wrong_turn(&state->tape_delay);
         } else {
             set_wrong_argument(c, causes[i], way);
         }
@@ -137,13 +177,13 @@ static uint32_t bring_about(struct effect_call *c, struct effect_state *state, u
 static void attempt(int effect, int call, unsigned set, unsigned way)
 {
     const unsigned i = 10000u * (unsigned)effect + 1000u * (unsigned)call + 10u * set + way;
-    const unsigned answers = call == TICK ? effect_samples(effect) : call == SILENT ? 1u : 0u;
+    const unsigned answers = effect_answers(effect, call);
     struct effect_call c = effect_good(effect, call, lent, places_at_8000[effect], RATE, MAXIMUM);
     const double none[3] = {0.0, 0.0, 0.0};
     struct effect_state state, left;
     double out[3] = {JUNK, JUNK, JUNK};
     uint32_t number, age = JUNK_AGE;
-    begin(effect, &state);
+    begin(effect, call, &state);
     number = bring_about(&c, &state, set, way);
     if (number == NONE) {
         return;
@@ -168,7 +208,7 @@ void order_of_causes(void)
     unsigned set, way;
     for (effect = ROOM_DELAY; effect < EFFECTS_END; effect++) {
         for (call = START; call < CALLS; call++) {
-            for (set = 0; effect_has(effect, call) && set < 1u << strlen(orders[call]); set++) {
+            for (set = 0; effect_has(effect, call) && set < 1u << strlen(order_of(effect, call)); set++) {
                 for (way = 0; way < 8u; way++) {
                     attempt(effect, call, set, way);
                 }

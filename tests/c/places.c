@@ -24,6 +24,11 @@ static void by_the_rate(void)
         needed(ROOM_VIBRATO, 44100.0, maxima[i], 892u, i);
         needed(ROOM_VIBRATO, 8000.0, maxima[i], 170u, i);
         needed(ROOM_VIBRATO, 192000.0, maxima[i], 3850u, i);
+        needed(ROOM_TAPE_DELAY, 44100.0, maxima[i], 529201u, i);
+        needed(ROOM_TAPE_DELAY, 8000.0, maxima[i], 96001u, i);
+        needed(ROOM_TAPE_DELAY, 192000.0, maxima[i], 2304001u, i);
+        needed(ROOM_TAPE_DELAY, 8000.0833, maxima[i], 96001u, i); /* 96,000.9996 and 96,001.0008 */
+        needed(ROOM_TAPE_DELAY, 8000.0834, maxima[i], 96002u, i);
         for (k = 0; k < rates.count; k++) {
             needed(ROOM_TREMOLO, rates.list[k], maxima[i], 0u, k);
             needed(ROOM_PHASER, rates.list[k], maxima[i], 0u, k);
@@ -48,13 +53,13 @@ static void by_the_maximum(void)
 
 void places(void)
 {
-    const uint32_t others[] = {0u, 8u, 9u, 256u + 7u, UINT32_C(0x80000001), UINT32_MAX};
+    const uint32_t others[] = {0u, 9u, 10u, 256u + 8u, UINT32_C(0x80000001), UINT32_MAX};
     const struct numbers wrong = rates_refused();
     unsigned i, k;
     by_the_rate();
     by_the_maximum();
     for (i = 0; i < wrong.count; i++) {
-        for (k = ROOM_DELAY; k <= ROOM_PHASER; k++) {
+        for (k = ROOM_DELAY; k <= ROOM_TAPE_DELAY; k++) {
             needed(k, wrong.list[i], 2.0, none, 10u * i + k);
         }
     }

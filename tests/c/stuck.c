@@ -1,6 +1,6 @@
 /* What feeds back with more than one half may never fall silent by itself: a subnormal sample times the feedback rounds back to
    itself. So does an all-pass's last output times its coefficient. A reset ends it. */
-#include "calls.h"
+#include "tape.h"
 
 enum { DELAY_PLACES = 9, TANK_PLACES = 87136 };
 
@@ -53,6 +53,59 @@ static void echoes_stick(void)
     stuck_at(0.6, 1458, 1, 3);
     stuck_at(0.9, 7051, 5, 4);
     stuck_at(0.99, 73672, 49, 5);
+}
+
+/* The tape delay, this many places back: what goes round is saturated too, by the host's formula. After a sound and so many
+   pairs of halves the value of the last. */
+static double tape_echoes(room_tape_delay *state, double sound, double feedback, double distance, unsigned pairs)
+{
+    double out[1] = {JUNK}, sum = JUNK;
+    uint32_t refused = 0, age;
+    unsigned i;
+    check(room_tape_delay_start(state, tape_memory, TAPE_LINE, 8000.0, 0.0) == 0, "start for a tape that may stick", 0);
+    for (i = 0; i <= pairs; i++) {
+        refused |= room_tape_delay_read_half(state, tape_memory, TAPE_LINE, room_set(i == 0u ? sound : 0.0),
+                                             room_set(distance / 8000.0), room_set(feedback), room_set(1.0), &sum, &age);
+        refused |= room_tape_delay_store_half(state, tape_memory, TAPE_LINE, saturated(sum), out);
+    }
+    check(refused == 0u, "pairs of a tape that may stick", 0);
+    check(same(state->smoothed_delay, distance), "where it reads", 0);
+    return out[0];
+}
+
+static void tape_stuck_at(double feedback, double distance, uint64_t steps, unsigned i)
+{
+    room_tape_delay state;
+    int silent = 7;
+    check(bits(tape_echoes(&state, 1.0, feedback, distance, 200000u)) == steps, "where a tape's echo stays", i);
+    check(room_tape_delay_silent(&state, tape_memory, TAPE_LINE, &silent) == 0 && silent == (steps == 0u),
+          "a tape is silent only if it came to 0", i);
+    check(room_tape_delay_reset(&state, tape_memory, TAPE_LINE) == 0, "reset of a tape that rings on", i);
+    check(room_tape_delay_silent(&state, tape_memory, TAPE_LINE, &silent) == 0 && silent == 1, "it is silent", i);
+}
+
+/* In steps of the smallest float: 15 x 0.5 is 7.5, which goes to 8; a fifth of it is 2; x t 2, / t 3; x 5 is 15 again. And 55 x
+   0.9 is 50; a fifth 10; x t 8, / t 11; x 5 is 55. Half way between two places that hold 15 each half goes to 8, and the read
+   finds 16; x 0.46875 is 7.5 too. At a quarter of the way it finds 4 + 11. */
+static void tapes_stick(void)
+{
+    static const struct {
+        double feedback, distance;
+        uint64_t steps;
+    } cases[] = {
+        {0.49, 1.0, 0},  {0.5, 1.0, 15},      {0.6, 1.0, 15},  {0.9, 1.0, 55},
+        {0.5, 1.25, 15}, {0.46875, 1.5, 16},  {0.46875, 2.5, 16},
+    };
+    room_tape_delay state;
+    unsigned i;
+    for (i = 0; i < COUNT(cases); i++) {
+        tape_stuck_at(cases[i].feedback, cases[i].distance, cases[i].steps, i);
+    }
+    tape_stuck_at(nearer(0.5), 1.0, 0, 10);
+    tape_stuck_at(nearer(0.5), 1.25, 0, 11);
+    tape_stuck_at(nearer(0.46875), 1.5, 0, 12);
+    tape_stuck_at(nearer(0.46875), 2.5, 0, 13);
+    check(same(tape_echoes(&state, 1e-3, 1.5, 1.0, 1000u), 5.0), "above 1 a tape grows until it is held, at 5", i);
 }
 
 /* Whether a reverb at 8,000 is silent after a second of sound and some seconds without. */
@@ -136,6 +189,7 @@ static void phasers_stick(void)
 void stuck(void)
 {
     echoes_stick();
+    tapes_stick();
     rooms_stick();
     phasers_stick();
 }
