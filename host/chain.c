@@ -2,6 +2,7 @@
 
 #include <ctype.h>
 #include <math.h>
+#include <stdio.h>
 #include <stdlib.h>
 #include <string.h>
 
@@ -12,12 +13,23 @@ int read_number(const char *text, double *number)
     return end != text && *end == '\0' && isfinite(*number);
 }
 
+/* "delay, chorus and tape", of all effects. */
+static void list_effects(char *list, size_t size)
+{
+    size_t at = 0;
+    for (int i = 0; i < EFFECT_COUNT && at < size; i++) {
+        const char *before = i == 0 ? "" : i == EFFECT_COUNT - 1 ? " and " : ", ";
+        at += (size_t)snprintf(list + at, size - at, "%s%s", before, effects[i].name);
+    }
+}
+
 static int unknown_effect(const char *name, size_t length, trouble *why)
 {
+    char list[400];
     if (length == 0)
         return trouble_say(why, "the chain has an empty place between its commas");
-    return trouble_say(why, "unknown effect '%.*s': there are delay, chorus, flanger, vibrato, tremolo, reverb and phaser",
-                       (int)(length < 60 ? length : 60), name);
+    list_effects(list, sizeof list);
+    return trouble_say(why, "unknown effect '%.*s': there are %s", (int)(length < 60 ? length : 60), name, list);
 }
 
 static int add_stage(chain *c, const char *name, size_t length, trouble *why)

@@ -74,3 +74,15 @@ double phaser_coefficient(double sine, double depth, double sample_rate)
     const double tan_w = tan(omega * 0.5);
     return (1.0 - tan_w) / (1.0 + tan_w);
 }
+
+double tanh_sat(double x, double drive)
+{
+    const double t = fmax(tanh(drive), 0.001);
+    return clamp(tanh(x * t) / t, -1.0, 1.0);
+}
+
+/* Full scale is 5 here: the store half multiplies by it again. */
+double tape_saturated(double sum)
+{
+    return tanh_sat(sum / 5.0, 1.0);
+}

@@ -1,6 +1,6 @@
 /*
- * The curve numbers of the effects, as quiver's timefx.rs maps its controls. The ticks have no powers, exponentials, sines or
- * tangents of their own: they are handed these.
+ * The curve numbers of the effects, as quiver's timefx.rs maps its controls, and the tape delay's saturation, as its analog.rs
+ * has it. The ticks have no powers, exponentials, sines or tangents of their own: they are handed these.
  */
 #ifndef HOST_CURVES_H
 #define HOST_CURVES_H
@@ -20,7 +20,7 @@ double delay_milliseconds(double maximum, double time_cv);
 /* The coefficient with which something glides to its target within some `seconds`: exp(-1 / (seconds x rate)). */
 double env_coef(double seconds, double sample_rate);
 
-/* The delay's glide coefficient at this rate. */
+/* The delay's glide coefficient at this rate, the tape delay's too. */
 double delay_coefficient(double sample_rate);
 
 /* The sine of a phase, which counts in whole turns. */
@@ -28,5 +28,11 @@ double phase_sine(double phase);
 
 /* The coefficient of the phaser's all-passes, -1 to 1: of a sweep from 200 Hz up to 4,000, by a sine and a depth, 0 to 1. */
 double phaser_coefficient(double sine, double depth, double sample_rate);
+
+/* Soft clipping to -1 to 1 by a hyperbolic tangent, of slope 1 at 0; NaN passes. */
+double tanh_sat(double x, double drive);
+
+/* What the tape delay's store half is handed, -1 to 1, of the sum that its read half answers. */
+double tape_saturated(double sum);
 
 #endif

@@ -24,6 +24,7 @@ static const showing showings[] = {
     {"tremolo", "tremolo", {"tremolo.rate=0.75", "tremolo.depth=1", NULL}},
     {"reverb", "reverb", {"reverb.size=0.8", "reverb.predelay=0.2", NULL}},
     {"phaser", "phaser", {"phaser.rate=0.5", "phaser.feedback=0.7", NULL}},
+    {"tape", "tape", {"tape.time=0.35", "tape.feedback=0.9", NULL}},
     {"room", "chorus,delay,reverb", {"delay.time=0.75", "delay.feedback=0.4", "delay.mix=0.3", NULL}},
 };
 enum { SHOWING_COUNT = sizeof showings / sizeof showings[0] };
@@ -93,7 +94,8 @@ static take play(unit *u, phrase *song)
     block sound;
     take t = {0, 0, 0};
     double out[3];
-    const uint64_t frames = 4 * OTHER_RATE; /* longer than any line here */
+    const uint64_t usual = 4 * OTHER_RATE;
+    const uint64_t frames = usual > u->places ? usual : u->places; /* so that any line goes round */
     for (uint64_t at = 0; at < frames && t.refused == 0; at += sound.frames) {
         sound.frames = frames - at < BLOCK_FRAMES ? (size_t)(frames - at) : BLOCK_FRAMES;
         if (song != NULL)
@@ -107,21 +109,32 @@ static take play(unit *u, phrase *song)
     return t;
 }
 
-/* A song, a clearing, and a take of silence after it; `rate` 0 is a reset, another a retune to it, or a start anew. */
-static int next_hirer(unit *u, phrase *song, uint32_t rate, trouble *why)
+/* What stands between two hires. */
+enum { RESET, START, RETUNE, CLEARINGS };
+static const char *const clearing_names[CLEARINGS] = {"reset", "start", "retune"};
+
+/* A start anew goes to the other rate, a retune comes back from there. */
+static uint32_t clear(unit *u, int clearing)
 {
-    const char *const call = rate == 0 ? "reset" : u->kind->retune == u->kind->start ? "start" : "retune";
+    if (clearing == RESET)
+        return u->kind->reset(u);
+    return clearing == START ? u->kind->start(u, OTHER_RATE) : u->kind->retune(u, DEMO_RATE);
+}
+
+/* A song, a clearing, and a take of silence after it. */
+static int next_hirer(unit *u, phrase *song, int clearing, trouble *why)
+{
     int silent_before = 0;
     int silent = 0;
     phrase_begin(song, DEMO_RATE);
     const take first = play(u, song);
     uint32_t refused = first.refused | u->kind->silent(u, &silent_before);
-    refused |= rate == 0 ? u->kind->reset(u) : u->kind->retune(u, rate);
+    refused |= clear(u, clearing);
     refused |= u->kind->silent(u, &silent);
     const take next = play(u, NULL);
-    printf("  %-8s %-6s  song: %llu of %llu samples sound; next take: %llu of %llu are not +0\n", u->kind->name, call,
-           (unsigned long long)first.sounding, (unsigned long long)first.samples, (unsigned long long)next.sounding,
-           (unsigned long long)next.samples);
+    printf("  %-8s %-6s  song: %llu of %llu samples sound; next take: %llu of %llu are not +0\n", u->kind->name,
+           clearing_names[clearing], (unsigned long long)first.sounding, (unsigned long long)first.samples,
+           (unsigned long long)next.sounding, (unsigned long long)next.samples);
     if ((refused | next.refused) != 0)
         return trouble_say(why, "%s refused a call", u->kind->name);
     if (first.sounding == 0 || silent_before)
@@ -140,9 +153,12 @@ static int clears(const showing *s, phrase *song, trouble *why)
     const int good = chain_start(&c, 1, OTHER_RATE, why);
     unit *u = &c.stage[0].unit[0];
     const uint32_t refused = good ? u->kind->retune(u, DEMO_RATE) : 0;
+    int shown = good && refused == 0;
     if (refused != 0)
         trouble_say(why, "%s refused a call", u->kind->name);
-    const int shown = good && refused == 0 && next_hirer(u, song, 0, why) && next_hirer(u, song, OTHER_RATE, why);
+    for (int clearing = RESET; clearing < CLEARINGS && shown; clearing++)
+        if (clearing != RETUNE || u->kind->retune != u->kind->start)
+            shown = next_hirer(u, song, clearing, why);
     chain_free(&c);
     return shown;
 }
@@ -156,7 +172,7 @@ int demo(const char *folder, trouble *why)
     puts("  effect     peak     RMS    age, ms  places lent  asked for by");
     for (int i = 0; i < SHOWING_COUNT && good; i++)
         good = show(folder, &showings[i], why);
-    puts("\nThe next hirer: a song, then a reset (or a retune or start at another rate), then a take of silence\n");
+    puts("\nThe next hirer: a song, then a reset (or a start or a retune at another rate), then a take of silence\n");
     for (int i = 0; i < EFFECT_COUNT && good; i++)
         for (int s = 0; s < SHOWING_COUNT && good; s++)
             if (strcmp(showings[s].chain, effects[i].name) == 0 && strcmp(effects[i].name, "tremolo") != 0)

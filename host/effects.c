@@ -38,6 +38,7 @@ const char *refusal_text(uint32_t number)
         [ROOM_REFUSED_STATE] = "a field of the state is out of its range",
         [ROOM_REFUSED_CONTROL] = "a control is NaN",
         [ROOM_REFUSED_CURVE] = "a curve number is out of its range",
+        [ROOM_REFUSED_TURN] = "a half of a tick is out of turn",
     };
     return number < sizeof texts / sizeof texts[0] ? texts[number] : "unknown cause";
 }

@@ -7,7 +7,7 @@
 
 #include <stddef.h>
 
-enum { MOST_CONTROLS = 6, EFFECT_COUNT = 7 };
+enum { MOST_CONTROLS = 6, EFFECT_COUNT = 8 };
 
 /* A control as the command line has it. An effect's list ends where `name` is NULL. */
 typedef struct control {
@@ -20,7 +20,8 @@ typedef struct control {
 typedef struct unit unit;
 
 /* The calls of room_effects.h, each with its curve numbers worked out. They return 0 or the refusal's number. Where an effect
-   has no retune, its start stands there: a new rate means a new start. */
+   has no retune, its start stands there: a new rate means a new start. A tick is both halves of a tape delay's, so that no
+   other call is made while a read waits. */
 typedef struct effect {
     const char *name;
     uint32_t number; /* in room_places_needed */
@@ -46,6 +47,7 @@ struct unit {
         room_tremolo tremolo;
         room_reverb reverb;
         room_phaser phaser;
+        room_tape_delay tape;
     } state;
     /* Curve numbers, and what goes into them, that stay while the controls do, so one power serves all ticks; the Rust keeps
        its last one likewise. */

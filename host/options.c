@@ -133,7 +133,8 @@ void options_help(void)
          "  --tail SECONDS   silence played in after the end, so that echoes ring out: 0 to 600; 0\n"
          "  --bits 32|64     of the floats that are written; 32\n"
          "  --rate RATE      of the phrase: 8000 to 192000; 44100\n"
-         "  --demo FOLDER    the phrase through each effect into FOLDER, and a check that a reset leaves silence\n"
+         "  --demo FOLDER    the phrase through each effect into FOLDER, and a check that after a song a reset, a start anew\n"
+         "                   and a retune leave silence; the phaser has no retune, the tremolo keeps no sound\n"
          "\n"
          "A control goes for every effect of its name, delay2.time for the second delay alone; the later setting holds.\n");
     for (int i = 0; i < EFFECT_COUNT; i++)

@@ -235,6 +235,41 @@ static uint32_t phaser_tick(unit *u, double audio, double out[3])
                             phaser_coefficient(right, u->depth, state->sample_rate), out);
 }
 
+/* Tape delay. A tick is its two calls, and between them what the first answers is saturated. */
+
+enum { TAPE_TIME, TAPE_FEEDBACK, TAPE_MIX };
+
+static uint32_t tape_start(unit *u, double rate)
+{
+    return room_tape_delay_start(&u->state.tape, u->memory, u->places, rate, delay_coefficient(rate));
+}
+
+static uint32_t tape_retune(unit *u, double rate)
+{
+    return room_tape_delay_retune(&u->state.tape, u->memory, u->places, rate, delay_coefficient(rate));
+}
+
+static uint32_t tape_reset(unit *u)
+{
+    return room_tape_delay_reset(&u->state.tape, u->memory, u->places);
+}
+
+static uint32_t tape_silent(const unit *u, int *silent)
+{
+    return room_tape_delay_silent(&u->state.tape, u->memory, u->places, silent);
+}
+
+/* A refused read half answers a sum of +0, and that is played. */
+static uint32_t tape_tick(unit *u, double audio, double out[3])
+{
+    room_tape_delay *state = &u->state.tape;
+    const uint32_t refused = room_tape_delay_read_half(state, u->memory, u->places, room_set(audio), u->controls[TAPE_TIME],
+                                                       u->controls[TAPE_FEEDBACK], u->controls[TAPE_MIX], out, &u->age);
+    if (refused != 0)
+        return refused;
+    return room_tape_delay_store_half(state, u->memory, u->places, tape_saturated(out[0]), out);
+}
+
 uint64_t unit_places(const unit *u, double sample_rate)
 {
     const int is_delay = u->kind->start == delay_start;
@@ -292,4 +327,8 @@ const effect effects[EFFECT_COUNT] = {
       {"mix", 0.0, 1.0, 0.5, "0 dry to 1 wet"},
       {"stages", 0.0, 1.0, 1.0, "two all-passes a side below 0.33, four below 0.66, else six"},
       {"spread", 0.0, 1.0, 0.5, "how far the right sweep runs ahead of the left, up to half a turn"}}},
+    {"tape", ROOM_TAPE_DELAY, 1, tape_start, tape_retune, tape_reset, tape_silent, tape_tick,
+     {{"time", 0.0, 12.0, 0.5, "in seconds; 0 is one sample"},
+      {"feedback", 0.0, 1.5, 0.0, "how much of an echo is echoed again; above 1 it grows until saturation holds it"},
+      {"mix", 0.0, 1.0, 0.5, "0 dry to 1 wet"}}},
 };

@@ -5,7 +5,7 @@
 #include <stdio.h>
 #include <string.h>
 
-#define FACTS 32u
+#define FACTS 48u
 
 static struct {
     const char *name;
@@ -45,8 +45,7 @@ static int same(double a, double b)
     return memcmp(&a, &b, sizeof a) == 0 || (isnan(a) && isnan(b));
 }
 
-/* +0 by its bits. */
-static int plus_zero(const double *from, uint64_t count)
+int plus_zero(const double *from, uint64_t count)
 {
     static const double zeros[512];
     uint64_t i;
@@ -100,7 +99,7 @@ static void position_facts(const struct room *room)
     unsigned line;
     fact(room->delay.write_pos == t % DELAY_LENGTH && room->linear.write_pos == t % DELAY_LENGTH &&
              room->chorus.write_pos == t % CHORUS_LENGTH && room->flanger.write_pos == t % FLANGER_LENGTH &&
-             room->vibrato.write_pos == t % VIBRATO_LENGTH,
+             room->vibrato.write_pos == t % VIBRATO_LENGTH && room->tape.write_pos == t % TAPE_LENGTH,
          "each position is the count of ticks modulo L");
     for (line = 0; line < 25u; line++) {
         good = good && tank_position(&room->reverb, line) == t % tank_length(line);
@@ -118,6 +117,27 @@ static int within(const room_delay *state)
     return state->smoothed_delay >= 1.0 && state->smoothed_delay <= (double)(DELAY_LENGTH - 1u);
 }
 
+/* Between ticks no read waits. The newest places, more than were written since the last look, and as many that were not yet. */
+static void tape_facts(const struct room *room)
+{
+    const room_tape_delay *s = &room->tape;
+    const uint64_t t = room->ticks;
+    int stored = 1, bounded = 1;
+    uint64_t d;
+    for (d = 1; d <= PAST && d <= t; d++) {
+        const double place = room->lent[TAPE][(s->write_pos + TAPE_LENGTH - d) % TAPE_LENGTH];
+        stored = stored && same(place, room->taped[(t - d) % PAST]);
+        bounded = bounded && place >= -5.0 && place <= 5.0;
+    }
+    fact(stored, "the tape's newest places hold five times what its store halves were handed");
+    fact(bounded, "these lie from -5 to 5");
+    fact(t + PAST > TAPE_LENGTH || plus_zero(room->lent[TAPE] + t, PAST), "those after them, not written yet, are +0");
+    fact(t == 0u || (s->delay_primed == 1u && s->smoothed_delay >= 1.0 && s->smoothed_delay <= (double)(TAPE_LENGTH - 1u)),
+         "the tape's distance is 1 to L - 1");
+    fact(s->waiting == 0u && plus_zero(&s->kept_audio, 1) && plus_zero(&s->kept_read, 1) && plus_zero(&s->kept_mix, 1),
+         "between ticks no read of the tape waits, and what it kept is +0");
+}
+
 static void number_facts(const struct room *room)
 {
     const double *phases = room->chorus.lfo_phases;
@@ -126,8 +146,9 @@ static void number_facts(const struct room *room)
          "each phase is at least 0 and below 1");
     fact(room->ticks == 0u || (within(&room->delay) && room->delay.delay_primed == 1u && within(&room->linear)),
          "the delays' distances are 1 to L - 1");
+    tape_facts(room);
     fact(room->refused == 0u, "no tick was refused");
-    fact(room->aged == room->ticks, "each tick's ages are 1 to L - 1, the delays' those of their distances");
+    fact(room->aged == room->ticks, "each tick's ages are 1 to L - 1, the delays' and the tape's those of their distances");
     fact(room->unsound == 0.0, "what plays under the input rule, but for the phaser, is finite");
 }
 
@@ -177,7 +198,7 @@ void cleared_facts(const struct room *room)
     }
     fact(good, "after a reset every place is +0, spare ones too");
     fact(delay_cleared(&room->delay) && delay_cleared(&room->linear) && room->delay.linear_time == 0u &&
-             room->linear.linear_time == 1u,
+             room->linear.linear_time == 1u && plus_zero(&room->tape.smoothed_delay, 1) && room->tape.delay_primed == 0u,
          "after a reset the delays are not primed, their distances +0");
     fact(plus_zero(phases, 1) && phases[1] == 0.33 && phases[2] == 0.67 && plus_zero(&room->flanger.lfo_phase, 1) &&
              plus_zero(&room->vibrato.lfo_phase, 1) && plus_zero(&room->tremolo.lfo_phase, 1) &&

@@ -16,21 +16,34 @@
 #define CHORUS_LENGTH 6154u
 #define FLANGER_LENGTH 1930u
 #define VIBRATO_LENGTH 3850u
+#define TAPE_LENGTH 2304001u
 #define TANK 87136u
 
 /* Each is lent some places more than it needs. */
 #define SPARE 64u
 
 /* The units with lines: the delay stands for two, one in each mode. Tremolo and phaser have no lines. */
-enum { DELAY, LINEAR, CHORUS, FLANGER, VIBRATO, REVERB, LINED };
+enum { DELAY, LINEAR, CHORUS, FLANGER, VIBRATO, TAPE, REVERB, LINED };
 
 /* Of these the first so many answer ages. */
-#define AGED 5u
+#define AGED 6u
 
-/* Samples of one tick of every unit: delays, chorus, flanger, vibrato, tremolo, reverb, phaser. */
-enum { AT_DELAY, AT_LINEAR, AT_CHORUS, AT_FLANGER = 5, AT_VIBRATO = 8, AT_TREMOLO, AT_REVERB, AT_PHASER = 12, SAMPLES = 15 };
+/* Samples of one tick of every unit: delays, chorus, flanger, vibrato, tremolo, reverb, tape delay, phaser. */
+enum {
+    AT_DELAY,
+    AT_LINEAR,
+    AT_CHORUS,
+    AT_FLANGER = 5,
+    AT_VIBRATO = 8,
+    AT_TREMOLO,
+    AT_REVERB,
+    AT_TAPE = 12,
+    AT_PHASER,
+    SAMPLES = 16
+};
 
-/* How many samples of the recent past are kept, a power of two and more than the longest of the lines that are compared. */
+/* How many samples of the recent past are kept, a power of two and more than the longest of the lines that are compared; of the
+   tape delay's as many places are. */
 #define PAST 16384u
 
 struct room {
@@ -41,14 +54,16 @@ struct room {
     room_tremolo tremolo;
     room_reverb reverb;
     room_phaser phaser;
+    room_tape_delay tape;
     double *lent[LINED];
     uint64_t places[LINED];
     uint64_t ticks;     /* since the last clearing */
     double past[PAST];  /* audio as it came, +0 if unset: of tick t at t modulo PAST */
     double heard[PAST]; /* the same under the input rule */
+    double taped[PAST]; /* what the tape delay stored */
     double samples[SAMPLES]; /* of the last tick */
     uint32_t ages[AGED];     /* likewise; each is 0 before the first */
-    uint64_t aged;           /* ticks whose five ages were 1 to L - 1, the delays' those of the distances that they leave */
+    uint64_t aged;           /* ticks whose six ages were 1 to L - 1, the delays' those of the distances that they leave */
     uint32_t refused;        /* all numbers that ticks returned */
     double unsound;          /* NaN once an effect with the input rule, but the phaser, has played what is not finite */
 };
@@ -63,11 +78,13 @@ struct controls {
 /* sounds.c: audio and controls from a seed; a silent take has audio +0, set and unset. */
 void seed_sounds(uint64_t seed);
 struct controls next_controls(int silent);
+room_port noise(void);
 double sine_of(double phase); /* of 2 pi times the phase, by a table */
 
 /* room.c */
 void open_room(struct room *room); /* every effect started in memory that held something */
 void tick_room(struct room *room, const struct controls *c);
+void leave_in_a_tick(struct room *room); /* the tape delay's next tick is begun, and its read waits */
 void reset_room(struct room *room);
 int room_sounds(const struct room *room); /* whether every effect but the tremolo says that it sounds */
 int room_silent(const struct room *room); /* whether every effect says that it is silent */
@@ -76,6 +93,10 @@ int room_silent(const struct room *room); /* whether every effect says that it i
 void fact(int holds, const char *name);
 void line_facts(const struct room *room);
 void cleared_facts(const struct room *room); /* after a clearing: every place +0, every state as a start leaves it */
+int plus_zero(const double *from, uint64_t count); /* by their bits */
 int say_facts(void); /* prints them and the last line, `N passed, M failed`; the exit status */
+
+/* tape.c: a tape delay's hirers, who leave after a tick or in the middle of one, and what the next one hears */
+void tape_hirers(void);
 
 #endif

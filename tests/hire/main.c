@@ -1,5 +1,5 @@
 /*
- * hire TICKS SEED: one hire of so many ticks, then a reset and the next hirer's take.
+ * hire TICKS SEED: one hire of so many ticks, then a reset and the next hirer's take; then some hires of a tape delay alone.
  *
  * The last line is `N passed, M failed`, counted in facts.
  */
@@ -12,7 +12,7 @@
 /* Prime, so that the lines stand elsewhere at every look. */
 #define EVERY 9973u
 
-/* More than the longest line. */
+/* More than the longest line but the tape delay's, which tape.c goes round. */
 #define TAKE 400000u
 
 static struct room room, fresh;
@@ -84,12 +84,14 @@ int main(int argc, char **argv)
         }
     }
     line_facts(&room);
+    leave_in_a_tick(&room);
     fact(room_sounds(&room), "at the end of the hire every unit but the tremolo sounds");
     reset_room(&room);
     cleared_facts(&room);
     fact(room_silent(&room), "after the reset every unit is silent");
     silent_take();
     next_take();
+    tape_hirers();
     printf("%llu ticks of each unit at 192,000, %.4f of a day, seed %llu\n", (unsigned long long)ticks, (double)ticks / A_DAY,
            (unsigned long long)seed);
     return say_facts();

@@ -1,4 +1,5 @@
 /* The units of a room: how they are started, ticked and cleared. */
+#include "calls.h"
 #include "hire.h"
 
 #include <math.h>
@@ -24,7 +25,7 @@ static double *lend(uint64_t places)
 void open_room(struct room *room)
 {
     static const uint64_t needed[LINED] = {
-        DELAY_LENGTH, DELAY_LENGTH, CHORUS_LENGTH, 2u * FLANGER_LENGTH, VIBRATO_LENGTH, TANK};
+        DELAY_LENGTH, DELAY_LENGTH, CHORUS_LENGTH, 2u * FLANGER_LENGTH, VIBRATO_LENGTH, TAPE_LENGTH, TANK};
     const double coefficient = exp(-1.0 / (0.005 * RATE));
     double *const *m = room->lent;
     const uint64_t *n = room->places;
@@ -40,7 +41,8 @@ void open_room(struct room *room)
               room_flanger_start(&room->flanger, m[FLANGER], n[FLANGER], RATE) |
               room_vibrato_start(&room->vibrato, m[VIBRATO], n[VIBRATO], RATE) |
               room_reverb_start(&room->reverb, m[REVERB], n[REVERB], RATE) | room_tremolo_start(&room->tremolo, RATE) |
-              room_phaser_start(&room->phaser, RATE);
+              room_phaser_start(&room->phaser, RATE) |
+              room_tape_delay_start(&room->tape, m[TAPE], n[TAPE], RATE, coefficient);
     fact(refused == 0u, "every start is accepted");
     room->ticks = 0;
     room->refused = 0;
@@ -104,12 +106,37 @@ static void tick_phaser(struct room *room, const struct controls *c)
                                       coefficient(phase + 0.25, depth), &room->samples[AT_PHASER]);
 }
 
+static uint32_t begin_tape(struct room *room, const struct controls *c, double *sum)
+{
+    return room_tape_delay_read_half(&room->tape, room->lent[TAPE], room->places[TAPE], c->audio, room_set(c->moving[4] * 12.0),
+                                     room_set(c->moving[0] * 1.5), room_set(c->moving[3]), sum, &room->ages[TAPE]);
+}
+
+static void tick_tape(struct room *room, const struct controls *c)
+{
+    double sum, v;
+    room->refused |= begin_tape(room, c, &sum);
+    v = saturated(sum);
+    room->refused |= room_tape_delay_store_half(&room->tape, room->lent[TAPE], room->places[TAPE], v,
+                                                &room->samples[AT_TAPE]);
+    room->taped[room->ticks % PAST] = v * 5.0;
+}
+
+void leave_in_a_tick(struct room *room)
+{
+    const struct controls c = next_controls(0);
+    double sum;
+    fact(begin_tape(room, &c, &sum) == 0u && room->tape.waiting == 1u, "the hirer leaves while a read of the tape waits");
+}
+
 /* Whether each age is one that its line can have. What a delay's tick leaves as its distance is where it read. */
 static int ages_hold(const struct room *room)
 {
-    static const uint32_t lengths[AGED] = {DELAY_LENGTH, DELAY_LENGTH, CHORUS_LENGTH, FLANGER_LENGTH, VIBRATO_LENGTH};
+    static const uint32_t lengths[AGED] = {DELAY_LENGTH,   DELAY_LENGTH,   CHORUS_LENGTH,
+                                           FLANGER_LENGTH, VIBRATO_LENGTH, TAPE_LENGTH};
     int good = room->ages[DELAY] == (uint32_t)ceil(room->delay.smoothed_delay) &&
-               room->ages[LINEAR] == (uint32_t)ceil(room->linear.smoothed_delay);
+               room->ages[LINEAR] == (uint32_t)ceil(room->linear.smoothed_delay) &&
+               room->ages[TAPE] == (uint32_t)ceil(room->tape.smoothed_delay);
     unsigned i;
     for (i = 0; i < AGED; i++) {
         good = good && room->ages[i] >= 1u && room->ages[i] <= lengths[i] - 1u;
@@ -124,6 +151,7 @@ void tick_room(struct room *room, const struct controls *c)
     tick_delays(room, c);
     tick_sweeps(room, c);
     tick_reverb(room, c);
+    tick_tape(room, c);
     tick_phaser(room, c);
     room->past[room->ticks % PAST] = audio;
     room->heard[room->ticks % PAST] = isfinite(audio) ? audio : 0.0;
@@ -147,7 +175,8 @@ void reset_room(struct room *room)
                              room_flanger_reset(&room->flanger, m[FLANGER], n[FLANGER]) |
                              room_vibrato_reset(&room->vibrato, m[VIBRATO], n[VIBRATO]) |
                              room_reverb_reset(&room->reverb, m[REVERB], n[REVERB]) |
-                             room_tremolo_reset(&room->tremolo) | room_phaser_reset(&room->phaser);
+                             room_tremolo_reset(&room->tremolo) | room_phaser_reset(&room->phaser) |
+                             room_tape_delay_reset(&room->tape, m[TAPE], n[TAPE]);
     fact(refused == 0u, "every reset is accepted");
     room->ticks = 0;
     room->aged = 0;
@@ -165,9 +194,10 @@ static int silent_units(const struct room *room)
                              room_flanger_silent(&room->flanger, m[FLANGER], n[FLANGER], &yes[FLANGER]) |
                              room_vibrato_silent(&room->vibrato, m[VIBRATO], n[VIBRATO], &yes[VIBRATO]) |
                              room_reverb_silent(&room->reverb, m[REVERB], n[REVERB], &yes[REVERB]) |
-                             room_tremolo_silent(&room->tremolo, &tremolo) | room_phaser_silent(&room->phaser, &phaser);
+                             room_tremolo_silent(&room->tremolo, &tremolo) | room_phaser_silent(&room->phaser, &phaser) |
+                             room_tape_delay_silent(&room->tape, m[TAPE], n[TAPE], &yes[TAPE]);
     fact(refused == 0u && tremolo == 1, "every question is accepted, and the tremolo is silent");
-    return yes[DELAY] + yes[LINEAR] + yes[CHORUS] + yes[FLANGER] + yes[VIBRATO] + yes[REVERB] + phaser;
+    return yes[DELAY] + yes[LINEAR] + yes[CHORUS] + yes[FLANGER] + yes[VIBRATO] + yes[TAPE] + yes[REVERB] + phaser;
 }
 
 int room_sounds(const struct room *room)

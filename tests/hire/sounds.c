@@ -36,7 +36,7 @@ static uint64_t any_bits(void)
 }
 
 /* One in some sixty thousand is NaN or infinite, as many are unset. */
-static room_port noise(void)
+room_port noise(void)
 {
     const uint64_t u = any_bits();
     const unsigned odd = (unsigned)(u & 0xffffu);

@@ -1,10 +1,12 @@
 /*
  * The host's curve numbers against the maps of quiver's timefx.rs, worked out to 60 digits from its formulas and rounded
  * once: 0.1 x 50^c, 0.05 x 100^c, 0.1 x 150^c, 0.1 x 200^c, (maximum in ms)^c, exp(-1 / (0.005 x rate)), sin(2 pi phase), and
- * (1 - t) / (1 + t) with t = tan(pi f / rate). A pow, sin or tan may miss the last digits, as may 0.3 or 0.33, which no float
- * is; so they may differ by 4e-16 of the number, and a coefficient, which 1 - t may make small, by 4e-16.
- * Then that each unit has its own: from its rate control, set and unset, the delay's after a start and a retune, and the
- * phaser's in every tick, bit for bit.
+ * (1 - t) / (1 + t) with t = tan(pi f / rate); and against tanh(sum / 5 x t) / t with t = tanh(1), of analog.rs. A pow, sin,
+ * tan or tanh may miss the last digits, as may 0.3 or 0.33, which no float is; so they may differ by 4e-16 of the number, and a
+ * coefficient, which 1 - t may make small, by 4e-16.
+ * Then that each unit has its own: from its rate control, set and unset, those of delay and tape delay after a start and a
+ * retune, and the phaser's and the tape delay's in every tick, bit for bit; and that a refused read half of a tape delay is all
+ * of its tick.
  * The last line is `N passed, M failed`.
  */
 #include "curves.h"
@@ -134,14 +136,55 @@ static void coefficients_accepted(void)
     near("coefficients outside -1 to 1", outside, 0.0);
 }
 
-static double memory[100000];
+/* Past sums of 5 / t, some 6.565, the quotient is above 1 and held. */
+static void saturations(void)
+{
+    const struct {
+        double sum, should;
+    } all[] = {
+        {0.001, 0.00019999999845326494}, {0.5, 0.09980710563623486}, {1.0, 0.19846748570311193},
+        {-1.0, -0.19846748570311193}, {2.5, 0.4771563457350893}, {4.9, 0.8311168287732171},
+        {-5.0, -0.8429883383313271}, {5.0, 0.8429883383313271}, {6.0, 0.9493311678779028}, {-6.5, -0.9944839903213335},
+        {6.5, 0.9944839903213335},
+    };
+    for (size_t i = 0; i < sizeof all / sizeof all[0]; i++)
+        near("saturated sum", tape_saturated(all[i].sum), all[i].should);
+    const double large[5] = {6.57, 7.0, 100.0, 1e308, INFINITY};
+    for (int i = 0; i < 5; i++) {
+        near("saturated above", tape_saturated(large[i]), 1.0);
+        near("saturated below", tape_saturated(-large[i]), -1.0);
+    }
+    near("drive 2", tanh_sat(0.5, 2.0), 0.46456651924094405);
+    near("a drive so small that t is held to 0.001", tanh_sat(0.25, 0.0005), 0.2499999947916668);
+    near("no drive", tanh_sat(0.25, 0.0), 0.2499999947916668);
+}
+
+/* What a store half accepts: -1 to 1. Zeros keep their sign, and NaN stays. */
+static void saturations_accepted(void)
+{
+    unsigned outside = 0;
+    double sum = 1e-320;
+    for (int i = 0; i < 100000; i++) {
+        const double v = tape_saturated(i % 2 == 0 ? sum : -sum);
+        outside += !(v >= -1.0 && v <= 1.0 && signbit(v) == i % 2);
+        sum *= 1.0143; /* up to some 1e296 */
+    }
+    near("saturated sums outside -1 to 1 or of another sign", outside, 0.0);
+    near("+0 saturated", memcmp(&(double){0.0}, &(double){tape_saturated(0.0)}, sizeof(double)), 0.0);
+    near("-0 saturated", memcmp(&(double){-0.0}, &(double){tape_saturated(-0.0)}, sizeof(double)), 0.0);
+    near("saturated 3e-200", tape_saturated(3e-200), 6e-201);
+    near("NaN saturated", isnan(tape_saturated(NAN)), 1.0);
+}
+
+/* For a unit, and for one beside it. */
+static double memory[200000];
 
 static void begin(unit *u, const char *name)
 {
     memset(u, 0, sizeof *u);
     u->kind = effect_named(name, strlen(name));
     u->memory = memory;
-    u->places = sizeof memory / sizeof memory[0];
+    u->places = 100000;
 }
 
 static void rate_of(const char *name, double unset, double half)
@@ -203,6 +246,73 @@ static void phasers(void)
     }
 }
 
+/* The tape delay's ticks, from its controls: request A.6's halves with analog.rs's formula between them. */
+static uint32_t tape_by_hand(room_tape_delay *beside, double audio, const double set[3], double *out)
+{
+    const double t = fmax(tanh(1.0), 0.001);
+    double sum, v;
+    uint32_t age, number;
+    number = room_tape_delay_read_half(beside, memory + 100000, 100000, room_set(audio), room_set(set[0]), room_set(set[1]),
+                                       room_set(set[2]), &sum, &age);
+    v = tanh((sum / 5.0) * t) / t;
+    v = v < -1.0 ? -1.0 : v > 1.0 ? 1.0 : v;
+    return number | room_tape_delay_store_half(beside, memory + 100000, 100000, v, out);
+}
+
+/* How many of the samples of so many ticks are not those by hand, whose controls are set to these. */
+static unsigned tape_differs(unit *u, const double set[3])
+{
+    room_tape_delay beside;
+    double is, should;
+    unsigned wrong = 0;
+    refused = u->kind->start(u, 8000.0) | room_tape_delay_start(&beside, memory + 100000, 100000, 8000.0,
+                                                                delay_coefficient(8000.0));
+    for (int i = 0; i < 20000 && refused == 0; i++) {
+        const double audio = i < 10000 ? (i % 7 - 3.0) * 2.0 : 0.0;
+        refused = u->kind->tick(u, audio, &is) | tape_by_hand(&beside, audio, set, &should);
+        wrong += memcmp(&is, &should, sizeof is) != 0 || u->age != (uint32_t)ceil(beside.smoothed_delay);
+    }
+    return wrong + (memcmp(memory, memory + 100000, 96001 * sizeof *memory) != 0);
+}
+
+static void tapes(void)
+{
+    const double unset[3] = {0.5, 0.0, 0.5};
+    const double set[3] = {0.0101, 1.4, 0.75};
+    unit u;
+    begin(&u, "tape");
+    near("tape by its initial controls", tape_differs(&u, unset), 0.0);
+    near("tape is accepted", refused, 0.0);
+    u.controls[effect_control(u.kind, "time")] = room_set(set[0]);
+    u.controls[effect_control(u.kind, "feedback")] = room_set(set[1]);
+    u.controls[effect_control(u.kind, "mix")] = room_set(set[2]);
+    near("tape by its controls", tape_differs(&u, set), 0.0);
+    near("tape with its controls set is accepted", refused, 0.0);
+}
+
+/* While a read waits the next read half is refused. A store half after that would be accepted: it would play the read that
+   waits and store what the refused half answers, saturated. */
+static void tape_refused(void)
+{
+    room_tape_delay before;
+    unit u;
+    double out[3] = {1.0, 1.0, 1.0};
+    begin(&u, "tape");
+    near("tape starts to be refused", u.kind->start(&u, 8000.0), 0.0);
+    for (int i = 0; i < 100; i++)
+        near("tape is not refused yet", u.kind->tick(&u, 1.0, out), 0.0);
+    u.state.tape.waiting = 1;
+    u.state.tape.kept_audio = u.state.tape.kept_read = u.state.tape.kept_mix = 0.5;
+    before = u.state.tape;
+    memory[before.write_pos] = 0.25;
+    memcpy(memory + 100000, memory, 96001 * sizeof *memory);
+    near("tape whose read waits is refused", u.kind->tick(&u, 1.0, out), ROOM_REFUSED_TURN);
+    near("its state stays", memcmp(&before, &u.state.tape, sizeof before), 0.0);
+    near("its line stays", memcmp(memory, memory + 100000, 96001 * sizeof *memory), 0.0);
+    near("it plays +0", memcmp(out, &(double){0.0}, sizeof *out), 0.0);
+    near("it has no age", u.age, 0.0);
+}
+
 static void units(void)
 {
     unit u;
@@ -217,6 +327,11 @@ static void units(void)
     near("delay's glide after a start", u.state.delay.delay_smooth_coef, 0.9753099120283326);
     near("delay retunes", u.kind->retune(&u, 44100.0), 0.0);
     near("delay's glide after a retune", u.state.delay.delay_smooth_coef, 0.9954751208601006);
+    begin(&u, "tape");
+    near("tape starts", u.kind->start(&u, 8000.0), 0.0);
+    near("tape's glide after a start", u.state.tape.delay_smooth_coef, 0.9753099120283326);
+    near("tape retunes", u.kind->retune(&u, 8100.0), 0.0);
+    near("tape's glide after a retune", u.state.tape.delay_smooth_coef, 0.9756109800648459);
 }
 
 int main(void)
@@ -227,8 +342,12 @@ int main(void)
     sines();
     coefficients();
     coefficients_accepted();
+    saturations();
+    saturations_accepted();
     units();
     phasers();
+    tapes();
+    tape_refused();
     printf("%u passed, %u failed\n", passed, failed);
     return failed > 0;
 }

@@ -3,12 +3,13 @@
 
 #include <string.h>
 
-/* To the bit; after an accepted tick a store that is NaN may be any NaN. */
+/* To the bit; after an accepted tick a store or a kept number that is NaN may be any NaN. */
 static int state_is(int effect, const struct state *is, const struct state *should, int any_nan)
 {
     unsigned i;
     for (i = 0; i < words_of(effect); i++) {
-        const int nans = any_nan && state_words[effect][i] == 's' && plays(of_bits(is->word[i]), of_bits(should->word[i]));
+        const int floats = state_words[effect][i] == 's' || state_words[effect][i] == 'k';
+        const int nans = any_nan && floats && plays(of_bits(is->word[i]), of_bits(should->word[i]));
         if (is->word[i] != should->word[i] && !nans) {
             return 0;
         }
@@ -46,7 +47,7 @@ static const char *check_refused(const struct unit *unit, const struct call *c, 
     if (!state_is(c->effect, &a->state, c->kind == START ? &zeros : &c->state, 0)) {
         return "the state of a refused call";
     }
-    for (i = 0; c->kind == TICK && i < samples_of(c->effect); i++) {
+    for (i = 0; plays_samples(c) && i < samples_of(c->effect); i++) {
         if (!same(a->out[i], 0.0)) {
             return "a refused tick plays something";
         }
@@ -110,9 +111,9 @@ const char *check_call(struct unit *unit, const struct call *c, struct answer *a
     if (clears && unit->arena->places > 4096u && !arena_as_it_should(unit->arena)) {
         return "memory, seen before a clearing";
     }
-    if (number == 0u && c->kind == TICK) {
+    if (number == 0u && plays_samples(c)) {
         t = tick_by_the_paper(c);
-        age = has_ages(c->effect) ? t.age : UNTOUCHED;
+        age = c->kind == TICK && has_ages(c->effect) ? t.age : UNTOUCHED;
     } else if (number == 0u && c->kind == SILENT) {
         silent = (uint32_t)silent_by_the_paper(c);
     }
@@ -125,7 +126,7 @@ const char *check_call(struct unit *unit, const struct call *c, struct answer *a
     }
     wrong = number != 0u        ? check_refused(unit, c, a)
             : clears            ? check_clearing(unit, c, a)
-            : c->kind == TICK   ? check_tick(unit, c, a, &t)
+            : plays_samples(c)  ? check_tick(unit, c, a, &t)
                                 : check_silent(unit, c, a, silent);
     if (wrong == NULL && number == 0u && !state_passes(c->effect, &a->state)) {
         wrong = "an accepted call returned a state that the test refuses";

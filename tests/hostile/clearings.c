@@ -1,5 +1,7 @@
-/* Document 01, of phaser and stores document 02: what an accepted start, retune or reset leaves, and the question. */
+/* Document 01, of phaser, stores and tape delay document 02: what an accepted start, retune or reset leaves; the question. */
 #include "hostile.h"
+
+#include <string.h>
 
 /* "Start phases: chorus 0, 0.33, 0.67; others 0. Reset restores them. Retune keeps the phases of chorus and flanger and zeroes
    the vibrato's." */
@@ -12,15 +14,15 @@ static double phase_after(const struct call *c, unsigned word)
 }
 
 /* "Start, reset and retune all set positions to 0, unprime the delay's glide with distance +0, and set the reverb's damping
-   stores to +0", and of the phaser "all 24 stored numbers of its chains, +0 after start and reset"; what is no setting of the
-   call stays. */
+   stores to +0", of the phaser "all 24 stored numbers of its chains, +0 after start and reset", and of the tape delay "reset
+   and retune drop a waiting read", with what it kept "+0 while none waits"; what is no setting of the call stays. */
 struct state cleared_by_the_paper(const struct call *c)
 {
     struct state s = c->state;
     unsigned i;
     for (i = 0; i < words_of(c->effect); i++) {
         const char letter = state_words[c->effect][i];
-        if (letter == 'w' || letter == 'd' || letter == 's' || (letter == 'f' && i == 2u)) {
+        if (strchr("wdsfqk", letter) != NULL) {
             s.word[i] = 0;
         } else if (letter == 'p') {
             s.word[i] = bits(phase_after(c, i));
@@ -30,7 +32,7 @@ struct state cleared_by_the_paper(const struct call *c)
             s.word[i] = bits(c->coefficient);
         } else if (letter == 'm' && c->kind == START) {
             s.word[i] = bits(held_maximum(c->maximum));
-        } else if (letter == 'f' && c->kind == START) {
+        } else if (letter == 'l' && c->kind == START) {
             s.word[i] = c->linear != 0u;
         }
     }
@@ -77,7 +79,8 @@ int lines_zero_by_the_paper(const struct call *c)
     return 1;
 }
 
+/* "A tape unit with a read waiting isn't silent." */
 int silent_by_the_paper(const struct call *c)
 {
-    return lines_zero_by_the_paper(c) && stores_zero(c);
+    return lines_zero_by_the_paper(c) && stores_zero(c) && !read_waits(c->effect, &c->state);
 }

@@ -1,11 +1,21 @@
 /* Draws units and calls: most calls could be a host's, in a chain; of the others one thing or several are wrong. */
 #include "hostile.h"
 
+/* The tape delay's line is long at every rate: high ones are rare. */
+static double unit_rate(int effect)
+{
+    double rate = good_rate();
+    while (effect == TAPE && rate > 12000.0 && !one_in(40)) {
+        rate = good_rate();
+    }
+    return rate;
+}
+
 /* A unit has no state yet: its first call is a start. Memory enough for one at some rate, and a long line if so asked. */
 struct unit draw_unit(int effect, int long_line)
 {
     struct unit unit = {0, {{0}}, 0, 0, 0};
-    const uint64_t places = long_line ? 11520001u : needed(effect, good_rate(), good_maximum());
+    const uint64_t places = long_line ? 11520001u : needed(effect, unit_rate(effect), good_maximum());
     unit.effect = effect;
     unit.arena = arena_for(places + below(20));
     if (unit.arena->places <= 20480u) {
@@ -92,6 +102,20 @@ static double audio(void)
     return one_in(12) ? any_float() : one_in(3) ? 0.0 : from_to(-1.0, 1.0);
 }
 
+/* What a tape delay's controls are clamped to is more: seconds up to 12, a feedback up to 1.5. */
+static double widened(const struct call *c, unsigned which, double x)
+{
+    static const double widths[PORTS] = {1.0, 12.0, 1.5, 1.0, 1.0};
+    return c->effect == TAPE && !one_in(8) ? x * widths[which] : x;
+}
+
+/* -1 to 1, the ends and the floats next to them among them. */
+static double saturated(void)
+{
+    const double at_an_end = of_bits(bits(1.0) - below(3));
+    return !one_in(4) ? from_to(-1.0, 1.0) : one_in(3) ? (one_in(2) ? 0.0 : -0.0) : one_in(2) ? at_an_end : -at_an_end;
+}
+
 /* Milliseconds up to the maximum and beyond; any but NaN. */
 static double milliseconds(const struct call *c)
 {
@@ -104,6 +128,9 @@ static double curve(const struct call *c, unsigned which)
     static const double ends[] = {1.0, -1.0, 0.0, -0.0};
     if (c->effect == DELAY) {
         return milliseconds(c);
+    }
+    if (c->effect == TAPE) {
+        return saturated();
     }
     if (which == 0u) {
         return one_in(6) ? 32.0 : one_in(6) ? of_bits(any_bits() & UINT64_C(0x8000000000000000)) : from_to(0.0, 32.0);
@@ -118,7 +145,7 @@ static void draw_tick(struct call *c)
     c->set = (uint32_t)any_bits() | (one_in(2) ? 0x1fu : 0u);
     for (i = 0; i < PORTS; i++) {
         const int set = (c->set >> i & 1u) != 0u;
-        c->ports[i] = !set ? any_float() : i == 0u ? audio() : control();
+        c->ports[i] = !set ? any_float() : i == 0u ? audio() : widened(c, i, control());
     }
     for (i = 0; i < CURVES; i++) {
         c->curves[i] = curve(c, i);
@@ -139,7 +166,7 @@ static void draw_settings(struct call *c, const struct arena *arena)
     } while (tries > 0u && call_needs(c) > arena->places);
 }
 
-/* Positions at the length and around it, and anywhere. */
+/* Positions at the length and around it, at the top bit, and anywhere. */
 static uint64_t wrong_position(const struct call *c, unsigned word)
 {
     const double rate = of_bits(c->state.word[word_of(c->effect, 'r')]);
@@ -150,11 +177,13 @@ static uint64_t wrong_position(const struct call *c, unsigned word)
     } else if (rate_holds(rate)) {
         length = line_length(c->effect, rate, maximum);
     }
-    switch (below(4)) {
+    switch (below(5)) {
     case 0:
         return any_bits() >> below(64);
     case 1:
         return below(length);
+    case 2:
+        return (UINT64_C(1) << 63) + (one_in(2) ? 0u : below(length));
     default:
         return length + below(3) - 1u;
     }
@@ -163,8 +192,9 @@ static uint64_t wrong_position(const struct call *c, unsigned word)
 /* Distances at the line's end and at 1, of either sign, and anywhere. */
 static double wrong_distance(const struct call *c)
 {
-    const double rate = of_bits(c->state.word[3]);
-    const double length = rate_holds(rate) ? (double)line_length(DELAY, rate, held_maximum(of_bits(c->state.word[5]))) : 9.0;
+    const double rate = of_bits(c->state.word[word_of(c->effect, 'r')]);
+    const double maximum = c->effect == DELAY ? held_maximum(of_bits(c->state.word[5])) : 12.0;
+    const double length = rate_holds(rate) ? (double)line_length(c->effect, rate, maximum) : 9.0;
     switch (below(4)) {
     case 0:
         return near(length - 1.0);
@@ -177,12 +207,29 @@ static double wrong_distance(const struct call *c)
     }
 }
 
+/* Zeros of either sign, the ends of a mix, and anything. */
+static double wrong_kept(void)
+{
+    switch (below(4)) {
+    case 0:
+        return one_in(2) ? 0.0 : -0.0;
+    case 1:
+        return near(1.0);
+    case 2:
+        return of_bits((one_in(2) ? UINT64_C(1) << 63 : 0u) | below(3));
+    default:
+        return any_float();
+    }
+}
+
 static void set_wrong_word(struct call *c, unsigned word)
 {
     const char letter = state_words[c->effect][word];
     if (letter == 'w') {
         c->state.word[word] = wrong_position(c, word);
-    } else if (letter == 'f') {
+    } else if (letter == 'k') {
+        c->state.word[word] = bits(wrong_kept());
+    } else if (is_flag(c->effect, word)) {
         c->state.word[word] = one_in(3) ? 0u : (uint32_t)(any_bits() >> below(64));
     } else {
         c->state.word[word] = bits(letter == 'd' ? wrong_distance(c) : letter == 'r' && one_in(2) ? good_rate() : any_float());
@@ -204,7 +251,7 @@ static void set_wrong_argument(struct call *c, const struct arena *arena)
         c->rate = any_float();
         break;
     case 3:
-        c->curves[below(CURVES)] = one_in(3) ? any_nan() : any_float();
+        c->curves[below(c->effect == TAPE ? 1u : CURVES)] = one_in(3) ? any_nan() : one_in(3) ? near(1.0) : any_float();
         c->coefficient = any_float();
         break;
     default:
@@ -226,10 +273,27 @@ static void draw_state(struct call *c)
     }
 }
 
+/* A state of a tape delay in which a read waits, with any floats kept and a mix of 0 to 1. */
+static void draw_waiting(struct call *c)
+{
+    const double mixes[] = {0.0, -0.0, 1.0, of_bits(1u), of_bits(bits(1.0) - 1u), from_to(0.0, 1.0)};
+    uint64_t *kept = &c->state.word[word_of(TAPE, 'k')];
+    c->state.word[word_of(TAPE, 'q')] = one_in(2) ? 1u : (uint32_t)any_bits() | 2u;
+    kept[0] = bits(any_float());
+    kept[1] = bits(any_float());
+    kept[2] = bits(mixes[below(COUNT(mixes))]);
+}
+
+/* A half of the tape delay in its turn or, now and then, out of it. */
+static int draw_half(const struct state *state)
+{
+    return read_waits(TAPE, state) == one_in(12) ? TICK : STORE;
+}
+
 /* Clearings of long memories take long, and stand back. */
 static int draw_kind(const struct unit *unit)
 {
-    const uint64_t rarer = unit->arena->places > 20480u ? 4u : 1u;
+    const uint64_t rarer = unit->arena->places > 100000u ? 8u : unit->arena->places > 20480u ? 4u : 1u;
     if (!state_passes(unit->effect, &unit->state) && !one_in(8)) {
         return START;
     }
@@ -256,6 +320,12 @@ struct call draw_call(const struct unit *unit)
     draw_tick(&c);
     if (one_in(30)) {
         draw_state(&c);
+    }
+    if (c.effect == TAPE && one_in(5)) {
+        draw_waiting(&c);
+    }
+    if (c.effect == TAPE && c.kind == TICK) {
+        c.kind = draw_half(&c.state);
     }
     if (c.kind <= RESET || one_in(8)) {
         lend_enough(&c, unit->arena, call_needs(&c));

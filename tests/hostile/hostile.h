@@ -13,12 +13,13 @@
 #define COUNT(list) (sizeof(list) / sizeof((list)[0]))
 
 /* The effects' numbers in documents 01 and 02. */
-enum { DELAY = 1, CHORUS, FLANGER, VIBRATO, TREMOLO, REVERB, PHASER, EFFECTS };
+enum { DELAY = 1, CHORUS, FLANGER, VIBRATO, TREMOLO, REVERB, PHASER, TAPE, EFFECTS };
 
-enum { START, RETUNE, RESET, TICK, SILENT, CALLS };
+/* The tape delay's tick is its read half, and its store half is a call that it alone has. */
+enum { START, RETUNE, RESET, TICK, SILENT, STORE, CALLS };
 
 extern const char *const effect_names[EFFECTS];
-extern const char *const call_names[CALLS];
+const char *call_name(int effect, int kind);
 
 /* The most words of a state, ports and curve numbers of a tick, samples of an answer, and places that a tick writes. */
 #define WORDS 42
@@ -29,8 +30,9 @@ extern const char *const call_names[CALLS];
 
 /*
  * A state in one form for all effects: the bits of its numbers in the order of the header's struct. What each word is stands
- * in a string: w a position, p a phase, r the rate, d the delay's distance, f a flag (32 bits), c the coefficient, m the
- * maximum, s a store that may be any float: a damping store, an all-pass's last input or output.
+ * in a string: w a position, p a phase, r the rate, d a delay's distance, c the coefficient, m the maximum, s a store that may
+ * be any float: a damping store, an all-pass's last input or output; k a number that a read that waits keeps; and the flags, of
+ * 32 bits: f whether a delay is primed, q whether a read waits, l whether the time is linear.
  */
 struct state {
     uint64_t word[WORDS];
@@ -42,6 +44,10 @@ unsigned words_of(int effect);
 /* The first word of this letter. */
 unsigned word_of(int effect, char letter);
 
+int is_flag(int effect, unsigned word);
+int has_coefficient(int effect);
+int read_waits(int effect, const struct state *state);
+
 /* A call with its arguments. Ports and curve numbers stand in the order of the exported function. */
 struct call {
     int effect, kind;
@@ -51,8 +57,11 @@ struct call {
     double rate, maximum, coefficient; /* of a start or a retune */
     uint32_t linear;
     uint32_t set; /* the mask: 1 is the first port */
-    double ports[PORTS], curves[CURVES];
+    double ports[PORTS], curves[CURVES]; /* of a store half the first curve number is the saturated value */
 };
+
+/* Whether the call answers samples, of which a read half's sum is one. */
+int plays_samples(const struct call *c);
 
 /* What a call returned and left, the memory apart. */
 struct answer {
@@ -127,7 +136,7 @@ int window_as_it_should(const struct arena *arena, uint64_t place); /* the place
 
 /* A small object between guard pages, close to the higher or to the lower one. */
 void *spot(unsigned which, unsigned bytes, int high);
-#define SPOTS 11
+#define SPOTS 12
 
 /* make.c: makes the call, its numbers in spots. */
 struct answer make(const struct call *c);
@@ -143,6 +152,11 @@ struct unit {
 struct unit draw_unit(int effect, int long_line);
 struct call draw_call(const struct unit *unit);
 uint64_t call_needs(const struct call *c); /* how many places, if nothing else is wrong with it */
+
+/* reached.c: what calls of the tape delay, and ages, came to; how much of it was reached and how much was not. */
+void count_reached(const struct call *c, const struct answer *a);
+void count_age(const struct call *c, const struct answer *a);
+void print_reached(unsigned *passed, unsigned *failed);
 
 /* check.c: makes the call and holds all that it left against the paper; the words say what is wrong, NULL if nothing. */
 const char *check_call(struct unit *unit, const struct call *c, struct answer *a);

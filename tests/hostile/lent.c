@@ -23,8 +23,9 @@ static char *guarded(size_t pages)
     return at + PAGE;
 }
 
-/* The last two are for the reverb's tank, 87,136 places, and for the longest line, 11,520,001. */
-static const unsigned pages_of[] = {1, 4, 16, 40, 171, 22501};
+/* The last four are for the reverb's tank, 87,136 places, for tape delays, 144,001 at 12,000 and 2,304,001 at 192,000, and for
+   the longest line, 11,520,001. */
+static const unsigned pages_of[] = {1, 4, 16, 40, 171, 300, 4501, 22501};
 
 struct arena *arena_for(uint64_t places)
 {

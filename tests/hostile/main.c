@@ -3,7 +3,7 @@
  *
  * Units come one after another, each with a chain of calls. The table printed at the end says how often each call was accepted
  * and refused by each number; a cell that the table of refusals has and that no call came to is a failure. The last line is
- * `N passed, M failed`, counted in cells, and in the kinds of ages that the four effects with ages answered.
+ * `N passed, M failed`, counted in cells, and in what reached.c counts.
  */
 #define _POSIX_C_SOURCE 200809L
 #include "hostile.h"
@@ -14,7 +14,7 @@
 #include <string.h>
 #include <unistd.h>
 
-#define NUMBERS 7
+#define NUMBERS 8
 #define LONG_CHAIN 60u
 
 static struct {
@@ -30,10 +30,6 @@ enum { NO_PLACES, FEWER, ONE_SHORT, JUST_ENOUGH, MORE, LENGTHS };
 static const char *const length_names[LENGTHS] = {"none", "fewer", "one short", "just enough", "more"};
 static uint64_t lengths[LENGTHS], long_lines;
 
-/* Ages of accepted ticks, by where in the line they are. */
-enum { AT_1, BETWEEN, AT_END, AGES };
-static const char *const age_names[AGES] = {"1", "between", "L - 1"};
-static uint64_t ages[AGES], ages_beyond;
 static unsigned shown;
 
 /* A fault is a call that went out of what it was lent: say which, and end. */
@@ -65,7 +61,7 @@ static void show_wrong(const struct call *c, const struct answer *a, const char 
         return;
     }
     printf("FAILED: call %llu, %s %s: %s; number %u, by the table %u, %llu places, age %u\n  state", (unsigned long long)made,
-           effect_names[c->effect], call_names[c->kind], what, (unsigned)a->number, (unsigned)number_for(c),
+           effect_names[c->effect], call_name(c->effect, c->kind), what, (unsigned)a->number, (unsigned)number_for(c),
            (unsigned long long)c->places, (unsigned)a->age);
     for (i = 0; i < words_of(c->effect); i++) {
         printf(" %llx", (unsigned long long)c->state.word[i]);
@@ -121,17 +117,6 @@ static void count_length(const struct call *c)
     }
 }
 
-/* 1 to L - 1, with L by the state; the delay's lines alone are read up to both ends. */
-static void count_age(const struct call *c, const struct answer *a)
-{
-    if (c->kind == TICK && a->number == 0u && has_ages(c->effect)) {
-        const double rate = of_bits(c->state.word[word_of(c->effect, 'r')]);
-        const uint64_t last = line_length(c->effect, rate, c->effect == DELAY ? of_bits(c->state.word[5]) : 0.0) - 1u;
-        ages[a->age == 1u ? AT_1 : a->age == last ? AT_END : BETWEEN]++;
-        ages_beyond += a->age < 1u || a->age > last;
-    }
-}
-
 /* One call, counted; the unit goes on with what it left. */
 static void one_call(struct unit *unit)
 {
@@ -139,11 +124,12 @@ static void one_call(struct unit *unit)
     struct answer a = {0, {{0}}, {0}, 0, 0};
     const char *wrong;
     snprintf(faulted, sizeof faulted, "FAILED: a fault in call %llu, %s %s, %llu places\n", (unsigned long long)made,
-             effect_names[c.effect], call_names[c.kind], (unsigned long long)c.places);
+             effect_names[c.effect], call_name(c.effect, c.kind), (unsigned long long)c.places);
     wrong = check_call(unit, &c, &a);
     made++;
     count_length(&c);
     count_age(&c, &a);
+    count_reached(&c, &a);
     if (wrong != NULL) {
         show_wrong(&c, &a, wrong);
         tally[c.effect][c.kind].wrong[number_for(&c)]++;
@@ -185,11 +171,12 @@ static void one_places_call(void)
 /* The numbers that a call of an effect can return, 0 among them. */
 static int has_cell(int effect, int kind, int number)
 {
-    static const char *const numbers[CALLS] = {"0123", "04123", "043", "04356", "043"};
-    if (kind == RETUNE && lines_of(effect) == 0u) {
+    static const char *const numbers[CALLS] = {"0123", "04123", "043", "047356", "043", "04736"};
+    if ((kind == RETUNE && lines_of(effect) == 0u) || (kind == STORE && effect != TAPE)) {
         return 0;
     }
-    if ((number == 2 && effect != DELAY) || (number == 3 && lines_of(effect) == 0u) || (number == 6 && effect == REVERB)) {
+    if ((number == 2 && !has_coefficient(effect)) || (number == 3 && lines_of(effect) == 0u) ||
+        (number == 6 && (effect == REVERB || (effect == TAPE && kind == TICK))) || (number == 7 && effect != TAPE)) {
         return 0;
     }
     return strchr(numbers[kind], '0' + number) != NULL;
@@ -203,14 +190,14 @@ static void count_cell(int effect, int kind, int number)
     passed += good != 0;
     failed += good == 0;
     if (tally[effect][kind].made[number] == 0u) {
-        printf("FAILED: no %s %s with number %d went well\n", effect_names[effect], call_names[kind], number);
+        printf("FAILED: no %s %s with number %d went well\n", effect_names[effect], call_name(effect, kind), number);
     }
 }
 
 static void print_row(int effect, int kind)
 {
     int number;
-    printf("%-8s %-7s", effect_names[effect], call_names[kind]);
+    printf("%-8s %-7s", effect_names[effect], call_name(effect, kind));
     for (number = 0; number < NUMBERS; number++) {
         if (has_cell(effect, kind, number)) {
             printf(" %11llu", (unsigned long long)tally[effect][kind].made[number]);
@@ -234,24 +221,11 @@ static void print_row(int effect, int kind)
     }
 }
 
-static void print_ages(void)
-{
-    int kind;
-    printf("ages:");
-    for (kind = 0; kind < AGES; kind++) {
-        printf(" %s %llu,", age_names[kind], (unsigned long long)ages[kind]);
-        passed += ages[kind] > 0u;
-        failed += ages[kind] == 0u;
-    }
-    printf(" others %llu\n", (unsigned long long)ages_beyond);
-    passed += ages_beyond == 0u;
-    failed += ages_beyond != 0u;
-}
-
 static void print_table(void)
 {
     int effect, kind;
-    printf("%-16s %11s %11s %11s %11s %11s %11s %11s\n", "", "accepted", "by 1", "by 2", "by 3", "by 4", "by 5", "by 6");
+    printf("%-16s %11s %11s %11s %11s %11s %11s %11s %11s\n", "", "accepted", "by 1", "by 2", "by 3", "by 4", "by 5", "by 6",
+           "by 7");
     for (effect = DELAY; effect < EFFECTS; effect++) {
         for (kind = START; kind < CALLS; kind++) {
             if (has_cell(effect, kind, 0)) {
@@ -290,7 +264,7 @@ int main(int argc, char **argv)
         one_places_call();
     }
     print_table();
-    print_ages();
+    print_reached(&passed, &failed);
     printf("%u passed, %u failed\n", passed, failed);
     return failed != 0u;
 }

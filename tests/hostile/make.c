@@ -3,9 +3,9 @@
 
 #include <string.h>
 
-#define OUT_SPOT 8u
-#define SILENT_SPOT 9u
-#define AGE_SPOT 10u
+#define OUT_SPOT 9u
+#define SILENT_SPOT 10u
+#define AGE_SPOT 11u
 
 /* The words of the state that the call is handed by an address. */
 static struct {
@@ -17,7 +17,7 @@ static unsigned lents;
 /* A flag has 32 bits, all else 64. */
 static unsigned bytes_of(int effect, unsigned word)
 {
-    return state_words[effect][word] == 'f' ? 4u : 8u;
+    return is_flag(effect, word) ? 4u : 8u;
 }
 
 static void *lend(const struct call *c, unsigned first, unsigned count)
@@ -192,10 +192,39 @@ static uint32_t phaser(const struct call *c, double *out, uint32_t *yes, uint32_
     }
 }
 
+static uint32_t tape(const struct call *c, double *out, uint32_t *yes, uint32_t *age)
+{
+    const uint32_t primed = (uint32_t)c->state.word[2];
+    switch (c->kind) {
+    case START:
+        return room_raw_tape_delay_start(c->rate, c->coefficient, c->memory, c->places, lend(c, 0, 1), lend(c, 1, 1),
+                                         lend(c, 2, 1), lend(c, 3, 1), lend(c, 4, 1), lend(c, 5, 1), lend(c, 6, 1),
+                                         lend(c, 7, 1), lend(c, 8, 1));
+    case RETUNE:
+        return room_raw_tape_delay_retune(c->rate, c->coefficient, c->memory, c->places, lend(c, 0, 1), lend(c, 1, 1),
+                                          lend(c, 2, 1), lend(c, 3, 1), lend(c, 4, 1), lend(c, 5, 1), lend(c, 6, 1),
+                                          lend(c, 7, 1), lend(c, 8, 1));
+    case RESET:
+        return room_raw_tape_delay_reset(c->memory, c->places, lend(c, 0, 1), lend(c, 1, 1), lend(c, 2, 1), lend(c, 3, 1),
+                                         lend(c, 4, 1), lend(c, 5, 1), lend(c, 6, 1), number(c, 7), number(c, 8));
+    case TICK:
+        return room_raw_tape_delay_read_half(c->state.word[0], lend(c, 1, 1), lend(c, 2, 1), lend(c, 3, 1), lend(c, 4, 1),
+                                             lend(c, 5, 1), lend(c, 6, 1), number(c, 7), number(c, 8), c->memory, c->places,
+                                             c->set, c->ports[0], c->ports[1], c->ports[2], c->ports[3], out, age);
+    case STORE:
+        return room_raw_tape_delay_store_half(lend(c, 0, 1), number(c, 1), primed, lend(c, 3, 1), lend(c, 4, 1),
+                                              lend(c, 5, 1), lend(c, 6, 1), number(c, 7), number(c, 8), c->memory, c->places,
+                                              c->curves[0], out);
+    default:
+        return room_raw_tape_delay_silent(c->state.word[0], number(c, 1), primed, (uint32_t)c->state.word[3], number(c, 4),
+                                          number(c, 5), number(c, 6), number(c, 7), number(c, 8), c->memory, c->places, yes);
+    }
+}
+
 struct answer make(const struct call *c)
 {
     static uint32_t (*const effects[EFFECTS])(const struct call *, double *, uint32_t *, uint32_t *) = {
-        0, delay, chorus, flanger, vibrato, tremolo, reverb, phaser};
+        0, delay, chorus, flanger, vibrato, tremolo, reverb, phaser, tape};
     const unsigned samples = samples_of(c->effect);
     double *out = spot(OUT_SPOT, samples * 8u, one_in(2));
     uint32_t *yes = spot(SILENT_SPOT, 4u, one_in(2));

@@ -1,16 +1,23 @@
-/* Document 01: lengths, places needed, the state test, and the table of refusals with its orders. Of document 02, A.1 and
-   A.4. */
+/* Document 01: lengths, places needed, the state test, and the table of refusals with its orders. Of document 02, A.1, A.4 and
+   A.6. */
 #include "hostile.h"
 
 #include <string.h>
 
-const char *const effect_names[EFFECTS] = {"", "delay", "chorus", "flanger", "vibrato", "tremolo", "reverb", "phaser"};
-const char *const call_names[CALLS] = {"start", "retune", "reset", "tick", "silent"};
+const char *const effect_names[EFFECTS] = {"",        "delay",  "chorus", "flanger", "vibrato",
+                                           "tremolo", "reverb", "phaser", "tape"};
+
+const char *call_name(int effect, int kind)
+{
+    static const char *const names[CALLS] = {"start", "retune", "reset", "tick", "silent", "store"};
+    return effect == TAPE && kind == TICK ? "read" : names[kind];
+}
 
 /* The reverb: comb positions, left and right; stores, left and right; all-pass positions, left and right; predelay; rate. The
    phaser: last inputs, left and right; last outputs, left and right; phase; rate. */
 const char *const state_words[EFFECTS] = {
-    "", "wdfrcmf", "wpppr", "wpr", "wpr", "pr", "wwwwwwwwwwwwwwwwsssssssssssssssswwwwwwwwwr", "sssssssssssssssssssssssspr"};
+    "", "wdfrcml", "wpppr", "wpr", "wpr", "pr", "wwwwwwwwwwwwwwwwsssssssssssssssswwwwwwwwwr", "sssssssssssssssssssssssspr",
+    "wdfqkkkrc"};
 
 unsigned words_of(int effect)
 {
@@ -20,6 +27,26 @@ unsigned words_of(int effect)
 unsigned word_of(int effect, char letter)
 {
     return (unsigned)(strchr(state_words[effect], letter) - state_words[effect]);
+}
+
+int is_flag(int effect, unsigned word)
+{
+    return strchr("fql", state_words[effect][word]) != NULL;
+}
+
+int has_coefficient(int effect)
+{
+    return effect == DELAY || effect == TAPE;
+}
+
+int read_waits(int effect, const struct state *state)
+{
+    return effect == TAPE && state->word[word_of(TAPE, 'q')] != 0u;
+}
+
+int plays_samples(const struct call *c)
+{
+    return c->kind == TICK || c->kind == STORE;
 }
 
 /* 1: "sample rate NaN or outside 8,000 to 192,000"; a NaN compares as neither. */
@@ -41,7 +68,7 @@ double held_maximum(double maximum)
 }
 
 /* "the whole part of rate x maximum, plus 1 (delay), or of n x rate / 1000, plus 10 (n is 32 for chorus, 10 flanger, 20
-   vibrato)"; at a rate that is accepted. */
+   vibrato)"; of the tape delay "maximum 12 seconds"; at a rate that is accepted. */
 uint64_t line_length(int effect, double rate, double maximum)
 {
     switch (effect) {
@@ -53,6 +80,8 @@ uint64_t line_length(int effect, double rate, double maximum)
         return (uint64_t)(10.0 * rate / 1000.0) + 10u;
     case VIBRATO:
         return (uint64_t)(20.0 * rate / 1000.0) + 10u;
+    case TAPE:
+        return (uint64_t)(rate * 12.0) + 1u;
     default:
         return 0;
     }
@@ -62,14 +91,14 @@ uint64_t line_length(int effect, double rate, double maximum)
    retune and no lent lines; to the controller it is effect 7, with 0 places." */
 unsigned lines_of(int effect)
 {
-    static const unsigned lines[EFFECTS] = {0, 1, 1, 2, 1, 0, TANK_LINES, 0};
+    static const unsigned lines[EFFECTS] = {0, 1, 1, 2, 1, 0, TANK_LINES, 0, 1};
     return lines[effect];
 }
 
 /* "A refused rate or another effect number gives 2 to the power 64 minus 1." The maximum is one that is held. */
 uint64_t needed(int effect, double rate, double maximum)
 {
-    if (effect < DELAY || effect > PHASER || !rate_holds(rate)) {
+    if (effect < DELAY || effect > TAPE || !rate_holds(rate)) {
         return UINT64_MAX;
     }
     return effect == REVERB ? 87136u : lines_of(effect) * line_length(effect, rate, maximum);
@@ -89,24 +118,35 @@ static uint64_t length_at(int effect, const struct state *state, unsigned word)
 }
 
 /* "for the delay also coefficient as in 2, maximum 0.001 to 60, glide distance +0 while unprimed, else 1 to L - 1" */
-static int delay_passes(const struct state *state)
+static int glide_passes(int effect, const struct state *state)
 {
     const double distance = of_bits(state->word[1]);
-    const double rate = of_bits(state->word[3]);
-    const double maximum = of_bits(state->word[5]);
-    if (!coefficient_holds(of_bits(state->word[4])) || !(maximum >= 0.001 && maximum <= 60.0)) {
+    const double rate = of_bits(state->word[word_of(effect, 'r')]);
+    const double maximum = effect == DELAY ? of_bits(state->word[5]) : 12.0;
+    if (!coefficient_holds(of_bits(state->word[word_of(effect, 'c')])) || !(maximum >= 0.001 && maximum <= 60.0)) {
         return 0;
     }
     if (state->word[2] == 0u) {
         return same(distance, 0.0);
     }
-    return distance >= 1.0 && distance <= (double)(line_length(DELAY, rate, maximum) - 1u);
+    return distance >= 1.0 && distance <= (double)(line_length(effect, rate, maximum) - 1u);
+}
+
+/* "Number 4 also names a waiting mix that is NaN or outside 0 to 1, or a kept number not +0 while none waits." */
+static int kept_passes(const struct state *state)
+{
+    const uint64_t *kept = &state->word[word_of(TAPE, 'k')];
+    if (read_waits(TAPE, state)) {
+        return of_bits(kept[2]) >= 0.0 && of_bits(kept[2]) <= 1.0;
+    }
+    return same(of_bits(kept[0]), 0.0) && same(of_bits(kept[1]), 0.0) && same(of_bits(kept[2]), 0.0);
 }
 
 int state_passes(int effect, const struct state *state)
 {
     unsigned i;
-    if (!rate_holds(of_bits(state->word[word_of(effect, 'r')])) || (effect == DELAY && !delay_passes(state))) {
+    if (!rate_holds(of_bits(state->word[word_of(effect, 'r')])) || (has_coefficient(effect) && !glide_passes(effect, state)) ||
+        (effect == TAPE && !kept_passes(state))) {
         return 0;
     }
     for (i = 0; i < words_of(effect); i++) {
@@ -133,11 +173,18 @@ static int memory_holds(const struct call *c)
     return c->places >= needed(c->effect, rate, maximum);
 }
 
-/* 5: "a control read by this tick is set and NaN". The audio, port 0, is none; the delay's time is read in linear mode. */
+/* 7: "a store half with no read waiting, or a read half while one waits" */
+static int turn_holds(const struct call *c)
+{
+    return c->effect != TAPE || read_waits(TAPE, &c->state) == (c->kind == STORE);
+}
+
+/* 5: "a control read by this tick is set and NaN". The audio, port 0, is none; the delay's time is read in linear mode. A store
+   half has no ports. */
 static int controls_hold(const struct call *c)
 {
     unsigned i;
-    for (i = 1; i < ports_of(c->effect); i++) {
+    for (i = 1; c->kind == TICK && i < ports_of(c->effect); i++) {
         const int read = !(c->effect == DELAY && i == 1u && c->state.word[6] == 0u);
         if (read && (c->set >> i & 1u) != 0u && is_nan(c->ports[i])) {
             return 0;
@@ -147,10 +194,14 @@ static int controls_hold(const struct call *c)
 }
 
 /* 6: "curve number NaN, a sine outside -1 to 1, a frequency outside 0 to 32", and by document 02 "a coefficient outside -1 to
-   1". The delay's is milliseconds, for exponential mode alone; of the others the first is the frequency. */
+   1" and "a saturated value NaN or outside -1 to 1", which a store half alone has. The delay's is milliseconds, for exponential
+   mode alone; of the others the first is the frequency. */
 static int curves_hold(const struct call *c)
 {
     unsigned i;
+    if (c->effect == TAPE) {
+        return c->kind != STORE || (c->curves[0] >= -1.0 && c->curves[0] <= 1.0);
+    }
     if (c->effect == DELAY) {
         return c->state.word[6] != 0u || !is_nan(c->curves[0]);
     }
@@ -164,17 +215,19 @@ static int curves_hold(const struct call *c)
     return 1;
 }
 
-/* "Order: start 1, 2, 3; retune 4, 1, 2, 3; reset and silent 4, 3; tick 4, 3, 5, 6. The first that applies is given" */
+/* "Order: start 1, 2, 3; retune 4, 1, 2, 3; reset and silent 4, 3; tick 4, 3, 5, 6. The first that applies is given", and of 7
+   "it comes after 4 and before 3" */
 uint32_t number_for(const struct call *c)
 {
-    static const char *const orders[CALLS] = {"123", "4123", "43", "4356", "43"};
+    static const char *const orders[CALLS] = {"123", "4123", "43", "47356", "43", "47356"};
     const char *cause;
     for (cause = orders[c->kind]; *cause != '\0'; cause++) {
         const int holds = *cause == '1'   ? rate_holds(c->rate)
-                          : *cause == '2' ? c->effect != DELAY || coefficient_holds(c->coefficient)
+                          : *cause == '2' ? !has_coefficient(c->effect) || coefficient_holds(c->coefficient)
                           : *cause == '3' ? memory_holds(c)
                           : *cause == '4' ? state_passes(c->effect, &c->state)
                           : *cause == '5' ? controls_hold(c)
+                          : *cause == '7' ? turn_holds(c)
                                           : curves_hold(c);
         if (!holds) {
             return (uint32_t)(*cause - '0');

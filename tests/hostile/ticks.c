@@ -1,31 +1,32 @@
-/* Document 01, of the chorus's line, the phaser and the ages document 02: what an accepted tick answers, writes and leaves.
-   Products go from left to right, sums start at +0. */
+/* Document 01, of the chorus's line, the phaser, the ages and the tape delay document 02: what an accepted tick answers, writes
+   and leaves. Products go from left to right, sums start at +0. */
 #include "hostile.h"
 
 #include <math.h>
 
 unsigned samples_of(int effect)
 {
-    static const unsigned samples[EFFECTS] = {0, 1, 3, 3, 1, 1, 2, 3};
+    static const unsigned samples[EFFECTS] = {0, 1, 3, 3, 1, 1, 2, 3, 1};
     return samples[effect];
 }
 
 unsigned ports_of(int effect)
 {
-    static const unsigned ports[EFFECTS] = {0, 4, 3, 4, 3, 3, 5, 4};
+    static const unsigned ports[EFFECTS] = {0, 4, 3, 4, 3, 3, 5, 4, 4};
     return ports[effect];
 }
 
 unsigned curves_of(int effect)
 {
-    static const unsigned curves[EFFECTS] = {0, 1, 4, 3, 2, 2, 0, 3};
+    static const unsigned curves[EFFECTS] = {0, 1, 4, 3, 2, 2, 0, 3, 1};
     return curves[effect];
 }
 
-/* "Delay, chorus, flanger and vibrato pass on the largest age of their reads." */
+/* "Delay, chorus, flanger and vibrato pass on the largest age of their reads", and of the tape delay "a read half .. answers ..
+   the age". */
 int has_ages(int effect)
 {
-    return effect == DELAY || effect == CHORUS || effect == FLANGER || effect == VIBRATO;
+    return effect == DELAY || effect == CHORUS || effect == FLANGER || effect == VIBRATO || effect == TAPE;
 }
 
 double port(const struct call *c, unsigned which, double unset)
@@ -81,22 +82,79 @@ static void store(struct ticked *t, const struct call *c, unsigned line, uint64_
     t->state.word[0] = (c->state.word[0] + 1u) % length;
 }
 
-static void delay_tick(struct ticked *t, const struct call *c)
+/* Of a tick of either delay: the line's length, the audio under the input rule, what was read, the mix, and the audio plus what
+   was read times the feedback. */
+struct heard {
+    uint64_t length;
+    double audio, read, mix, sum;
+};
+
+static double linear_ms(const struct call *c, double maximum)
 {
-    const double rate = of_bits(c->state.word[3]);
-    const double maximum = of_bits(c->state.word[5]);
-    const uint64_t length = line_length(DELAY, rate, maximum);
-    const double audio = input_rule(port(c, 0, 0.0));
-    const double feedback = clamped(port(c, 2, 0.0), 0.0, 0.99);
-    const double ms = c->state.word[6] != 0u ? clamped(port(c, 1, 0.5), 0.0, maximum) * 1000.0 : c->curves[0];
+    return clamped(port(c, 1, 0.5), 0.0, maximum) * 1000.0;
+}
+
+/* Target, glide and read of both delays. The rate is this word of the state, and the coefficient is the next. */
+static struct heard read_delay(struct ticked *t, const struct call *c, unsigned rate_word, double maximum, double ms,
+                               double most_feedback)
+{
+    const double rate = of_bits(c->state.word[rate_word]);
+    const uint64_t length = line_length(c->effect, rate, maximum);
     const double target = clamped(ms * rate / 1000.0, 1.0, (double)(length - 1u));
-    const double glide = target + (of_bits(c->state.word[1]) - target) * of_bits(c->state.word[4]);
+    const double glide = target + (of_bits(c->state.word[1]) - target) * of_bits(c->state.word[rate_word + 1u]);
     const double distance = c->state.word[2] != 0u ? glide : target;
-    const double wet = read_line(t, c->memory, length, c->state.word[0], distance);
+    struct heard h = {length, input_rule(port(c, 0, 0.0)), 0.0, clamped(port(c, 3, 0.5), 0.0, 1.0), 0.0};
+    h.read = read_line(t, c->memory, length, c->state.word[0], distance);
+    h.sum = h.audio + h.read * clamped(port(c, 2, 0.0), 0.0, most_feedback);
     t->state.word[1] = bits(distance);
     t->state.word[2] = 1u;
-    store(t, c, 0, length, audio + wet * feedback);
-    t->out[0] = blended(audio, wet, clamped(port(c, 3, 0.5), 0.0, 1.0));
+    return h;
+}
+
+static void store_delay(struct ticked *t, const struct call *c, const struct heard *h, double value)
+{
+    store(t, c, 0, h->length, value);
+    t->out[0] = blended(h->audio, h->read, h->mix);
+}
+
+static void delay_tick(struct ticked *t, const struct call *c)
+{
+    const double maximum = of_bits(c->state.word[5]);
+    const double ms = c->state.word[6] != 0u ? linear_ms(c, maximum) : c->curves[0];
+    const struct heard h = read_delay(t, c, 3, maximum, ms, 0.99);
+    store_delay(t, c, &h, h.sum);
+}
+
+/* "a read half, which answers audio + read x feedback and the age": "feedback clamped to 0 to 1.5", "maximum 12 seconds, linear
+   time". "The read half checks the controls, moves the glide, writes no place, and keeps audio, read and mix in the state" */
+static void tape_read_half(struct ticked *t, const struct call *c)
+{
+    const struct heard h = read_delay(t, c, 7, 12.0, linear_ms(c, 12.0), 1.5);
+    t->state.word[3] = 1u;
+    t->state.word[4] = bits(h.audio);
+    t->state.word[5] = bits(h.read);
+    t->state.word[6] = bits(h.mix);
+    t->out[0] = h.sum;
+}
+
+/* "a store half, which receives tanh_sat of a fifth of that sum, drive 1, stores five times it, advances and answers the
+   output" */
+static void tape_store_half(struct ticked *t, const struct call *c)
+{
+    const uint64_t *kept = &c->state.word[4];
+    const struct heard h = {line_length(TAPE, of_bits(c->state.word[7]), 12.0), of_bits(kept[0]), of_bits(kept[1]),
+                            of_bits(kept[2]), 0.0};
+    store_delay(t, c, &h, c->curves[0] * 5.0);
+    t->state.word[3] = t->state.word[4] = t->state.word[5] = t->state.word[6] = 0u;
+}
+
+static void tape_half(struct ticked *t, const struct call *c)
+{
+    if (c->kind == STORE) {
+        tape_store_half(t, c);
+    } else {
+        tape_read_half(t, c);
+    }
 }
 
 /* Three voices read the one line; then the audio is stored in it. */
@@ -191,7 +249,7 @@ static void phaser_tick(struct ticked *t, const struct call *c)
 struct ticked tick_by_the_paper(const struct call *c)
 {
     static void (*const ticks[EFFECTS])(struct ticked *, const struct call *) = {
-        0, delay_tick, chorus_tick, flanger_tick, vibrato_tick, tremolo_tick, 0, phaser_tick};
+        0, delay_tick, chorus_tick, flanger_tick, vibrato_tick, tremolo_tick, 0, phaser_tick, tape_half};
     struct ticked t;
     if (c->effect == REVERB) {
         return reverb_tick_by_the_paper(c);

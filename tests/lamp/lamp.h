@@ -1,6 +1,7 @@
 /*
  * The lamp: a silent unit of any effect, given zero audio and accepted controls, answers only zeros, of either sign, and is
- * silent after the tick. What the files of this driver share.
+ * silent after the tick. A tape delay's tick is two halves, the second handed a zero of either sign; in the middle of it the
+ * unit is not silent. What the files of this driver share.
  *
  * Calls are made in the form of tests/c/effects.h, numbers drawn from the stream of tests/hostile/random.h.
  */
@@ -21,7 +22,8 @@ struct unit {
     uint32_t linear;
 };
 
-/* No unit is lent more: the longest line that is drawn is a delay's of 2 s at 192,000, 384,001 places. */
+/* No unit is lent more: the longest lines that are drawn are a delay's of 2 s at 192,000 and a tape delay's at 32,000, 384,001
+   places. */
 #define LENT 384200u
 
 /* How a unit was made silent. */
@@ -45,17 +47,28 @@ enum audio { UNSET, PLUS_ZERO, MINUS_ZERO, NO_NUMBER, INFINITE, MINUS_INFINITE, 
 unsigned zero_audios(int effect); /* how many of these are zero audio: all under the input rule, else three */
 struct effect_call draw_tick(const struct unit *u, enum audio audio);
 struct effect_call draw_sounding_tick(const struct unit *u);
+struct effect_call draw_store(const struct unit *u); /* a store half, handed a zero */
 uint32_t draw_refused(const struct unit *u, struct effect_call *c, struct effect_state *state); /* the number */
 
 /* tally.c: the facts, how often each was seen of each effect, and what was reached. */
-enum fact { MADE_SILENT, ACCEPTED, ANSWERS_ZEROS, STAYS_SILENT, CLEARS, REFUSED, HOLDS_ZEROS, SOUNDS, FACTS };
+enum fact { MADE_SILENT, ACCEPTED, ANSWERS_ZEROS, STAYS_SILENT, CLEARS, REFUSED, HOLDS_ZEROS, SOUNDS, WAITS, FACTS };
 int fact(const struct unit *u, enum fact which, int holds, const struct effect_call *c); /* whether it holds */
 unsigned facts_broken(void);
-void count_tick(const struct unit *u, enum way way, enum audio audio, const double *out);
+void count_tick(const struct unit *u, enum way way, enum audio audio);
+void count_samples(const struct unit *u, const double *out);
 void count_refusal(int effect, uint32_t number);
 void check_tally(void); /* prints the table and makes a test of each of its cells */
 
 /* not_silent.c: units that are not silent, and audio that is no zero. */
 void not_silent(void);
+#define NEVER 100000u
+unsigned first_sound(struct unit *u, const struct effect_call *c, unsigned ticks, double out[3]);
+struct effect_call plain_tick(const struct unit *u);
+
+/* tape.c: the tape delay. A whole tick of it is both halves, with what the header's formula makes of the sum. */
+int waits(const struct unit *u); /* whether a read of the unit waits */
+void hand_tape(const struct unit *u, room_tape_delay *s, uint64_t position);
+uint32_t whole_tick(struct unit *u, const struct effect_call *c, double out[3], uint32_t *age); /* of any effect */
+void tape_not_silent(void);
 
 #endif

@@ -2,9 +2,10 @@
  * lamp TICKS SEED: so many ticks with zero audio, of units of every effect that were made silent, and the cases in which a unit
  * is not silent.
  *
- * Units come one after another, each with a list of calls: ticks, and between them calls that are refused, resets and retunes.
- * After each the unit is asked whether it is silent. The last line is `N passed, M failed`, counted in facts of each effect, in
- * what each effect must have come to, and in the cases of not_silent.c.
+ * Units come one after another, each with a list of calls: ticks, and between them calls that are refused, resets and retunes,
+ * of the tape delay also in the middle of a tick. After each the unit is asked whether it is silent. The last line is
+ * `N passed, M failed`, counted in facts of each effect, in what each effect must have come to, and in the cases of
+ * not_silent.c and tape.c.
  */
 #include "lamp.h"
 
@@ -18,23 +19,19 @@
 static double kept[LENT];
 static uint64_t ticks_made;
 
-/* One tick with zero audio. */
-static int tick(struct unit *u, enum way way)
+/* A tick, or a half of one. */
+static int answers_zeros(struct unit *u, const struct effect_call *c)
 {
-    const enum audio audio = (enum audio)below(zero_audios(u->effect));
-    const struct effect_call c = draw_tick(u, audio);
     double out[3] = {JUNK, JUNK, JUNK};
     uint32_t age = JUNK_AGE;
-    const uint32_t number = effect_make(&u->state, &c, out, &age);
+    const uint32_t number = effect_make(&u->state, c, out, &age);
     unsigned i;
     int zeros = 1;
-    ticks_made++;
     for (i = 0; i < effect_samples(u->effect); i++) {
         zeros = zeros && is_zero(out[i]);
     }
-    count_tick(u, way, audio, out);
-    return fact(u, ACCEPTED, number == ROOM_ACCEPTED, &c) && fact(u, ANSWERS_ZEROS, zeros, &c) &&
-           fact(u, STAYS_SILENT, silent(u) == 1, &c);
+    count_samples(u, out);
+    return fact(u, ACCEPTED, number == ROOM_ACCEPTED, c) && fact(u, ANSWERS_ZEROS, zeros, c);
 }
 
 /* A reset or a retune in between. The host may then lay other zeros into the places in use, and sounds into spare ones. */
@@ -66,7 +63,7 @@ static int refused(const struct unit *u)
     double out[3] = {JUNK, JUNK, JUNK};
     uint32_t age = JUNK_AGE;
     const uint32_t number = draw_refused(u, &c, &state);
-    const unsigned answers = c.call == TICK ? effect_samples(u->effect) : c.call == SILENT ? 1u : 0u;
+    const unsigned answers = effect_answers(u->effect, c.call);
     const double none[3] = {0.0, 0.0, 0.0};
     int good;
     memcpy(&before, &state, sizeof before);
@@ -75,7 +72,27 @@ static int refused(const struct unit *u)
            (c.call != TICK || !effect_aged(u->effect) || age == 0u) &&
            memcmp(&state, &before, sizeof state) == 0 && memcmp(kept, u->lent, u->places * sizeof *kept) == 0;
     count_refusal(u->effect, number);
-    return fact(u, REFUSED, good && silent(u) == 1, &c);
+    return fact(u, REFUSED, good && silent(u) == !waits(u), &c);
+}
+
+/* While a read waits: its store half, or a clearing that drops it, and before it perhaps a call that is refused. */
+static int end_tick(struct unit *u)
+{
+    const struct effect_call c = draw_store(u);
+    if (!fact(u, WAITS, silent(u) == 0, NULL) || (one_in(12) && !refused(u))) {
+        return 0;
+    }
+    return one_in(30) ? clear(u) : answers_zeros(u, &c);
+}
+
+/* One tick with zero audio. */
+static int tick(struct unit *u, enum way way)
+{
+    const enum audio audio = (enum audio)below(zero_audios(u->effect));
+    const struct effect_call c = draw_tick(u, audio);
+    ticks_made++;
+    count_tick(u, way, audio);
+    return answers_zeros(u, &c) && (!waits(u) || end_tick(u)) && fact(u, STAYS_SILENT, silent(u) == 1, &c);
 }
 
 /* The other side, at the end of a list: one place in use or store that is no zero, and the unit is not silent. */
@@ -89,12 +106,19 @@ static void sound(struct unit *u)
 }
 
 /* One unit's list. It ends early where a fact is broken: the unit may sound from then on. Long lists, in which a line is gone
-   round more than once, are rarer for the reverb, whose question takes longest. */
+   round more than once, are rarer for the reverb, whose question takes long, and the tape delay's lists are short: its question
+   takes longest. */
 static void list(int effect, enum way way)
 {
-    uint64_t ticks = one_in(effect == ROOM_REVERB ? 12 : 4) ? below(1500) : below(150);
+    const uint64_t most = effect == ROOM_TAPE_DELAY ? 80u : one_in(effect == ROOM_REVERB ? 12 : 4) ? 1500u : 150u;
+    uint64_t ticks = below(most);
     struct unit u;
-    int good = fact(&u, MADE_SILENT, make_silent(&u, effect, way) && silent(&u) == 1, NULL);
+    int good = make_silent(&u, effect, way);
+    const int in_a_tick = way == HANDED_IN && waits(&u); /* it is silent after that */
+    good = fact(&u, MADE_SILENT, good && silent(&u) == !in_a_tick, NULL);
+    if (good && in_a_tick) {
+        good = end_tick(&u) && fact(&u, STAYS_SILENT, silent(&u) == 1, NULL);
+    }
     for (; good && ticks > 0u; ticks--) {
         good = tick(&u, way);
         if (good && one_in(12)) {
@@ -122,6 +146,7 @@ int main(int argc, char **argv)
     seed_random(seed);
     now_testing("not silent");
     not_silent();
+    tape_not_silent();
     now_testing("silent");
     for (i = 0; ticks_made < ticks && facts_broken() < ENOUGH; i++) {
         const int effect = (int)(i % (EFFECTS_END - 1u)) + 1;

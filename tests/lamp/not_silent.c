@@ -2,15 +2,13 @@
    started in which one number is changed by hand. */
 #include "lamp.h"
 
-#define NEVER 100000u
-
 /* The first tick, counted from 0, that answers anything but zeros, and its samples; NEVER if none of so many does. */
-static unsigned first_sound(struct unit *u, const struct effect_call *c, unsigned ticks, double out[3])
+unsigned first_sound(struct unit *u, const struct effect_call *c, unsigned ticks, double out[3])
 {
     uint32_t age = JUNK_AGE;
     unsigned n, i;
     for (n = 0; n < ticks; n++) {
-        if (effect_make(&u->state, c, out, &age) != ROOM_ACCEPTED) {
+        if (whole_tick(u, c, out, &age) != ROOM_ACCEPTED) {
             check(0, "a tick was refused", n);
             return NEVER;
         }
@@ -24,7 +22,7 @@ static unsigned first_sound(struct unit *u, const struct effect_call *c, unsigne
 }
 
 /* A tick of +0, its controls unset. */
-static struct effect_call plain_tick(const struct unit *u)
+struct effect_call plain_tick(const struct unit *u)
 {
     struct effect_call c = call_of(u, TICK);
     unsigned i;
@@ -145,7 +143,7 @@ static void no_input_rule(int effect)
     }
 }
 
-/* The smallest sound is no zero. */
+/* The smallest sound is no zero. (A tape delay's host may make one of it: tape.c.) */
 static void smallest_audio(int effect, double audio)
 {
     struct unit u = unit_at(effect, 8000.0, 0.0625);
@@ -178,7 +176,7 @@ void not_silent(void)
     }
     no_input_rule(ROOM_VIBRATO);
     no_input_rule(ROOM_TREMOLO);
-    for (effect = ROOM_DELAY; effect < EFFECTS_END; effect++) {
+    for (effect = ROOM_DELAY; effect < ROOM_TAPE_DELAY; effect++) {
         smallest_audio(effect, 0x1p-1074);
         smallest_audio(effect, -0x1p-1074);
     }

@@ -6,8 +6,8 @@
 /* So many of what went wrong are shown. */
 #define SHOWN 20u
 
-static const char *const effect_names[EFFECTS_END] = {"",        "delay",   "chorus", "flanger",
-                                                      "vibrato", "tremolo", "reverb", "phaser"};
+static const char *const effect_names[EFFECTS_END] = {"",        "delay",  "chorus", "flanger", "vibrato",
+                                                      "tremolo", "reverb", "phaser", "tape"};
 static const char *const fact_names[FACTS] = {
     "a unit that was made silent says so",
     "a tick with accepted controls is accepted",
@@ -17,11 +17,12 @@ static const char *const fact_names[FACTS] = {
     "a refused call gives its number, plays +0 at age 0, changes nothing and leaves the unit silent",
     "at the end places in use and stores hold zeros",
     "with a sound in one of them the unit is not silent",
+    "while a read waits the unit is not silent",
 };
 
 static struct {
     uint64_t held[FACTS], broken[FACTS];
-    uint64_t by_way[WAYS], by_audio[AUDIOS], by_sign[2], by_number[7];
+    uint64_t by_way[WAYS], by_audio[AUDIOS], by_sign[2], by_number[8];
 } tally[EFFECTS_END];
 static unsigned broken;
 
@@ -56,11 +57,15 @@ unsigned facts_broken(void)
     return broken;
 }
 
-void count_tick(const struct unit *u, enum way way, enum audio audio, const double *out)
+void count_tick(const struct unit *u, enum way way, enum audio audio)
 {
-    unsigned i;
     tally[u->effect].by_way[way]++;
     tally[u->effect].by_audio[audio]++;
+}
+
+void count_samples(const struct unit *u, const double *out)
+{
+    unsigned i;
     for (i = 0; i < effect_samples(u->effect); i++) {
         tally[u->effect].by_sign[0] += same(out[i], 0.0) != 0;
         tally[u->effect].by_sign[1] += same(out[i], -0.0) != 0;
@@ -91,10 +96,11 @@ static void print_tables(void)
         print_counts("", tally[effect].by_audio, AUDIOS);
         puts("");
     }
-    printf("samples   %9s %9s   refused %2s %9s %9s %9s %9s %9s\n", "+0", "-0", "by 1", "by 2", "by 3", "by 4", "by 5", "by 6");
+    printf("samples   %9s %9s   refused %2s %9s %9s %9s %9s %9s %9s\n", "+0", "-0", "by 1", "by 2", "by 3", "by 4", "by 5",
+           "by 6", "by 7");
     for (effect = ROOM_DELAY; effect < EFFECTS_END; effect++) {
         print_counts(effect_names[effect], tally[effect].by_sign, 2);
-        print_counts("", tally[effect].by_number + 1, 6);
+        print_counts("", tally[effect].by_number + 1, 7);
         puts("");
     }
 }
@@ -105,7 +111,7 @@ static void check_effect(int effect)
     const unsigned e = (unsigned)effect;
     unsigned i;
     for (i = 0; i < FACTS; i++) {
-        const int has = i != SOUNDS || effect != ROOM_TREMOLO;
+        const int has = i == WAITS ? effect == ROOM_TAPE_DELAY : i != SOUNDS || effect != ROOM_TREMOLO;
         check((tally[e].held[i] > 0u) == has && tally[e].broken[i] == 0u, fact_names[i], e);
     }
     for (i = 0; i < WAYS; i++) {
@@ -116,8 +122,9 @@ static void check_effect(int effect)
     }
     check(tally[e].by_sign[0] > 0u, "samples of +0", e);
     check(tally[e].by_sign[1] > 0u, "samples of -0", e);
-    for (i = 1; i <= 6u; i++) {
-        const int can = effect_can_refuse(effect, i) && (i != 1u || effect_has(effect, RETUNE));
+    for (i = 1; i <= 7u; i++) {
+        const int can = effect_can_refuse(effect, i) && (i != 1u || effect_has(effect, RETUNE)) &&
+                        (i != 7u || effect == ROOM_TAPE_DELAY);
         check((tally[e].by_number[i] > 0u) == can, "calls refused by each number", 10u * e + i);
     }
 }

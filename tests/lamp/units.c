@@ -10,9 +10,15 @@ int is_zero(double x)
     return same(x, 0.0) || same(x, -0.0);
 }
 
+/* A tape delay's line is long at every rate. */
 double any_rate(int effect)
 {
-    return effect == ROOM_REVERB || one_in(2) ? tunings[below(TUNINGS)].rate : good_rate();
+    const double most = effect != ROOM_TAPE_DELAY ? 192000.0 : one_in(20) ? 32000.0 : 12300.0;
+    double rate;
+    do {
+        rate = effect == ROOM_REVERB || one_in(2) ? tunings[below(TUNINGS)].rate : good_rate();
+    } while (rate > most);
+    return rate;
 }
 
 uint64_t needed(const struct unit *u, double rate)
@@ -242,6 +248,9 @@ static void hand_state(struct unit *u)
     case ROOM_REVERB:
         hand_reverb(u, &s->reverb);
         break;
+    case ROOM_TAPE_DELAY:
+        hand_tape(u, &s->tape_delay, any_position(needed(u, u->rate)));
+        break;
     default:
         hand_phaser(u, &s->phaser);
     }
@@ -271,13 +280,17 @@ struct unit unit_at(int effect, double rate, double maximum)
     return u;
 }
 
-/* Something to clear: after it the unit is not silent, but for the tremolo. */
+/* Something to clear: after it the unit is not silent, but for the tremolo. A tape delay may be in the middle of a tick. */
 static int sounds_after_ticks(struct unit *u)
 {
     uint64_t ticks = 1u + below(60);
     uint32_t refused = 0, age;
     double out[3];
     for (; ticks > 0u; ticks--) {
+        const struct effect_call c = draw_sounding_tick(u);
+        refused |= whole_tick(u, &c, out, &age);
+    }
+    if (u->effect == ROOM_TAPE_DELAY && one_in(2)) {
         const struct effect_call c = draw_sounding_tick(u);
         refused |= effect_make(&u->state, &c, out, &age);
     }

@@ -21,6 +21,10 @@ REAL(tremolo_tick);
 REAL(reverb_tick);
 REAL(reverb_silent);
 REAL(phaser_silent);
+REAL(tape_delay_reset);
+REAL(tape_delay_read_half);
+REAL(tape_delay_store_half);
+REAL(tape_delay_silent);
 
 static int broken(int way)
 {
@@ -186,6 +190,74 @@ uint32_t __wrap_room_raw_reverb_tick(uint64_t *comb_l, uint64_t *comb_r, double 
     }
     if (broken(16) && number == 0u) {
         store_r[7] = 0x1p-1074;
+    }
+    return number;
+}
+
+/* 18: the question reads the line alone, and not whether a read waits. */
+uint32_t __wrap_room_raw_tape_delay_silent(uint64_t pos, double distance, uint32_t primed, uint32_t waiting, double kept_audio,
+                                           double kept_read, double kept_mix, double rate, double coefficient,
+                                           const double *memory, uint64_t places, uint32_t *out)
+{
+    const int fits = kept_mix >= 0.0 && kept_mix <= 1.0;
+    if (broken(18) && waiting != 0u && fits) {
+        return __real_room_raw_tape_delay_silent(pos, distance, primed, 0, 0.0, 0.0, 0.0, rate, coefficient, memory, places,
+                                                 out);
+    }
+    return __real_room_raw_tape_delay_silent(pos, distance, primed, waiting, kept_audio, kept_read, kept_mix, rate, coefficient,
+                                             memory, places, out);
+}
+
+/* 19: a reset leaves a read waiting. */
+uint32_t __wrap_room_raw_tape_delay_reset(double *memory, uint64_t places, uint64_t *pos, double *distance, uint32_t *primed,
+                                          uint32_t *waiting, double *kept_audio, double *kept_read, double *kept_mix,
+                                          double rate, double coefficient)
+{
+    const uint32_t before = *waiting;
+    const uint32_t number = __real_room_raw_tape_delay_reset(memory, places, pos, distance, primed, waiting, kept_audio,
+                                                             kept_read, kept_mix, rate, coefficient);
+    *waiting = broken(19) && number == 0u ? before : *waiting;
+    return number;
+}
+
+/* 20: no input rule. 21: what was read is kept as a sound. */
+uint32_t __wrap_room_raw_tape_delay_read_half(uint64_t pos, double *distance, uint32_t *primed, uint32_t *waiting,
+                                              double *kept_audio, double *kept_read, double *kept_mix, double rate,
+                                              double coefficient, const double *memory, uint64_t places, uint32_t set,
+                                              double audio, double time, double feedback, double mix, double *sum,
+                                              uint32_t *age)
+{
+    const uint32_t number = __real_room_raw_tape_delay_read_half(pos, distance, primed, waiting, kept_audio, kept_read,
+                                                                 kept_mix, rate, coefficient, memory, places, set, audio, time,
+                                                                 feedback, mix, sum, age);
+    if (broken(20) && number == 0u && (set & 1u) != 0u && !isfinite(audio)) {
+        *sum = audio;
+    }
+    if (broken(21) && number == 0u) {
+        *kept_read = 0x1p-1074;
+    }
+    return number;
+}
+
+/* 22: a store half that is refused drops the read. 23: the mix that was kept stays. 24: -0 is stored as the smallest sound. */
+uint32_t __wrap_room_raw_tape_delay_store_half(uint64_t *pos, double distance, uint32_t primed, uint32_t *waiting,
+                                               double *kept_audio, double *kept_read, double *kept_mix, double rate,
+                                               double coefficient, double *memory, uint64_t places, double saturated,
+                                               double *out)
+{
+    const uint64_t at = *pos;
+    const double mix = *kept_mix;
+    const uint32_t number = __real_room_raw_tape_delay_store_half(pos, distance, primed, waiting, kept_audio, kept_read,
+                                                                  kept_mix, rate, coefficient, memory, places, saturated, out);
+    if (broken(22) && number == 6u) {
+        *waiting = 0;
+        *kept_audio = *kept_read = *kept_mix = 0.0;
+    }
+    if (broken(23) && number == 0u) {
+        *kept_mix = mix;
+    }
+    if (broken(24) && number == 0u && saturated == 0.0 && signbit(saturated)) {
+        memory[at] = 0x1p-1074;
     }
     return number;
 }
