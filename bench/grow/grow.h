@@ -9,10 +9,11 @@ struct unit {
     const char *name;
     int effect;
     double rate, maximum;
-    int swept; /* of a delay: whether its time goes up and down over half its line */
+    int swept; /* of either delay: whether its time goes up and down over half its line */
     uint64_t places, in_use;
     double *lent;
     room_delay delay;
+    room_tape_delay tape;
     room_chorus chorus;
     room_flanger flanger;
     room_vibrato vibrato;

@@ -1,6 +1,8 @@
 /*
  * How costs grow with the length of the lines: ns for each tick, and ns for each place of a reset beside memset and of a silent
- * beside a plain loop that stops at the first place that sounds. "swept" is the delay with a time that never stands still.
+ * beside a plain loop that stops at the first place that sounds. "swept" is the delay above it, the ordinary one or the tape's,
+ * with a time that never stands still. A tick of the tape delay is a pair of halves; between them a clamp stands for the host's
+ * saturation, whose tanh is no cost of ours.
  *
  * Rounds go through the lengths of an effect in turn, so that a machine that slows down slows all of them. The lowest round is
  * what the code can do; the median, in brackets, says how noisy the machine was. A question is asked of a silent unit, so that
@@ -31,6 +33,8 @@ static const struct {
     {"flanger", ROOM_FLANGER, 3, {{8000, 0}, {48000, 0}, {192000, 0}}},
     {"delay", ROOM_DELAY, 6, {{8000, 0.001}, {48000, 0.1}, {48000, 2}, {192000, 2}, {48000, 60}, {192000, 60}}},
     {"swept", ROOM_DELAY, 6, {{8000, 0.001}, {48000, 0.1}, {48000, 2}, {192000, 2}, {48000, 60}, {192000, 60}}},
+    {"tape", ROOM_TAPE_DELAY, 3, {{8000, 12}, {48000, 12}, {192000, 12}}},
+    {"swept", ROOM_TAPE_DELAY, 3, {{8000, 12}, {48000, 12}, {192000, 12}}},
     {"reverb",
      ROOM_REVERB,
      11,
@@ -143,7 +147,7 @@ static void time_row(unsigned row)
     }
     for (i = 0; i < count; i++) {
         printf("%-8s %6.0f", units[i].name, units[i].rate);
-        if (units[i].effect == ROOM_DELAY) {
+        if (units[i].maximum > 0) {
             printf(" %6.3f s", units[i].maximum);
         } else {
             printf("%9s", "");

@@ -2,7 +2,7 @@
 
 use crate::inputs::Input;
 use crate::lines::Lined;
-use libm::timing::first_sine_next;
+use libm::timing::first_number_next;
 use quiver_oracle::chorus::Unit;
 use room_effects::MOST_PORTS;
 
@@ -18,7 +18,7 @@ extern "C" fn quiver_chorus_tick(
     mix: f64,
     out: &mut [f64; 3],
 ) {
-    first_sine_next();
+    first_number_next();
     *out = unit.tick_plain([audio, depth, mix]);
 }
 

@@ -2,7 +2,7 @@
 
 use crate::inputs::Input;
 use crate::lines::Lined;
-use libm::timing::first_sine_next;
+use libm::timing::first_number_next;
 use quiver_oracle::flanger::Unit;
 use quiver_oracle::Mapped as _;
 use room_effects::MOST_PORTS;
@@ -20,7 +20,7 @@ extern "C" fn quiver_flanger_tick(
     mix: f64,
     out: &mut [f64; 3],
 ) {
-    first_sine_next();
+    first_number_next();
     *out = unit.tick_mapped([audio, depth, feedback, mix]);
 }
 
@@ -34,7 +34,7 @@ extern "C" fn quiver_flanger_plain_tick(
     mix: f64,
     out: &mut [f64; 3],
 ) {
-    first_sine_next();
+    first_number_next();
     *out = unit.tick_plain([audio, depth, feedback, mix]);
 }
 

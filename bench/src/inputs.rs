@@ -1,6 +1,6 @@
 //! What the ticks get: numbers of every-day use that move from tick to tick. Few enough to stay in the cache.
 
-use libm::timing::set_sines;
+use libm::timing::set_numbers;
 use quiver_oracle::Effect;
 use room_effects::{Tick, MOST, MOST_PORTS};
 
@@ -19,7 +19,7 @@ impl Input {
     #[inline(always)]
     pub fn hand<const SINES: usize>(&self, rust: &mut impl Effect) {
         rust.plant_frequency(self.frequency);
-        set_sines::<SINES>(std::array::from_fn(|i| self.curves[i]));
+        set_numbers::<SINES>(std::array::from_fn(|i| self.curves[i]));
     }
 
     /// The arguments of our tick, every port set.

@@ -17,7 +17,8 @@
 //!   of libm takes each by one load. "Rust, curves still" is the Rust without these stores, its curve numbers the same in every
 //!   tick: what they cost it. What is left on the Rust's side is the memo's own test, which is part of its tick. Of the delay the
 //!   curve number is the milliseconds, and its time port is the memo's key; in linear mode there is none, and in the reverb. Of the
-//!   phaser it is the coefficient, for both sides the same: phaser.rs says why.
+//!   phaser it is the coefficient, for both sides the same: phaser.rs says why. Of the tape delay it is the saturated value, and a
+//!   pair of halves stands beside one tick: tape_delay.rs says how.
 //! - Audio, controls, frequencies and sines move from tick to tick; the state is fed back, the lines too; the samples are summed
 //!   up, and both sides must come to the same sum.
 //! - Rounds are interleaved, so that a machine that slows down slows both. The lowest is what the code can do; the median says
@@ -31,6 +32,7 @@ mod inputs;
 mod lines;
 mod phaser;
 mod reverb;
+mod tape_delay;
 mod tremolo;
 mod unlined;
 mod vibrato;
@@ -43,6 +45,7 @@ use lines::Row;
 use reverb::Reverb;
 use std::hint::black_box;
 use std::time::Instant;
+use tape_delay::TapeDelay;
 use vibrato::Vibrato;
 
 type Tremolo = unlined::Row<tremolo::Tremolo, { room_effects::tremolo::STORES }, 1>;
@@ -81,7 +84,7 @@ const fn asked<E: Effect<N>, const N: usize>() -> Asked {
     }
 }
 
-const EFFECTS: [Asked; 10] = [
+const EFFECTS: [Asked; 11] = [
     asked::<Tremolo, 1>(),
     asked::<Row<Vibrato, 1>, 1>(),
     asked::<Row<Chorus, 3>, 3>(),
@@ -89,6 +92,7 @@ const EFFECTS: [Asked; 10] = [
     asked::<Row<Flanger<true>, 3>, 3>(),
     asked::<Delay<false>, 1>(),
     asked::<Delay<true>, 1>(),
+    asked::<TapeDelay, 1>(),
     asked::<Reverb, 2>(),
     asked::<Phaser<false>, 3>(),
     asked::<Phaser<true>, 3>(),

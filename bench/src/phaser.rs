@@ -6,7 +6,7 @@
 
 use crate::inputs::Input;
 use crate::unlined::Unlined;
-use libm::timing::{first_sine_next, set_sines};
+use libm::timing::{first_number_next, set_numbers};
 use quiver_oracle::phaser::{Unit, LOW};
 use quiver_oracle::{Effect as _, Mapped as _};
 use room_effects::phaser::STORES;
@@ -25,7 +25,7 @@ extern "C" fn quiver_phaser_tick(
     stages: f64,
     out: &mut [f64; 3],
 ) {
-    first_sine_next();
+    first_number_next();
     *out = unit.tick_mapped([audio, feedback, mix, stages]);
 }
 
@@ -39,7 +39,7 @@ extern "C" fn quiver_phaser_plain_tick(
     stages: f64,
     out: &mut [f64; 3],
 ) {
-    first_sine_next();
+    first_number_next();
     *out = unit.tick_plain([audio, feedback, mix, stages]);
 }
 
@@ -52,7 +52,7 @@ impl<const PLAIN: bool> Unlined<STORES, 3> for Phaser<PLAIN> {
     fn hand(unit: &mut Unit, input: &Input) {
         unit.plant_frequency(input.frequency);
         unit.plant_coefficient(input.curves[0]);
-        set_sines([LOW; 2]);
+        set_numbers([LOW; 2]);
     }
 
     #[inline(always)]

@@ -2,7 +2,7 @@
 
 use crate::inputs::Input;
 use crate::unlined::Unlined;
-use libm::timing::first_sine_next;
+use libm::timing::first_number_next;
 use quiver_oracle::tremolo::Unit;
 use room_effects::tremolo::STORES;
 use room_effects::MOST_PORTS;
@@ -13,7 +13,7 @@ pub struct Tremolo;
 #[no_mangle]
 #[inline(never)]
 extern "C" fn quiver_tremolo_tick(unit: &mut Unit, audio: f64, depth: f64, shape: f64) -> f64 {
-    first_sine_next();
+    first_number_next();
     let [out] = unit.tick_plain([audio, depth, shape]);
     out
 }

@@ -2,7 +2,7 @@
 
 use crate::inputs::Input;
 use crate::lines::Lined;
-use libm::timing::first_sine_next;
+use libm::timing::first_number_next;
 use quiver_oracle::vibrato::Unit;
 use room_effects::MOST_PORTS;
 
@@ -12,7 +12,7 @@ pub struct Vibrato;
 #[no_mangle]
 #[inline(never)]
 extern "C" fn quiver_vibrato_tick(unit: &mut Unit, audio: f64, depth: f64, mix: f64) -> f64 {
-    first_sine_next();
+    first_number_next();
     let [out] = unit.tick_plain([audio, depth, mix]);
     out
 }

@@ -1,9 +1,9 @@
 -- How a file of stored answers lies: a start, and then records. Definitions only. Assumes nothing.
 use Rattle.std.specs.Prelude.{ℕ, ◌-◌, ◌/◌, List, length}
 use Rattle.replay.specs.declared.units.Effect.{Effect}
-use Rattle.replay.specs.declared.units.Effect.TheVariants.{Tremolo, Vibrato, Chorus, Flanger, Delay, Reverb, Phaser}
+use Rattle.replay.specs.declared.units.Effect.TheVariants.{Tremolo, Vibrato, Chorus, Flanger, Delay, Reverb, Phaser, Tape}
 
--- the bytes of the start: of a delay six words, of a tremolo none
+-- the bytes of the start: of a delay six words, of a tape delay five, of a tremolo none
 abbrev pub start_size : Effect → ℕ
 start_size Tremolo = 0
 start_size Vibrato = 24
@@ -12,6 +12,7 @@ start_size Flanger = 24
 start_size Delay = 48
 start_size Reverb = 24
 start_size Phaser = 24
+start_size Tape = 40
 
 -- the bytes of a record
 abbrev pub record_size : Effect → ℕ
@@ -22,6 +23,7 @@ record_size Flanger = 120
 record_size Delay = 96
 record_size Reverb = 128
 record_size Phaser = 104
+record_size Tape = 104
 
 -- how many whole records a file has
 abbrev pub record_count : Effect → List ℕ → ℕ

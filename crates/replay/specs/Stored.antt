@@ -1,11 +1,13 @@
 -- What a call has to answer, and a unit to be after it, to be what a record says. Definitions only. Assumes nothing.
-use Rattle.std.specs.Prelude.{ℕ, ◌≡◌, ◌+◌, ◌/◌, ◌%◌, ◌==◌, ⊤, cond, List, [], ◌∷◌, ◌++◌, get_or, Float}
-use Rattle.std.specs.Float.{nan}
+use Rattle.std.specs.Prelude.{ℕ, ◌≡◌, false, ◌+◌, ◌/◌, ◌%◌, ◌==◌, ⊤, cond, List, [], ◌∷◌, ◌++◌, get_or, Float}
+use Rattle.std.specs.Float.{nan, float_zero}
 use Rattle.port.specs.Answer.{Reply, reply_number, reply_sample, reply_age}
+use Rattle.delay_line.specs.declared.halves.Kept.{Kept}
 use Rattle.phaser.specs.declared.Phaser as phaser
 use Rattle.reverb.specs.declared.Reverb as reverb
+use Rattle.tape_delay.specs.declared.TapeDelay as tape
 use Rattle.replay.specs.declared.units.Unit.{Unit}
-use Rattle.replay.specs.declared.units.Unit.TheVariants.{Tremolo, Vibrato, Chorus, Flanger, Delay, Reverb, Phaser}
+use Rattle.replay.specs.declared.units.Unit.TheVariants.{Tremolo, Vibrato, Chorus, Flanger, Delay, Reverb, Phaser, Tape}
 use Rattle.replay.specs.Words.{word_of, float_at, AreHeld}
 
 -- accepted, with the float of word i as the first sample
@@ -47,6 +49,16 @@ phaser_looked code p =
 abbrev pub IsPhaserStored : phaser.Phaser → List ℕ → Type 0
 IsPhaserStored p b = (p.lfo_phase ≡ float_at b 12) × AreHeld (phaser_looked (word_of b 0) p) b
 
+-- as while no read waits: three zeros with their sign
+abbrev pub IsNoneKept : Kept → Type 0
+IsNoneKept k = (k.audio ≡ float_zero) × (k.read ≡ float_zero) × (k.mix ≡ float_zero)
+
+-- the tape delay's position and glide are those that a record says of the state after it, and no read waits
+abbrev pub IsTapeStored : tape.TapeDelay → List ℕ → Type 0
+IsTapeStored t b =
+    (t.write_pos ≡ word_of b 9) × (t.smoothed_delay ≡ float_at b 10) × (t.delay_primed ≡ (word_of b 11 == 1)) × (t.waiting ≡ false)
+    × IsNoneKept t.kept
+
 -- the unit is what a record says of the state after it; of a tremolo none is kept
 abbrev pub IsStored : Unit → List ℕ → Type 0
 IsStored Tremolo b = ⊤
@@ -59,3 +71,4 @@ IsStored (Delay d) b =
     (d.write_pos ≡ word_of b 8) × (d.smoothed_delay ≡ float_at b 9) × (d.delay_primed ≡ (word_of b 10 == 1))
 IsStored (Reverb r) b = IsReverbStored r b
 IsStored (Phaser p) b = IsPhaserStored p b
+IsStored (Tape t) b = IsTapeStored t b

@@ -4,6 +4,7 @@
 
 mod phasers;
 mod reverbs;
+mod tapes;
 mod units;
 mod words;
 
@@ -55,6 +56,7 @@ fn main(rt: HostRuntime) -> Result<()> {
     replay(&rt, "flanger", "flanger.bin", Effect::Flanger)?;
     replay(&rt, "delay", "delay.bin", Effect::Delay)?;
     replay(&rt, "linear delay", "linear_delay.bin", Effect::Delay)?;
+    replay(&rt, "tape delay", "tape_delay.bin", Effect::Tape)?;
     replay(&rt, "reverb", "reverb.bin", Effect::Reverb)?;
     replay(&rt, "phaser", "phaser.bin", Effect::Phaser)
 }

@@ -5,12 +5,12 @@
 //   flanger, 15: the call; the mask; audio, depth, feedback, mix; frequency, two sines; three samples; the position and the phase after; the age
 //   delay, 12: the call; the mask; audio, time, feedback, mix; milliseconds; the sample; the position, the glide distance and whether it is primed
 //     after; the age
-//   reverb, 16: reverbs.rt says; phaser, 13: phasers.rt does
+//   reverb, 16: reverbs.rt says; phaser, 13: phasers.rt does; tape delay, 13: tapes.rt does
 // The age, a plain number, is that of the oldest sample that the tick's reads weigh above 0, worked out from their distances; of a call that is no tick
 // it is 0. The other effects have none: their ticks answer 0.
 // The call is 0 tick, 1 retune (the new rate stands for the mix, the delay's new coefficient for the milliseconds) or 2 reset. A tremolo's record has
 // its own state before the tick; the others are calls of one unit from its start on, which stands before them: 1 delay, 2 chorus, 3 flanger, 4 vibrato,
-// 6 reverb or 7 phaser; the rate; the places needed; of a delay also the maximum, the glide coefficient, and 1 for linear mode, else 0.
+// 6 reverb, 7 phaser or 8 tape delay; the rate; the places needed; of a delay also the maximum, the glide coefficient, and 1 for linear mode, else 0.
 ghost use Rattle.std.specs.Prelude.{ℕ, ◌≡◌, ◌≤◌, ◌<◌, ◌/◌, ◌%◌, ◌==◌, ◌↔◌, IsTrue, is_ok};
 ghost use Rattle.port.specs.Port.{port_if};
 ghost use Rattle.port.specs.Answer.{answer_reply};
@@ -19,7 +19,7 @@ ghost use Rattle.replay.specs.Stored.{IsOfAge, IsOneSample, IsStored, IsThreeSam
 ghost use Rattle.replay.specs.Words.{float_at};
 
 use crate::words::Record;
-use crate::{phasers, reverbs};
+use crate::{phasers, reverbs, tapes};
 use chorus::Chorus;
 use delay_line::{DelayLine, Retune};
 use effect::{Cleared, InMemory, WithoutMemory};
@@ -27,6 +27,7 @@ use flanger::Flanger;
 use phaser::Phaser;
 use port::{Answer, Port, port_if};
 use reverb::Reverb;
+use tape_delay::TapeDelay;
 use tremolo::Tremolo;
 use vibrato::Vibrato;
 
@@ -45,6 +46,7 @@ pub enum Effect {
     Delay,
     Reverb,
     Phaser,
+    Tape,
 }
 
 impl Effect {
@@ -55,6 +57,7 @@ impl Effect {
     {
         match self {
             Effect::Tremolo => 0,
+            Effect::Tape => 5 * 8,
             Effect::Delay => 6 * 8,
             Effect::Vibrato | Effect::Chorus | Effect::Flanger | Effect::Reverb | Effect::Phaser =>
                 3 * 8,
@@ -70,7 +73,7 @@ impl Effect {
         match self {
             Effect::Tremolo | Effect::Vibrato => 11 * 8,
             Effect::Delay => 12 * 8,
-            Effect::Phaser => 13 * 8,
+            Effect::Phaser | Effect::Tape => 13 * 8,
             Effect::Flanger => 15 * 8,
             Effect::Reverb => 16 * 8,
             Effect::Chorus => 17 * 8,
@@ -81,6 +84,8 @@ impl Effect {
     pub fn places(self) -> usize {
         match self {
             Effect::Reverb => Reverb::PLACES as usize,
+            // twelve seconds at 11,025
+            Effect::Tape => 132_301,
             _ => 600,
         }
     }
@@ -96,6 +101,7 @@ pub enum Unit {
     Delay(DelayLine),
     Reverb(Reverb),
     Phaser(Phaser),
+    Tape(TapeDelay),
 }
 
 // The port of the weight 1, 2, 4, .. in the mask, with the number in word i.
@@ -124,7 +130,7 @@ pub fn is_three_samples(answer: Answer, stored: &Record, i: u8) -> bool
 }
 
 // Whether a tick was accepted with the age stored in word i.
-fn is_of_age(answer: Answer, age: u32, stored: &Record, i: usize) -> bool
+pub fn is_of_age(answer: Answer, age: u32, stored: &Record, i: usize) -> bool
     ensures { IsTrue result ↔ IsOfAge (answer_reply answer age) stored.now.bytes i }
 {
     !matches!(answer, Answer::Refused(_)) && u64::from(age) == stored.word(i)
@@ -237,6 +243,7 @@ impl Unit {
             }
             Effect::Reverb => Unit::Reverb(Reverb::new(rate, mem).state),
             Effect::Phaser => Unit::Phaser(Phaser::new(rate).state),
+            Effect::Tape => Unit::Tape(tapes::started(start, mem)),
         }
     }
 
@@ -261,6 +268,7 @@ impl Unit {
             Unit::Delay(d) => tick_delay(d, mem, stored),
             Unit::Reverb(r) => reverbs::tick_or_look(r, mem, stored),
             Unit::Phaser(p) => phasers::tick_or_look(p, stored),
+            Unit::Tape(t) => tapes::tick(t, mem, stored),
         }
     }
 
@@ -279,6 +287,7 @@ impl Unit {
             }
             Unit::Reverb(r) => keep(r, r.set_sample_rate(stored.float(6), mem)),
             Unit::Phaser(_) => false,
+            Unit::Tape(t) => keep(t, t.set_sample_rate(tapes::retuning(stored), mem)),
         }
     }
 
@@ -291,6 +300,7 @@ impl Unit {
             Unit::Delay(d) => keep(d, d.reset(mem)),
             Unit::Reverb(r) => keep(r, r.reset(mem)),
             Unit::Phaser(p) => keep(p, p.reset()),
+            Unit::Tape(t) => keep(t, t.reset(mem)),
         }
     }
 
@@ -315,6 +325,7 @@ impl Unit {
             }
             Unit::Reverb(r) => reverbs::is_stored(r, stored),
             Unit::Phaser(p) => phasers::is_stored(p, stored),
+            Unit::Tape(t) => tapes::is_stored(t, stored),
         }
     }
 }

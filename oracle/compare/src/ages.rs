@@ -2,7 +2,8 @@
 //! tick's own inputs how far back each of its reads lies, and from that how old, in ticks, the oldest sample is that they weigh
 //! above 0.
 
-use room_effects::delay::{State, Tick};
+use crate::table::TAPE_MAXIMUM;
+use room_effects::{delay, tape_delay, MOST_PORTS};
 
 /// How far back a read lies, before it is held within the line: by the rate, the depth and the read's own sine.
 pub type Sweep = fn(rate: f64, depth: f64, sine: f64) -> f64;
@@ -42,27 +43,100 @@ fn held(x: f64, least: f64, most: f64) -> f64 {
     }
 }
 
-/// Where a delay's tick reads, in a line of this length: "target is milliseconds × rate / 1000, clamped to 1 to L − 1. The first
-/// tick after a clearing reads there; later ticks read at target + (last distance − target) × coefficient." The state is the
-/// one before the tick, so the distance in it is the last one.
-pub fn delay(before: &State, t: &Tick, length: u64) -> f64 {
+/// Where a delay's tick reads, in a line of this length. The state is the one before the tick.
+pub fn delay(before: &delay::State, t: &delay::Tick, length: u64) -> f64 {
     let milliseconds = if before.linear_time != 0 {
-        let seconds = if t.set & 2 != 0 { t.ports[1] } else { 0.5 };
-        held(seconds, 0.0, before.max_delay_secs) * 1_000.0
+        linear(t.set, t.ports, before.max_delay_secs)
     } else {
         t.milliseconds
     };
-    let target = in_line(milliseconds * before.sample_rate / 1_000.0, length);
-    if before.delay_primed == 0 {
-        return target;
-    }
-    target + (before.smoothed_delay - target) * before.delay_smooth_coef
+    let target = target(milliseconds, before.sample_rate, length);
+    let last = (before.delay_primed != 0).then_some(before.smoothed_delay);
+    glided(target, last, before.delay_smooth_coef)
+}
+
+/// Where a tape delay's read half does: where the tick of a delay with linear time and the tape's maximum would.
+pub fn tape(before: &tape_delay::State, t: &tape_delay::Read, length: u64) -> f64 {
+    let as_delay = delay::State {
+        write_pos: before.write_pos,
+        smoothed_delay: before.smoothed_delay,
+        delay_primed: before.delay_primed,
+        sample_rate: before.sample_rate,
+        delay_smooth_coef: before.delay_smooth_coef,
+        max_delay_secs: TAPE_MAXIMUM,
+        linear_time: 1,
+    };
+    let tick = delay::Tick {
+        set: t.set,
+        ports: t.ports,
+        milliseconds: 0.0,
+    };
+    delay(&as_delay, &tick, length)
+}
+
+/// "time (0.5 where it is unset) clamped to 0 to the maximum, times 1000"
+fn linear(set: u32, ports: [f64; MOST_PORTS], maximum: f64) -> f64 {
+    let [_audio, time, ..] = ports;
+    let seconds = if set & 2 != 0 { time } else { 0.5 };
+    held(seconds, 0.0, maximum) * 1_000.0
+}
+
+/// "target is milliseconds × rate / 1000, clamped to 1 to L − 1"
+fn target(milliseconds: f64, rate: f64, length: u64) -> f64 {
+    in_line(milliseconds * rate / 1_000.0, length)
+}
+
+/// "The first tick after a clearing reads there; later ticks read at target + (last distance − target) × coefficient."
+fn glided(target: f64, last: Option<f64>, coefficient: f64) -> f64 {
+    last.map_or(target, |last| target + (last - target) * coefficient)
 }
 
 /// "the whole part of the distance, plus one where the fraction isn't zero": the largest of the reads'.
 pub fn of(distances: &[f64]) -> u64 {
     let one = |distance: &f64| distance.trunc() as u64 + u64::from(distance.fract() != 0.0);
     distances.iter().map(one).max().unwrap_or(0)
+}
+
+/// A read worked out by hand: where the last one was (nowhere before the first), the target and the coefficient; then the distance
+/// and its age.
+pub struct Glide {
+    pub last: Option<f64>,
+    pub target: f64,
+    pub coefficient: f64,
+    pub distance: f64,
+    pub age: u64,
+}
+
+/// Whole distances and the floats beside them, at both ends of a line whose greatest distance is `far`.
+pub fn glides(far: f64) -> impl Iterator<Item = Glide> {
+    let slow = 1.0f64.next_down();
+    let farthest = far as u64;
+    let glides = [
+        (None, 0.0, 0.5, 1.0, 1),
+        (None, 1.0, 0.5, 1.0, 1),
+        (None, 2.0, 0.5, 2.0, 2),
+        (None, 2.5, 0.5, 2.5, 3),
+        (None, far - 1.0, 0.5, far - 1.0, farthest - 1),
+        (None, far - 0.5, 0.5, far - 0.5, farthest),
+        (None, far, 0.5, far, farthest),
+        (Some(1.0), 1.0, 0.9, 1.0, 1),
+        (Some(1.0f64.next_up()), 1.0, slow, 1.0f64.next_up(), 2),
+        (Some(2.0f64.next_down()), 2.0, slow, 2.0f64.next_down(), 2),
+        (Some(2.0f64.next_up()), 2.0, slow, 2.0f64.next_up(), 3),
+        (Some(4.0), 2.0, 0.5, 3.0, 3),
+        (Some(far.next_down()), far, slow, far.next_down(), farthest),
+        (Some(far), far, 0.9, far, farthest),
+        (Some(far), 1.0, 0.0, 1.0, 1),
+        (Some(1.0), far, 0.0, far, farthest),
+    ];
+    let one = |(last, target, coefficient, distance, age)| Glide {
+        last,
+        target,
+        coefficient,
+        distance,
+        age,
+    };
+    glides.into_iter().map(one)
 }
 
 /// How many ages were compared.

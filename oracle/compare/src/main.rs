@@ -2,7 +2,7 @@
 //! are held against a reading of their own (ages.rs).
 //!
 //!     compare EFFECT --ticks N [--seed S]        compare N accepted ticks, and refused calls between them; the delay's rows are
-//!                                                delay, linear_delay and long_delay
+//!                                                delay, linear_delay and long_delay; a tape_delay's ticks are pairs of halves
 //!     compare whole_part --ticks N [--seed S]    compare the whole parts of at least N floats
 //!     compare EFFECT --record FILE --ticks N     write the Rust's answers to N ticks, for the program that replays them
 //!
@@ -21,6 +21,7 @@ mod random;
 mod reverb;
 mod run;
 mod table;
+mod tape;
 mod tick;
 mod tremolo;
 mod unlined;
@@ -38,7 +39,7 @@ struct Effect {
     record: fn(ticks: u64, seed: u64) -> Result<Vec<u64>, String>,
 }
 
-const EFFECTS: [Effect; 10] = [
+const EFFECTS: [Effect; 11] = [
     Effect {
         name: "tremolo",
         run: run::run::<Unlined<tremolo::Tremolo, 0>>,
@@ -83,6 +84,11 @@ const EFFECTS: [Effect; 10] = [
         name: "phaser",
         run: phaser::run,
         record: phaser::record,
+    },
+    Effect {
+        name: "tape_delay",
+        run: tape::run,
+        record: tape::record,
     },
     Effect {
         name: "whole_part",

@@ -54,6 +54,12 @@ impl Memory {
         Ok(())
     }
 
+    /// An accepted read wrote nothing, and nothing here.
+    pub fn unwritten(&self, place: usize) -> Result<(), String> {
+        let what = format!("place {place} after a read");
+        untouched(&what, self.should[place], self.places[place])
+    }
+
     /// Every place holds what it should.
     pub fn check(&self) -> Result<(), String> {
         if same_bits(&self.should, &self.places) {

@@ -16,7 +16,7 @@ use crate::random::Random;
 use crate::run;
 use crate::tick::{Form, Ticks, COEFFICIENT, FEEDBACK, MIX, SIDES, STAGES};
 use crate::unlined::{Effect, Unlined};
-use libm::script::{asked_angles, hand, TANGENTS};
+use libm::script::{asked, hand, TANGENTS};
 use quiver_oracle::phaser::{angle, coefficient, Unit, HIGH, LOW};
 use quiver_oracle::{Effect as _, Unlined as _};
 use room_effects::phaser::STORES;
@@ -101,8 +101,8 @@ fn one_tick(
     hand(&TANGENTS, tangent.as_slice());
     let right = if tangent.is_some() { HIGH } else { LOW };
     let out = FORM.with_sines(rust, t, &[LOW, right], tick)?;
-    for asked in asked_angles(&TANGENTS, tangent.iter().count()) {
-        agree("angle of a tangent", angle(rust.sample_rate()), asked)?;
+    for of in asked(&TANGENTS, tangent.iter().count()) {
+        agree("angle of a tangent", angle(rust.sample_rate()), of)?;
     }
     Ok(out)
 }

@@ -58,9 +58,19 @@ impl Random {
         f64::from_bits((self.bits() >> (64 - digits)).max(1))
     }
 
+    fn signed_subnormal(&mut self) -> f64 {
+        let x = self.subnormal();
+        self.signed(x)
+    }
+
     /// Above 0 and below 1, any exponent as likely as any other.
     fn small(&mut self) -> f64 {
         f64::from_bits(self.below(1.0f64.to_bits() - 1) + 1)
+    }
+
+    fn signed_small(&mut self) -> f64 {
+        let x = self.small();
+        self.signed(x)
     }
 
     /// Zeros, units, infinities, and the largest and smallest floats.
@@ -83,10 +93,7 @@ impl Random {
             1 => self.of(&INFINITIES),
             2 => self.of(&ZEROS),
             3 => self.extreme(),
-            4 => {
-                let x = self.subnormal();
-                self.signed(x)
-            }
+            4 => self.signed_subnormal(),
             5 => self.any(),
             _ => self.ordinary_audio(),
         }
@@ -112,14 +119,8 @@ impl Random {
             1 => self.of(&ZEROS),
             2 => self.of(&[0.5, 1.0, 1.0f64.next_down(), 1.0f64.next_up(), -1.0, 2.0]),
             3 => self.of(&[1e308, -1e308, f64::MAX, f64::MIN, SMALLEST, -SMALLEST]),
-            4 => {
-                let x = self.subnormal();
-                self.signed(x)
-            }
-            5 => {
-                let x = self.small();
-                self.signed(x)
-            }
+            4 => self.signed_subnormal(),
+            5 => self.signed_small(),
             6 => self.within(-0.5, 1.5),
             _ => self.within(0.0, 1.0),
         }
@@ -144,6 +145,23 @@ impl Random {
             0 => self.of(&[0.99, 0.99f64.next_down(), 0.99f64.next_up(), 1.0, 0.0, -0.0]),
             1 => self.control(),
             _ => self.within(-0.1, 1.0),
+        }
+    }
+
+    /// A feedback that is no NaN, in and around 0 to 1.5.
+    pub fn tape_feedback(&mut self) -> f64 {
+        match self.below(8) {
+            0 => self.of(&[
+                1.5,
+                1.5f64.next_down(),
+                1.5f64.next_up(),
+                2.0,
+                1.0,
+                0.0,
+                -0.0,
+            ]),
+            1 => self.control(),
+            _ => self.within(-0.1, 1.6),
         }
     }
 
@@ -218,14 +236,8 @@ impl Random {
         match self.below(16) {
             0 => self.of(&ZEROS),
             1 => self.of(&[1.0, -1.0, 1.0f64.next_down(), -(1.0f64.next_down())]),
-            2 => {
-                let x = self.subnormal();
-                self.signed(x)
-            }
-            3 => {
-                let x = self.small();
-                self.signed(x)
-            }
+            2 => self.signed_subnormal(),
+            3 => self.signed_small(),
             _ => self.within(-1.0, 1.0),
         }
     }
@@ -342,7 +354,13 @@ impl Random {
         }
     }
 
-    /// No distance of an unprimed state.
+    /// No mix of a read that waits.
+    pub fn wrong_mix(&mut self) -> f64 {
+        let nan = self.nan();
+        self.of(&[-SMALLEST, 1.0f64.next_up(), 2.0, f64::INFINITY, nan])
+    }
+
+    /// No distance of an unprimed state, and nothing kept while no read waits.
     pub fn no_plus_zero(&mut self) -> f64 {
         let nan = self.nan();
         self.of(&[-0.0, -0.0, SMALLEST, -SMALLEST, 1.0, f64::INFINITY, nan])

@@ -11,8 +11,14 @@ pub trait Pair: Sized {
     /// The table's numbers that this effect's calls can give.
     const REFUSALS: &'static [u32];
 
+    /// What its ticks are called where they are counted.
+    const TICKS: &'static str = "ticks";
+
     /// Whether its ticks answer ages.
     const AGED: bool = false;
+
+    /// Whether a tick is two calls, of which the first answers the age: the second counts as the tick.
+    const HALVED: bool = false;
 
     /// A call with its arguments, the state handed to it among them.
     type Call;
@@ -43,6 +49,8 @@ pub trait Pair: Sized {
 /// What a call that went as it should was.
 pub enum Made {
     Tick,
+    /// The first call of a tick that is two.
+    Half,
     Other,
     Refused(u32),
 }
@@ -61,6 +69,7 @@ impl Made {
 #[derive(Default)]
 struct Tally {
     ticks: u64,
+    halves: u64,
     others: u64,
     refused: [u64; NUMBERS],
 }
@@ -69,23 +78,30 @@ impl Tally {
     fn count(&mut self, made: Made) {
         match made {
             Made::Tick => self.ticks += 1,
+            Made::Half => self.halves += 1,
             Made::Other => self.others += 1,
             Made::Refused(number) => self.refused[number as usize] += 1,
         }
     }
 
-    /// So many ticks at least were refused: no other call gives these two numbers.
-    fn refused_ticks(&self) -> u64 {
-        self.refused[CONTROL as usize] + self.refused[CURVE as usize]
+    /// Whether every age was compared: of each accepted tick, or of each first half, and of at least so many refused ones, since no
+    /// other call gives the numbers 5 and 6, and no first half 6.
+    fn covered<P: Pair>(&self, ages: Compared) -> bool {
+        let control = self.refused[CONTROL as usize];
+        if P::HALVED {
+            return ages.covers(self.halves, control);
+        }
+        ages.covers(self.ticks, control + self.refused[CURVE as usize])
     }
 
     fn shown<P: Pair>(&self, ages: Compared) -> String {
         let each = |number: &u32| format!("{} by number {number}", self.refused[*number as usize]);
         let refused = P::REFUSALS.iter().map(each).collect::<Vec<_>>().join(", ");
         format!(
-            "{}: {} ticks compared{}, {} other calls, refused: {refused}",
+            "{}: {} {} compared{}, {} other calls, refused: {refused}",
             P::NAME,
             self.ticks,
+            P::TICKS,
             ages.shown(),
             self.others
         )
@@ -111,7 +127,11 @@ pub fn run<P: Pair>(ticks: u64, seed: u64) -> Result<String, String> {
             Ok(made) => tally.count(made),
             Err(message) => {
                 let call = P::shown(&call);
-                return Err(format!("after {} ticks, {call}\n{message}", tally.ticks));
+                return Err(format!(
+                    "after {} {}, {call}\n{message}",
+                    tally.ticks,
+                    P::TICKS
+                ));
             }
         }
     }
@@ -123,7 +143,7 @@ pub fn run<P: Pair>(ticks: u64, seed: u64) -> Result<String, String> {
         .find(|number| tally.refused[**number as usize] == 0);
     match missing {
         Some(number) if ticks >= LONG => Err(format!("no call was refused by number {number}")),
-        _ if P::AGED && !ages.covers(tally.ticks, tally.refused_ticks()) => {
+        _ if P::AGED && !tally.covered::<P>(ages) => {
             Err("the age of some tick was not compared".into())
         }
         _ => Ok(tally.shown::<P>(ages)),

@@ -7,9 +7,10 @@ pub const MEMORY: u32 = 3;
 pub const STATE: u32 = 4;
 pub const CONTROL: u32 = 5;
 pub const CURVE: u32 = 6;
+pub const TURN: u32 = 7;
 
 /// One more than the table's last number.
-pub const NUMBERS: usize = 7;
+pub const NUMBERS: usize = 8;
 
 /// The number of the first cause that applies, 0 for none. The causes stand in the order of the call.
 pub fn first(causes: &[(u32, bool)]) -> u32 {
@@ -99,6 +100,25 @@ pub fn distance(primed: bool, distance: f64, length: u64) -> bool {
     } else {
         distance.to_bits() != 0
     }
+}
+
+/// "maximum 12 seconds": a tape delay's length is a delay's with this maximum.
+pub const TAPE_MAXIMUM: f64 = 12.0;
+
+/// "Number 4 also names a waiting mix that is NaN or outside 0 to 1, or a kept number not +0 while none waits": the state test
+/// fails where this is true. Audio, sample read and mix are kept.
+pub fn kept(waiting: bool, kept: [f64; 3]) -> bool {
+    if waiting {
+        let [_audio, _read, mix] = kept;
+        !(mix >= 0.0 && mix <= 1.0)
+    } else {
+        kept.into_iter().any(|number| number.to_bits() != 0)
+    }
+}
+
+/// "Number 6 also names a saturated value NaN or outside −1 to 1"
+pub fn saturated(value: f64) -> bool {
+    value.is_nan() || value < -1.0 || value > 1.0
 }
 
 /// "curve number NaN"

@@ -3,7 +3,7 @@
 use crate::bits::{agree, shown, word};
 use crate::random::Random;
 use crate::table;
-use libm::script::{asked_angles, hand, SINES};
+use libm::script::{asked, hand, SINES};
 use quiver_oracle::{Effect, SPREAD};
 use room_effects::{Tick, MOST, MOST_PORTS};
 use std::f64::consts::TAU;
@@ -221,7 +221,7 @@ impl Form {
         rust.plant_frequency(t.frequency);
         hand(&SINES, sines);
         let out = tick(rust, self.ports_read(t));
-        let angles = asked_angles(&SINES, self.sines.len());
+        let angles = asked(&SINES, self.sines.len());
         for ((phase, added), angle) in self.sines.iter().zip(angles) {
             agree("angle of a sine", (phases[*phase] + added) * TAU, angle)?;
         }

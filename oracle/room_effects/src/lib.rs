@@ -8,6 +8,7 @@ pub mod delay;
 pub mod flanger;
 pub mod phaser;
 pub mod reverb;
+pub mod tape_delay;
 pub mod tremolo;
 pub mod unlined;
 pub mod vibrato;

@@ -99,35 +99,15 @@ fn aged<const LINEAR: bool>(
     Ok(())
 }
 
-/// Where the last tick read (nowhere before the first), the target and the coefficient; then the distance and its age.
 fn glides_to<const LINEAR: bool>(unit: &mut Delay<LINEAR>, far: f64) -> Result<(), String> {
-    let slow = 1.0f64.next_down();
-    let farthest = far as u64;
-    for (last, target, coefficient, distance, age) in [
-        (None, 0.0, 0.5, 1.0, 1),
-        (None, 1.0, 0.5, 1.0, 1),
-        (None, 2.0, 0.5, 2.0, 2),
-        (None, 2.5, 0.5, 2.5, 3),
-        (None, far - 1.0, 0.5, far - 1.0, farthest - 1),
-        (None, far - 0.5, 0.5, far - 0.5, farthest),
-        (None, far, 0.5, far, farthest),
-        (Some(1.0), 1.0, 0.9, 1.0, 1),
-        (Some(1.0f64.next_up()), 1.0, slow, 1.0f64.next_up(), 2),
-        (Some(2.0f64.next_down()), 2.0, slow, 2.0f64.next_down(), 2),
-        (Some(2.0f64.next_up()), 2.0, slow, 2.0f64.next_up(), 3),
-        (Some(4.0), 2.0, 0.5, 3.0, 3),
-        (Some(far.next_down()), far, slow, far.next_down(), farthest),
-        (Some(far), far, 0.9, far, farthest),
-        (Some(far), 1.0, 0.0, 1.0, 1),
-        (Some(1.0), far, 0.0, far, farthest),
-    ] {
+    for glide in ages::glides(far) {
         let state = State {
-            delay_primed: u32::from(last.is_some()),
-            smoothed_delay: last.unwrap_or(0.0),
-            delay_smooth_coef: coefficient,
+            delay_primed: u32::from(glide.last.is_some()),
+            smoothed_delay: glide.last.unwrap_or(0.0),
+            delay_smooth_coef: glide.coefficient,
             ..unit.state
         };
-        aged(unit, state, target, distance, age)?;
+        aged(unit, state, glide.target, glide.distance, glide.age)?;
     }
     Ok(())
 }

@@ -1,6 +1,8 @@
-//! Inside the Rust's `DelayLine`: its settings, its position, its glide, its line, its tick with the milliseconds planted.
+//! Inside the Rust's `DelayLine`, also where it is a tape delay: its settings, its position, its glide, its line, its tick with the
+//! milliseconds planted.
 
 use super::super::DelayLine;
+use crate::analog::saturation;
 use crate::frames::{Plain, Ports, Samples};
 use crate::modules::common::env_coef;
 use crate::modules::common::inside::plant;
@@ -17,6 +19,11 @@ pub fn key(time: Option<f64>) -> f64 {
 /// The glide coefficient that the Rust works out at this rate.
 pub fn coefficient(sample_rate: f64) -> f64 {
     env_coef(DelayLine::DELAY_SMOOTH_SECS, sample_rate)
+}
+
+/// What the tape delay saturates a fifth of the sum to.
+pub fn saturated(fifth: f64) -> f64 {
+    saturation::tanh_sat(fifth, 1.0)
 }
 
 /// What moves from tick to tick: the position and the glide.
@@ -38,6 +45,18 @@ impl Unit {
         });
         unit.set_coefficient(coefficient);
         unit
+    }
+
+    pub fn tape(sample_rate: f64, coefficient: f64) -> Self {
+        let mut unit = Self(DelayLine::tape(sample_rate));
+        unit.set_coefficient(coefficient);
+        unit
+    }
+
+    /// Whether a tick stores what it saturates, as a tape delay's does. Else it stores the sum itself; then it clamps the feedback
+    /// to 0.99, not to 1.5.
+    pub fn set_saturating(&mut self, saturating: bool) {
+        self.0.unclamped_feedback = saturating;
     }
 
     pub fn set_sample_rate(&mut self, sample_rate: f64, coefficient: f64) {

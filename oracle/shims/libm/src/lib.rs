@@ -1,6 +1,6 @@
 //! Stands in for the crate `libm` that quiver uses.
 //!
-//! A curve number (a sine, a power) is the host's to compute, so here a test hands it in.
+//! A curve number (a sine, a hyperbolic tangent, a power) is the host's to compute, so here a test hands it in.
 //! What IEEE 754 settles to the bit (square root, absolute value, floor, rounding, remainder) is std's.
 //! What no tick of the ported effects may ask for panics, so that a wrong turn can't pass unseen.
 
@@ -11,12 +11,12 @@ pub struct Libm<T>(PhantomData<T>);
 #[cfg(feature = "script")]
 pub mod script;
 #[cfg(feature = "script")]
-use script::{next_sine, next_tangent};
+use script::{next_sine, next_tangent, next_tanh};
 
 #[cfg(not(feature = "script"))]
 pub mod timing;
 #[cfg(not(feature = "script"))]
-use timing::next_sine;
+use timing::{next_sine, next_tanh};
 
 /// Functions of which the ported effects' ticks never want a result.
 macro_rules! not_handed_in {
@@ -32,6 +32,12 @@ impl Libm<f64> {
     #[inline(always)]
     pub fn sin(x: f64) -> f64 {
         next_sine(x)
+    }
+
+    // The tape delay's, where it saturates.
+    #[inline(always)]
+    pub fn tanh(x: f64) -> f64 {
+        next_tanh(x)
     }
 
     // The phaser's, where a side works its coefficient out. For timing it is planted, so that no one asks.
@@ -70,13 +76,5 @@ impl Libm<f64> {
         x % y
     }
 
-    not_handed_in!(
-        pow(x, y),
-        cos(x),
-        tanh(x),
-        asin(x),
-        exp2(x),
-        log2(x),
-        log10(x)
-    );
+    not_handed_in!(pow(x, y), cos(x), asin(x), exp2(x), log2(x), log10(x));
 }

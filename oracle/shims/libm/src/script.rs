@@ -1,16 +1,16 @@
-//! The script of one tick: the sines and the tangents it gets, in the order in which it asks.
+//! The script of one tick: the sines, the tangents and the hyperbolic tangents it gets, in the order in which it asks.
 
 use core::cell::Cell;
 use std::thread::LocalKey;
 
-/// No tick asks for more of either: the chorus has three voices.
+/// No tick asks for more of a kind: the chorus has three voices.
 pub const MOST: usize = 3;
 
 #[derive(Clone, Copy)]
 pub struct Script {
     numbers: [f64; MOST],
     handed: usize,
-    /// The angles that were asked for, in order.
+    /// What they were asked of, in order.
     asked: [f64; MOST],
     taken: usize,
 }
@@ -27,6 +27,7 @@ const EMPTY: Script = Script {
 thread_local! {
     pub static SINES: Cell<Script> = const { Cell::new(EMPTY) };
     pub static TANGENTS: Cell<Script> = const { Cell::new(EMPTY) };
+    pub static TANHS: Cell<Script> = const { Cell::new(EMPTY) };
 }
 
 /// Hand in the numbers of the next tick.
@@ -39,8 +40,8 @@ pub fn hand(held: &'static Held, numbers: &[f64]) {
     held.set(script);
 }
 
-/// The angles of the numbers that the tick took; panics if it left one.
-pub fn asked_angles(held: &'static Held, count: usize) -> impl Iterator<Item = f64> {
+/// What the numbers that the tick took were asked of; panics if it left one.
+pub fn asked(held: &'static Held, count: usize) -> impl Iterator<Item = f64> {
     let script = held.get();
     assert_eq!(
         (script.handed, script.taken),
@@ -58,14 +59,18 @@ pub(crate) fn next_tangent(angle: f64) -> f64 {
     next(&TANGENTS, angle)
 }
 
-fn next(held: &'static Held, angle: f64) -> f64 {
+pub(crate) fn next_tanh(x: f64) -> f64 {
+    next(&TANHS, x)
+}
+
+fn next(held: &'static Held, of: f64) -> f64 {
     let mut script = held.get();
     let at = script.taken;
     assert!(
         at < script.handed,
         "libm: a number was asked, and no one hands it in"
     );
-    script.asked[at] = angle;
+    script.asked[at] = of;
     script.taken = at + 1;
     held.set(script);
     script.numbers[at]
