@@ -27,7 +27,7 @@ OPERATORS = {"+": ["-"], "-": ["+"], "*": ["/"], "/": ["*"], "%": ["/"], "&": ["
              "<<": [">>"], ">>": ["<<"], "+=": ["-="], "-=": ["+="]}
 COMPARISONS = {"<": ["<=", ">"], "<=": ["<", ">="], ">": [">=", "<"], ">=": [">", "<="], "==": ["!="], "!=": ["=="]}
 NOT_COMMUTATIVE = {"-", "/", "%", "<<", ">>"}
-CASES = {"Refusal": ["SampleRate", "GlideCoefficient", "Memory", "State", "Control", "Curve"], "Stages": ["Two", "Four", "Six"]}
+CASES = {"Refusal": ["SampleRate", "GlideCoefficient", "Memory", "State", "Control", "Curve", "Turn"], "Stages": ["Two", "Four", "Six"]}
 # the words of the answer to "silent?"
 SILENCE = "Result < bool , Refusal >".split()
 

@@ -2,7 +2,7 @@
 that they answer and leave: one number. A wrong program that prints another is seen to do something else, and so what it is to be proved of is false."""
 
 # crates whose calls the program makes
-CRATES = "float64 port common effect tremolo vibrato chorus flanger delay_line phaser reverb".split()
+CRATES = "float64 port common effect tremolo vibrato chorus flanger delay_line tape_delay phaser reverb".split()
 
 COMMON = """// Made by tests/attack/seen.py.
 #![tactic(auto)]
@@ -13,6 +13,7 @@ use delay_line::DelayLine;
 use delay_line::Retune;
 use effect::InMemory;
 use effect::InOnePart;
+use effect::Ticked;
 use effect::WithoutMemory;
 use flanger::Flanger;
 use phaser::Phaser;
@@ -21,6 +22,8 @@ use port::Port;
 use port::Refusal;
 use reverb::Reverb;
 use std::io;
+use tape_delay::Settings;
+use tape_delay::TapeDelay;
 use tremolo::Tremolo;
 use vibrato::Vibrato;
 
@@ -99,6 +102,15 @@ fn dirty(mem: &mut [f64]) {
     }
 }
 
+// the same of a long memory, in every seventh place, which takes less time
+fn dirty_long(mem: &mut [f64]) {
+    let mut i: usize = 0;
+    while i < mem.len() {
+        mem[i] = special(i as u64);
+        i += 7;
+    }
+}
+
 fn answered(h: u64, a: Answer) -> u64 {
     float(float(float(mix(h, a.number() as u64), a.first()), a.second()), a.third())
 }
@@ -147,7 +159,7 @@ fn refusals(h: u64, r: Refusal) -> u64 {
 
 fn port_calls() -> u64 {
     let mut h = refusals(refusals(refusals(0, Refusal::SampleRate), Refusal::GlideCoefficient), Refusal::Memory);
-    h = refusals(refusals(refusals(h, Refusal::State), Refusal::Control), Refusal::Curve);
+    h = refusals(refusals(refusals(refusals(h, Refusal::State), Refusal::Control), Refusal::Curve), Refusal::Turn);
     h = asked(asked(cleared(h, Ok(())), Ok(true)), Ok(false));
     h = answered(answered(answered(h, Answer::One(2.0)), Answer::Two(2.0, 3.0)), Answer::Three(2.0, 3.0, 4.0));
     for i in 0..40 {
@@ -204,8 +216,7 @@ fn line_calls() -> u64 {
     for at in 0..1300 {
         mem[at] = special(at as u64);
         h = flag(flag(flag(h, common::all_zero(&mem)), common::all_zero(&mem[..512])), common::all_zero(&mem[1..1025]));
-        h = asked(asked(h, effect::silence(Ok(at as u64 + 1), &mem)), effect::silence(Ok(at as u64), &mem));
-        h = asked(h, effect::silence(Err(Refusal::Memory), &mem[..at]));
+        h = flag(flag(h, effect::first_places_zero(at as u64 + 1, &mem)), effect::first_places_zero(at as u64, &mem));
         mem[at] = -0.0;
     }
     h
@@ -422,7 +433,7 @@ fn reverb_each(h: u64, s: Reverb, mem: &mut [f64], k: u64) -> u64 {
     sum = tank(reverb_left(mix(answered(sum, a), t.age as u64), t.state), mem);
     let c = s.reset(mem);
     sum = tank(reverb_left(cleared(sum, c.outcome), c.state), mem);
-    dirty(mem);
+    dirty_long(mem);
     let r = s.set_sample_rate(special(k), mem);
     tank(reverb_left(cleared(sum, r.outcome), r.state), mem)
 }
@@ -432,7 +443,7 @@ fn reverb_starts(lent: &mut [f64]) -> u64 {
     let mut h: u64 = 0;
     for k in 0..40 {
         for short in 0..3 {
-            dirty(lent);
+            dirty_long(lent);
             let mem = &mut lent[..87135 + short];
             let c = Reverb::new(special(k), mem);
             h = tank(reverb_left(cleared(h, c.outcome), c.state), mem);
@@ -488,10 +499,123 @@ fn reverb_calls() -> u64 {
 }
 """
 
+# A tick is two calls, and the line has 96,001 places at 8,000
+TAPE_FIELDS = "write_pos smoothed_delay delay_primed waiting kept.audio kept.read kept.mix sample_rate delay_smooth_coef"
+TAPE = """
+fn handing(rate: f64, coefficient: f64) -> Settings {
+    Settings { rate, coefficient }
+}
+
+fn tape_left(h: u64, s: TapeDelay) -> u64 {
+    let mut sum = h;
+LEFT
+    sum
+}
+
+// a state with its field i put to another value
+fn tape_with(s: TapeDelay, i: u64, x: f64, n: u64) -> TapeDelay {
+    let mut t = s;
+WITH
+    t
+}
+
+// a port that goes to more than 1, as a tape's time and feedback do
+fn port_to(k: u64, most: f64) -> Port {
+    if let Port::Set(x) = port(k) { Port::Set(x * most) } else { Port::Unset }
+}
+
+fn read(s: TapeDelay, mem: &[f64], k: u64) -> Ticked<TapeDelay> {
+    s.read_half(mem, audio(k), port_to(k + 1, 15.0), port_to(k + 2, 2.0), port(k + 3))
+}
+
+// a clamp for the host's saturation
+fn store(s: TapeDelay, mem: &mut [f64], k: u64, sum: f64) -> Ticked<TapeDelay> {
+    let saturated = if k % 17 == 0 { special(k / 17) } else { float64::clamp(sum / 5.0, -1.0, 1.0) };
+    s.store_half(mem, saturated)
+}
+
+fn half(h: u64, t: Ticked<TapeDelay>) -> u64 {
+    tape_left(mix(answered(h, t.answer), t.age as u64), t.state)
+}
+
+// a question, each half twice, so that one is out of turn, a reset and a retune of any state
+fn tape_each(h: u64, s: TapeDelay, mem: &mut [f64], k: u64) -> u64 {
+    let mut sum = half(asked(h, s.silent(mem)), store(s, mem, k, sine(k)));
+    let a = read(s, mem, k);
+    let heard = a.answer.first();
+    let b = read(a.state, mem, k + 1);
+    let waits = b.state;
+    sum = asked(half(half(sum, a), b), waits.silent(mem));
+    let c = store(waits, mem, k + 2, heard);
+    let d = store(c.state, mem, k + 3, heard);
+    let left = d.state;
+    sum = tank(asked(half(half(sum, c), d), left.silent(mem)), mem);
+    let e = waits.reset(mem);
+    sum = tank(asked(tape_left(cleared(sum, e.outcome), e.state), e.state.silent(mem)), mem);
+    dirty_long(mem);
+    let r = waits.set_sample_rate(handing(special(k), fraction(k)), mem);
+    sum = tank(tape_left(cleared(sum, r.outcome), r.state), mem);
+    dirty_long(mem);
+    let q = s.set_sample_rate(handing(8000.0, special(k)), mem);
+    tank(tape_left(cleared(sum, q.outcome), q.state), mem)
+}
+
+// starts with unusual settings, in memory that is one place short, just enough and one place more
+fn tape_starts(lent: &mut [f64]) -> u64 {
+    let mut h: u64 = 0;
+    for k in 0..40 {
+        for short in 0..3 {
+            let mem = &mut lent[..96000 + short];
+            dirty_long(mem);
+            let c = TapeDelay::new(handing(special(k), special(k + 19)), mem);
+            h = tank(tape_left(cleared(h, c.outcome), c.state), mem);
+            let d = TapeDelay::new(handing(8000.0, special(k)), mem);
+            h = tank(tape_left(cleared(h, d.outcome), d.state), mem);
+            h = tape_each(h, d.state, mem, k);
+        }
+        h = needed(h, TapeDelay::places_needed(special(k)));
+    }
+    h
+}
+
+fn tape_calls() -> u64 {
+    let mut lent = [0.0f64; 96005];
+    let mut h = tape_starts(&mut lent);
+    let mem = &mut lent[..96002];
+    let c = TapeDelay::new(handing(8000.0, 0.75), mem);
+    let mut s = c.state;
+    dirty_long(mem);
+    for k in 1..900 {
+        let a = read(s, mem, k);
+        let b = store(a.state, mem, k, a.answer.first());
+        s = b.state;
+        h = half(half(h, a), b);
+        if s.waiting {
+            let c = s.reset(mem);
+            s = c.state;
+            dirty_long(mem);
+        }
+    }
+    h = tank(h, mem);
+    let a = read(s, mem, 1);
+    let waits = a.state;
+    for i in 0..FIELDS {
+        // few positions, and few of each flag
+        let most = if i == 0 || i == 2 || i == 3 { 4 } else { 40 };
+        for v in 0..most {
+            dirty_long(mem);
+            let before = if v % 2 == 0 { s } else { waits };
+            h = tape_each(h, tape_with(before, i, special(v), v), mem, v * 7 + i + 1);
+        }
+    }
+    h
+}
+"""
+
 
 def field(name, i):
     """Two lines of code for a field: what it adds to the sum, and how it is put to another value."""
-    kind = "mix" if name == "write_pos" else "flag" if name in ("linear_time", "delay_primed") else "float"
+    kind = "mix" if name == "write_pos" else "flag" if name in ("linear_time", "delay_primed", "waiting") else "float"
     value = {"mix": "n * 11", "flag": "n % 2 == 0", "float": "x"}[kind]
     return f"    sum = {kind}(sum, s.{name});", f"    if i == {i} {{\n        t.{name} = {value};\n    }}"
 
@@ -515,8 +639,17 @@ def effect(name, kind, fields, start, retune, n, tick):
     return text.replace("[..N]", f"[..{n + 7 if n else 0}]")
 
 
+def tape():
+    lines = [field(f, i) for i, f in enumerate(TAPE_FIELDS.split())]
+    parts = {"LEFT": "\n".join(a for a, _ in lines), "WITH": "\n".join(b for _, b in lines), "FIELDS": str(len(lines))}
+    text = TAPE
+    for key, part in parts.items():
+        text = text.replace(key, part)
+    return text
+
+
 def program():
-    text = COMMON + MILLISECONDS + "".join(effect(*e) for e in EFFECTS) + SETTINGS + REVERB
-    names = ["float64", "port", "common", "line"] + [e[0] for e in EFFECTS] + ["settings", "reverb"]
+    text = COMMON + MILLISECONDS + "".join(effect(*e) for e in EFFECTS) + SETTINGS + REVERB + tape()
+    names = ["float64", "port", "common", "line"] + [e[0] for e in EFFECTS] + ["settings", "reverb", "tape"]
     body = ["let mut sum = 1;"] + [f"sum = mix(sum, {n}_calls());" for n in names] + ['println!(rt; "{sum}")?;', "Ok(())"]
     return text + "\nfn main(rt: HostRuntime) -> io::Result<()> {\n" + "".join(f"    {line}\n" for line in body) + "}\n"
