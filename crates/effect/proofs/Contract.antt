@@ -14,7 +14,7 @@ use Rattle.port.specs.declared.Refusal.{Refusal}
 use Rattle.port.specs.Answer.{Reply, done, silent, refused, number_of, outcome_reply}
 use Rattle.common.specs.Line.{zeros}
 use Rattle.effect.specs.Effect.{Effect}
-use Rattle.effect.specs.Run.{tick, ask, CallOf, Device, if_none, first, memory_number, start_number, number_for, number_now, number_in, is_silent, changed, says}
+use Rattle.effect.specs.Run.{tick, ask, CallOf, Device, if_none, first, memory_number, start_number, number_now, number_in, is_silent, changed, says}
 use Rattle.effect.specs.Contract.{Does, Starts}
 use Rattle.effect.proofs.Table.{if_none-some, first_some, first-assoc}
 use Rattle.effect.proofs.Outcomes.{outcome-reply}

@@ -19,3 +19,4 @@ pub mod PlacesKeep
 pub mod SilentLaws
 pub mod StaysSilent
 pub mod HearsBack
+pub mod Narrow

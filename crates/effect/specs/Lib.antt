@@ -13,3 +13,4 @@ pub mod Covers
 pub mod EachTick
 pub mod StaysSilent
 pub mod HearsBack
+pub mod Narrow
