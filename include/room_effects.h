@@ -21,7 +21,9 @@
  *                                        asks whether the unit still sounds
  *
  * Calls of an effect without lines, as the tremolo and the phaser, have no `memory, places`; the ticks of tremolo, reverb and
- * phaser have no age. Between calls the host leaves the state as the last call returned it.
+ * phaser have no age. Between calls the host leaves the state as the last call returned it. The four bytes behind a struct's
+ * positions belong to no field: no call reads or writes them, and two states are compared field by field. Sizes in bytes:
+ * tremolo 16, vibrato and flanger 24, chorus 40, delay 48, tape delay 64, phaser 208, reverb 240.
  *
  * What a call returns
  *
@@ -126,8 +128,8 @@
  * synchronisation. No call waits, allocates or calls the system. One that is cut off before it returns may have written part
  * of its state and places; its unit is then started anew.
  *
- * By the frames of the compiled functions a call takes at most 616 bytes of stack (a reverb's question; its other calls take at
- * most 376, and those of the other effects 96), and beside that what memset takes, the one function that the archive needs
+ * By the frames of the compiled functions a call takes at most 424 bytes of stack (a reverb's question; its other calls take at
+ * most 296, and those of the other effects 96), and beside that what memset takes, the one function that the archive needs
  * from elsewhere. Where memset is bound at its first call, that takes some 3 KB more, once.
  *
  * What calls cost
@@ -170,10 +172,11 @@
  * The version of this interface: MAJOR moves where a struct or a call's form is changed or goes, so that a host has to be
  * looked over; MINOR where an effect or a call is added; PATCH where neither is, as where a call answers otherwise in some
  * case. The archive does not tell its version: a controller is built with the header and the archive of one version. One that
- * mixes 1.x and 2.x links without a word, and its ticks then write an age to an address that nobody gave them.
+ * mixes majors links without a word: with 1.x on one side, ticks write an age to an address that nobody gave them; with 2.x on
+ * one side, the two take a position for numbers of different widths, and in delay, tape delay and reverb fields for others.
  */
-#define ROOM_EFFECTS_VERSION_MAJOR 2
-#define ROOM_EFFECTS_VERSION_MINOR 1
+#define ROOM_EFFECTS_VERSION_MAJOR 3
+#define ROOM_EFFECTS_VERSION_MINOR 0
 #define ROOM_EFFECTS_VERSION_PATCH 0
 
 /* The effects by their numbers, for room_places_needed. */
@@ -263,100 +266,102 @@ uint32_t room_raw_tremolo_tick(double *lfo_phase, double sample_rate, uint32_t s
                                double frequency, double sine, double *out);
 uint32_t room_raw_tremolo_silent(double lfo_phase, double sample_rate, uint32_t *out);
 
-uint32_t room_raw_vibrato_start(double new_sample_rate, double *memory, uint64_t places, uint64_t *write_pos,
+uint32_t room_raw_vibrato_start(double new_sample_rate, double *memory, uint64_t places, uint32_t *write_pos,
                                 double *lfo_phase, double *sample_rate);
-uint32_t room_raw_vibrato_retune(double new_sample_rate, double *memory, uint64_t places, uint64_t *write_pos,
+uint32_t room_raw_vibrato_retune(double new_sample_rate, double *memory, uint64_t places, uint32_t *write_pos,
                                  double *lfo_phase, double *sample_rate);
-uint32_t room_raw_vibrato_reset(double *memory, uint64_t places, uint64_t *write_pos, double *lfo_phase, double sample_rate);
-uint32_t room_raw_vibrato_tick(uint64_t *write_pos, double *lfo_phase, double sample_rate, double *memory, uint64_t places,
+uint32_t room_raw_vibrato_reset(double *memory, uint64_t places, uint32_t *write_pos, double *lfo_phase, double sample_rate);
+uint32_t room_raw_vibrato_tick(uint32_t *write_pos, double *lfo_phase, double sample_rate, double *memory, uint64_t places,
                                uint32_t set, double audio, double depth, double mix, double frequency, double sine,
                                double *out, uint32_t *age);
-uint32_t room_raw_vibrato_silent(uint64_t write_pos, double lfo_phase, double sample_rate, const double *memory,
+uint32_t room_raw_vibrato_silent(uint32_t write_pos, double lfo_phase, double sample_rate, const double *memory,
                                  uint64_t places, uint32_t *out);
 
-uint32_t room_raw_chorus_start(double new_sample_rate, double *memory, uint64_t places, uint64_t *write_pos,
+uint32_t room_raw_chorus_start(double new_sample_rate, double *memory, uint64_t places, uint32_t *write_pos,
                                double lfo_phases[3], double *sample_rate);
-uint32_t room_raw_chorus_retune(double new_sample_rate, double *memory, uint64_t places, uint64_t *write_pos,
+uint32_t room_raw_chorus_retune(double new_sample_rate, double *memory, uint64_t places, uint32_t *write_pos,
                                 double lfo_phases[3], double *sample_rate);
-uint32_t room_raw_chorus_reset(double *memory, uint64_t places, uint64_t *write_pos, double lfo_phases[3],
+uint32_t room_raw_chorus_reset(double *memory, uint64_t places, uint32_t *write_pos, double lfo_phases[3],
                                double sample_rate);
-uint32_t room_raw_chorus_tick(uint64_t *write_pos, double lfo_phases[3], double sample_rate, double *memory, uint64_t places,
+uint32_t room_raw_chorus_tick(uint32_t *write_pos, double lfo_phases[3], double sample_rate, double *memory, uint64_t places,
                               uint32_t set, double audio, double depth, double mix, double frequency, double sine0,
                               double sine1, double sine2, double out[3], uint32_t *age);
-uint32_t room_raw_chorus_silent(uint64_t write_pos, const double lfo_phases[3], double sample_rate, const double *memory,
+uint32_t room_raw_chorus_silent(uint32_t write_pos, const double lfo_phases[3], double sample_rate, const double *memory,
                                 uint64_t places, uint32_t *out);
 
-uint32_t room_raw_flanger_start(double new_sample_rate, double *memory, uint64_t places, uint64_t *write_pos,
+uint32_t room_raw_flanger_start(double new_sample_rate, double *memory, uint64_t places, uint32_t *write_pos,
                                 double *lfo_phase, double *sample_rate);
-uint32_t room_raw_flanger_retune(double new_sample_rate, double *memory, uint64_t places, uint64_t *write_pos,
+uint32_t room_raw_flanger_retune(double new_sample_rate, double *memory, uint64_t places, uint32_t *write_pos,
                                  double *lfo_phase, double *sample_rate);
-uint32_t room_raw_flanger_reset(double *memory, uint64_t places, uint64_t *write_pos, double *lfo_phase, double sample_rate);
-uint32_t room_raw_flanger_tick(uint64_t *write_pos, double *lfo_phase, double sample_rate, double *memory, uint64_t places,
+uint32_t room_raw_flanger_reset(double *memory, uint64_t places, uint32_t *write_pos, double *lfo_phase, double sample_rate);
+uint32_t room_raw_flanger_tick(uint32_t *write_pos, double *lfo_phase, double sample_rate, double *memory, uint64_t places,
                                uint32_t set, double audio, double depth, double feedback, double mix, double frequency,
                                double sine0, double sine1, double out[3], uint32_t *age);
-uint32_t room_raw_flanger_silent(uint64_t write_pos, double lfo_phase, double sample_rate, const double *memory,
+uint32_t room_raw_flanger_silent(uint32_t write_pos, double lfo_phase, double sample_rate, const double *memory,
                                  uint64_t places, uint32_t *out);
 
 uint32_t room_raw_delay_start(double new_sample_rate, double new_max_delay_secs, double new_delay_smooth_coef,
-                              uint32_t new_linear_time, double *memory, uint64_t places, uint64_t *write_pos,
-                              double *smoothed_delay, uint32_t *delay_primed, double *sample_rate,
-                              double *delay_smooth_coef, double *max_delay_secs, uint32_t *linear_time);
+                              uint32_t new_linear_time, double *memory, uint64_t places, uint32_t *write_pos,
+                              double *smoothed_delay, double *sample_rate, double *delay_smooth_coef,
+                              double *max_delay_secs, uint32_t *delay_primed, uint32_t *linear_time);
 uint32_t room_raw_delay_retune(double new_sample_rate, double new_delay_smooth_coef, double *memory, uint64_t places,
-                               uint64_t *write_pos, double *smoothed_delay, uint32_t *delay_primed, double *sample_rate,
-                               double *delay_smooth_coef, double max_delay_secs, uint32_t linear_time);
-uint32_t room_raw_delay_reset(double *memory, uint64_t places, uint64_t *write_pos, double *smoothed_delay,
-                              uint32_t *delay_primed, double sample_rate, double delay_smooth_coef, double max_delay_secs,
+                               uint32_t *write_pos, double *smoothed_delay, double *sample_rate, double *delay_smooth_coef,
+                               double max_delay_secs, uint32_t *delay_primed, uint32_t linear_time);
+uint32_t room_raw_delay_reset(double *memory, uint64_t places, uint32_t *write_pos, double *smoothed_delay,
+                              double sample_rate, double delay_smooth_coef, double max_delay_secs, uint32_t *delay_primed,
                               uint32_t linear_time);
-uint32_t room_raw_delay_tick(uint64_t *write_pos, double *smoothed_delay, uint32_t *delay_primed, double sample_rate,
-                             double delay_smooth_coef, double max_delay_secs, uint32_t linear_time, double *memory,
+uint32_t room_raw_delay_tick(uint32_t *write_pos, double *smoothed_delay, double sample_rate, double delay_smooth_coef,
+                             double max_delay_secs, uint32_t *delay_primed, uint32_t linear_time, double *memory,
                              uint64_t places, uint32_t set, double audio, double time, double feedback, double mix,
                              double milliseconds, double *out, uint32_t *age);
-uint32_t room_raw_delay_silent(uint64_t write_pos, double smoothed_delay, uint32_t delay_primed, double sample_rate,
-                               double delay_smooth_coef, double max_delay_secs, uint32_t linear_time, const double *memory,
+uint32_t room_raw_delay_silent(uint32_t write_pos, double smoothed_delay, double sample_rate, double delay_smooth_coef,
+                               double max_delay_secs, uint32_t delay_primed, uint32_t linear_time, const double *memory,
                                uint64_t places, uint32_t *out);
 
 uint32_t room_raw_tape_delay_start(double new_sample_rate, double new_delay_smooth_coef, double *memory, uint64_t places,
-                                   uint64_t *write_pos, double *smoothed_delay, uint32_t *delay_primed, uint32_t *waiting,
-                                   double *kept_audio, double *kept_read, double *kept_mix, double *sample_rate,
-                                   double *delay_smooth_coef);
+                                   uint32_t *write_pos, double *smoothed_delay, double *kept_audio, double *kept_read,
+                                   double *kept_mix, double *sample_rate, double *delay_smooth_coef, uint32_t *delay_primed,
+                                   uint32_t *waiting);
 uint32_t room_raw_tape_delay_retune(double new_sample_rate, double new_delay_smooth_coef, double *memory, uint64_t places,
-                                    uint64_t *write_pos, double *smoothed_delay, uint32_t *delay_primed, uint32_t *waiting,
-                                    double *kept_audio, double *kept_read, double *kept_mix, double *sample_rate,
-                                    double *delay_smooth_coef);
-uint32_t room_raw_tape_delay_reset(double *memory, uint64_t places, uint64_t *write_pos, double *smoothed_delay,
-                                   uint32_t *delay_primed, uint32_t *waiting, double *kept_audio, double *kept_read,
-                                   double *kept_mix, double sample_rate, double delay_smooth_coef);
-uint32_t room_raw_tape_delay_read_half(uint64_t write_pos, double *smoothed_delay, uint32_t *delay_primed, uint32_t *waiting,
-                                       double *kept_audio, double *kept_read, double *kept_mix, double sample_rate,
-                                       double delay_smooth_coef, const double *memory, uint64_t places, uint32_t set,
-                                       double audio, double time, double feedback, double mix, double *sum, uint32_t *age);
-uint32_t room_raw_tape_delay_store_half(uint64_t *write_pos, double smoothed_delay, uint32_t delay_primed, uint32_t *waiting,
-                                        double *kept_audio, double *kept_read, double *kept_mix, double sample_rate,
-                                        double delay_smooth_coef, double *memory, uint64_t places, double saturated,
-                                        double *out);
-uint32_t room_raw_tape_delay_silent(uint64_t write_pos, double smoothed_delay, uint32_t delay_primed, uint32_t waiting,
-                                    double kept_audio, double kept_read, double kept_mix, double sample_rate,
-                                    double delay_smooth_coef, const double *memory, uint64_t places, uint32_t *out);
+                                    uint32_t *write_pos, double *smoothed_delay, double *kept_audio, double *kept_read,
+                                    double *kept_mix, double *sample_rate, double *delay_smooth_coef,
+                                    uint32_t *delay_primed, uint32_t *waiting);
+uint32_t room_raw_tape_delay_reset(double *memory, uint64_t places, uint32_t *write_pos, double *smoothed_delay,
+                                   double *kept_audio, double *kept_read, double *kept_mix, double sample_rate,
+                                   double delay_smooth_coef, uint32_t *delay_primed, uint32_t *waiting);
+uint32_t room_raw_tape_delay_read_half(uint32_t write_pos, double *smoothed_delay, double *kept_audio, double *kept_read,
+                                       double *kept_mix, double sample_rate, double delay_smooth_coef,
+                                       uint32_t *delay_primed, uint32_t *waiting, const double *memory, uint64_t places,
+                                       uint32_t set, double audio, double time, double feedback, double mix, double *sum,
+                                       uint32_t *age);
+uint32_t room_raw_tape_delay_store_half(uint32_t *write_pos, double smoothed_delay, double *kept_audio, double *kept_read,
+                                        double *kept_mix, double sample_rate, double delay_smooth_coef,
+                                        uint32_t delay_primed, uint32_t *waiting, double *memory, uint64_t places,
+                                        double saturated, double *out);
+uint32_t room_raw_tape_delay_silent(uint32_t write_pos, double smoothed_delay, double kept_audio, double kept_read,
+                                    double kept_mix, double sample_rate, double delay_smooth_coef, uint32_t delay_primed,
+                                    uint32_t waiting, const double *memory, uint64_t places, uint32_t *out);
 
-uint32_t room_raw_reverb_start(double new_sample_rate, double *memory, uint64_t places, uint64_t comb_pos_l[8],
-                               uint64_t comb_pos_r[8], double comb_filter_state_l[8], double comb_filter_state_r[8],
-                               uint64_t allpass_pos_l[4], uint64_t allpass_pos_r[4], uint64_t *predelay_pos,
+uint32_t room_raw_reverb_start(double new_sample_rate, double *memory, uint64_t places, uint32_t comb_pos_l[8],
+                               uint32_t comb_pos_r[8], uint32_t allpass_pos_l[4], uint32_t allpass_pos_r[4],
+                               uint32_t *predelay_pos, double comb_filter_state_l[8], double comb_filter_state_r[8],
                                double *sample_rate);
-uint32_t room_raw_reverb_retune(double new_sample_rate, double *memory, uint64_t places, uint64_t comb_pos_l[8],
-                                uint64_t comb_pos_r[8], double comb_filter_state_l[8], double comb_filter_state_r[8],
-                                uint64_t allpass_pos_l[4], uint64_t allpass_pos_r[4], uint64_t *predelay_pos,
+uint32_t room_raw_reverb_retune(double new_sample_rate, double *memory, uint64_t places, uint32_t comb_pos_l[8],
+                                uint32_t comb_pos_r[8], uint32_t allpass_pos_l[4], uint32_t allpass_pos_r[4],
+                                uint32_t *predelay_pos, double comb_filter_state_l[8], double comb_filter_state_r[8],
                                 double *sample_rate);
-uint32_t room_raw_reverb_reset(double *memory, uint64_t places, uint64_t comb_pos_l[8], uint64_t comb_pos_r[8],
-                               double comb_filter_state_l[8], double comb_filter_state_r[8], uint64_t allpass_pos_l[4],
-                               uint64_t allpass_pos_r[4], uint64_t *predelay_pos, double sample_rate);
-uint32_t room_raw_reverb_tick(uint64_t comb_pos_l[8], uint64_t comb_pos_r[8], double comb_filter_state_l[8],
-                              double comb_filter_state_r[8], uint64_t allpass_pos_l[4], uint64_t allpass_pos_r[4],
-                              uint64_t *predelay_pos, double sample_rate, double *memory, uint64_t places, uint32_t set,
-                              double audio, double size, double damping, double mix, double predelay, double out[2]);
-uint32_t room_raw_reverb_silent(const uint64_t comb_pos_l[8], const uint64_t comb_pos_r[8],
-                                const double comb_filter_state_l[8], const double comb_filter_state_r[8],
-                                const uint64_t allpass_pos_l[4], const uint64_t allpass_pos_r[4], uint64_t predelay_pos,
-                                double sample_rate, const double *memory, uint64_t places, uint32_t *out);
+uint32_t room_raw_reverb_reset(double *memory, uint64_t places, uint32_t comb_pos_l[8], uint32_t comb_pos_r[8],
+                               uint32_t allpass_pos_l[4], uint32_t allpass_pos_r[4], uint32_t *predelay_pos,
+                               double comb_filter_state_l[8], double comb_filter_state_r[8], double sample_rate);
+uint32_t room_raw_reverb_tick(uint32_t comb_pos_l[8], uint32_t comb_pos_r[8], uint32_t allpass_pos_l[4],
+                              uint32_t allpass_pos_r[4], uint32_t *predelay_pos, double comb_filter_state_l[8],
+                              double comb_filter_state_r[8], double sample_rate, double *memory, uint64_t places,
+                              uint32_t set, double audio, double size, double damping, double mix, double predelay,
+                              double out[2]);
+uint32_t room_raw_reverb_silent(const uint32_t comb_pos_l[8], const uint32_t comb_pos_r[8], const uint32_t allpass_pos_l[4],
+                                const uint32_t allpass_pos_r[4], uint32_t predelay_pos, const double comb_filter_state_l[8],
+                                const double comb_filter_state_r[8], double sample_rate, const double *memory,
+                                uint64_t places, uint32_t *out);
 
 uint32_t room_raw_phaser_start(double new_sample_rate, double allpass_x1_l[6], double allpass_x1_r[6],
                                double allpass_y1_l[6], double allpass_y1_r[6], double *lfo_phase, double *sample_rate);
@@ -424,7 +429,7 @@ static inline uint32_t room_tremolo_silent(const room_tremolo *state, int *silen
 /* The vibrato. One line, n = 20: at 44,100 it needs 892 places, at 8,000 170, at 192,000 3,850. */
 
 typedef struct room_vibrato {
-    uint64_t write_pos; /* below L */
+    uint32_t write_pos; /* below L */
     double lfo_phase;   /* at least 0 and below 1 */
     double sample_rate; /* 8,000 to 192,000 */
 } room_vibrato;
@@ -476,7 +481,7 @@ static inline uint32_t room_vibrato_silent(const room_vibrato *state, const doub
 /* The chorus. One line, n = 32: at 44,100 it needs 1,421 places, at 8,000 266, at 192,000 6,154. */
 
 typedef struct room_chorus {
-    uint64_t write_pos;   /* below L */
+    uint32_t write_pos;   /* below L */
     double lfo_phases[3]; /* each at least 0 and below 1 */
     double sample_rate;   /* 8,000 to 192,000 */
 } room_chorus;
@@ -529,7 +534,7 @@ static inline uint32_t room_chorus_silent(const room_chorus *state, const double
 /* The flanger. Two lines, n = 10: at 44,100 it needs 2 x 451 places, at 8,000 2 x 90, at 192,000 2 x 1,930. */
 
 typedef struct room_flanger {
-    uint64_t write_pos; /* below L; one for the two lines */
+    uint32_t write_pos; /* below L; one for the two lines */
     double lfo_phase;   /* at least 0 and below 1 */
     double sample_rate; /* 8,000 to 192,000 */
 } room_flanger;
@@ -590,12 +595,12 @@ static inline uint32_t room_flanger_silent(const room_flanger *state, const doub
  */
 
 typedef struct room_delay {
-    uint64_t write_pos;       /* below L */
+    uint32_t write_pos;       /* below L */
     double smoothed_delay;    /* how many places back the last tick read: 1 to L - 1; +0, sign included, while not primed */
-    uint32_t delay_primed;    /* a flag: whether a tick has read since the last start, retune or reset */
     double sample_rate;       /* 8,000 to 192,000 */
     double delay_smooth_coef; /* of the glide: at least 0 and below 1 */
     double max_delay_secs;    /* the maximum: 0.001 to 60 */
+    uint32_t delay_primed;    /* a flag: whether a tick has read since the last start, retune or reset */
     uint32_t linear_time;     /* a flag: whether ticks take their time from the time port, in seconds, not in milliseconds */
 } room_delay;
 
@@ -608,8 +613,8 @@ static inline uint32_t room_delay_start(room_delay *state, double *memory, uint6
                                         double max_delay_secs, double delay_smooth_coef, uint32_t linear_time)
 {
     return room_raw_delay_start(sample_rate, max_delay_secs, delay_smooth_coef, linear_time, memory, places,
-                                &state->write_pos, &state->smoothed_delay, &state->delay_primed, &state->sample_rate,
-                                &state->delay_smooth_coef, &state->max_delay_secs, &state->linear_time);
+                                &state->write_pos, &state->smoothed_delay, &state->sample_rate, &state->delay_smooth_coef,
+                                &state->max_delay_secs, &state->delay_primed, &state->linear_time);
 }
 
 /*
@@ -620,15 +625,15 @@ static inline uint32_t room_delay_retune(room_delay *state, double *memory, uint
                                          double delay_smooth_coef)
 {
     return room_raw_delay_retune(sample_rate, delay_smooth_coef, memory, places, &state->write_pos, &state->smoothed_delay,
-                                 &state->delay_primed, &state->sample_rate, &state->delay_smooth_coef,
-                                 state->max_delay_secs, state->linear_time);
+                                 &state->sample_rate, &state->delay_smooth_coef, state->max_delay_secs,
+                                 &state->delay_primed, state->linear_time);
 }
 
 /* Position 0, not primed, smoothed_delay +0, +0 in every place; the rest stays. Refusals: 4, 3. */
 static inline uint32_t room_delay_reset(room_delay *state, double *memory, uint64_t places)
 {
-    return room_raw_delay_reset(memory, places, &state->write_pos, &state->smoothed_delay, &state->delay_primed,
-                                state->sample_rate, state->delay_smooth_coef, state->max_delay_secs, state->linear_time);
+    return room_raw_delay_reset(memory, places, &state->write_pos, &state->smoothed_delay, state->sample_rate,
+                                state->delay_smooth_coef, state->max_delay_secs, &state->delay_primed, state->linear_time);
 }
 
 /*
@@ -646,8 +651,8 @@ static inline uint32_t room_delay_tick(room_delay *state, double *memory, uint64
                                        room_port feedback, room_port mix, double milliseconds, double out[1],
                                        uint32_t *age)
 {
-    return room_raw_delay_tick(&state->write_pos, &state->smoothed_delay, &state->delay_primed, state->sample_rate,
-                               state->delay_smooth_coef, state->max_delay_secs, state->linear_time, memory, places,
+    return room_raw_delay_tick(&state->write_pos, &state->smoothed_delay, state->sample_rate, state->delay_smooth_coef,
+                               state->max_delay_secs, &state->delay_primed, state->linear_time, memory, places,
                                room_set_mask(audio, time, feedback) | room_set_bit(mix, 8u), audio.value, time.value,
                                feedback.value, mix.value, milliseconds, out, age);
 }
@@ -656,8 +661,8 @@ static inline uint32_t room_delay_tick(room_delay *state, double *memory, uint64
 static inline uint32_t room_delay_silent(const room_delay *state, const double *memory, uint64_t places, int *silent)
 {
     uint32_t yes = 0u;
-    const uint32_t number = room_raw_delay_silent(state->write_pos, state->smoothed_delay, state->delay_primed,
-                                                  state->sample_rate, state->delay_smooth_coef, state->max_delay_secs,
+    const uint32_t number = room_raw_delay_silent(state->write_pos, state->smoothed_delay, state->sample_rate,
+                                                  state->delay_smooth_coef, state->max_delay_secs, state->delay_primed,
                                                   state->linear_time, memory, places, &yes);
     *silent = yes != 0u;
     return number;
@@ -691,15 +696,15 @@ static inline uint32_t room_delay_silent(const room_delay *state, const double *
  */
 
 typedef struct room_tape_delay {
-    uint64_t write_pos;       /* below L */
+    uint32_t write_pos;       /* below L */
     double smoothed_delay;    /* how many places back the last read was: 1 to L - 1; +0, sign included, while not primed */
-    uint32_t delay_primed;    /* a flag: whether a read half has read since the last start, retune or reset */
-    uint32_t waiting;         /* a flag: whether a read waits for its store half */
     double kept_audio;        /* of a read that waits the audio, any float; +0, sign included, while none waits */
     double kept_read;         /* what was read, any float; likewise */
     double kept_mix;          /* the mix, 0 to 1; likewise */
     double sample_rate;       /* 8,000 to 192,000 */
     double delay_smooth_coef; /* of the glide: at least 0 and below 1 */
+    uint32_t delay_primed;    /* a flag: whether a read half has read since the last start, retune or reset */
+    uint32_t waiting;         /* a flag: whether a read waits for its store half */
 } room_tape_delay;
 
 /*
@@ -710,8 +715,8 @@ static inline uint32_t room_tape_delay_start(room_tape_delay *state, double *mem
                                              double delay_smooth_coef)
 {
     return room_raw_tape_delay_start(sample_rate, delay_smooth_coef, memory, places, &state->write_pos,
-                                     &state->smoothed_delay, &state->delay_primed, &state->waiting, &state->kept_audio,
-                                     &state->kept_read, &state->kept_mix, &state->sample_rate, &state->delay_smooth_coef);
+                                     &state->smoothed_delay, &state->kept_audio, &state->kept_read, &state->kept_mix,
+                                     &state->sample_rate, &state->delay_smooth_coef, &state->delay_primed, &state->waiting);
 }
 
 /*
@@ -722,16 +727,17 @@ static inline uint32_t room_tape_delay_retune(room_tape_delay *state, double *me
                                               double delay_smooth_coef)
 {
     return room_raw_tape_delay_retune(sample_rate, delay_smooth_coef, memory, places, &state->write_pos,
-                                      &state->smoothed_delay, &state->delay_primed, &state->waiting, &state->kept_audio,
-                                      &state->kept_read, &state->kept_mix, &state->sample_rate, &state->delay_smooth_coef);
+                                      &state->smoothed_delay, &state->kept_audio, &state->kept_read, &state->kept_mix,
+                                      &state->sample_rate, &state->delay_smooth_coef, &state->delay_primed,
+                                      &state->waiting);
 }
 
 /* Position 0, not primed, smoothed_delay +0, no read that waits, +0 in every place; the rest stays. Refusals: 4, 3. */
 static inline uint32_t room_tape_delay_reset(room_tape_delay *state, double *memory, uint64_t places)
 {
-    return room_raw_tape_delay_reset(memory, places, &state->write_pos, &state->smoothed_delay, &state->delay_primed,
-                                     &state->waiting, &state->kept_audio, &state->kept_read, &state->kept_mix,
-                                     state->sample_rate, state->delay_smooth_coef);
+    return room_raw_tape_delay_reset(memory, places, &state->write_pos, &state->smoothed_delay, &state->kept_audio,
+                                     &state->kept_read, &state->kept_mix, state->sample_rate, state->delay_smooth_coef,
+                                     &state->delay_primed, &state->waiting);
 }
 
 /*
@@ -747,9 +753,9 @@ static inline uint32_t room_tape_delay_read_half(room_tape_delay *state, const d
                                                  room_port audio, room_port time, room_port feedback, room_port mix,
                                                  double *sum, uint32_t *age)
 {
-    return room_raw_tape_delay_read_half(state->write_pos, &state->smoothed_delay, &state->delay_primed, &state->waiting,
-                                         &state->kept_audio, &state->kept_read, &state->kept_mix, state->sample_rate,
-                                         state->delay_smooth_coef, memory, places,
+    return room_raw_tape_delay_read_half(state->write_pos, &state->smoothed_delay, &state->kept_audio, &state->kept_read,
+                                         &state->kept_mix, state->sample_rate, state->delay_smooth_coef,
+                                         &state->delay_primed, &state->waiting, memory, places,
                                          room_set_mask(audio, time, feedback) | room_set_bit(mix, 8u), audio.value,
                                          time.value, feedback.value, mix.value, sum, age);
 }
@@ -762,9 +768,9 @@ static inline uint32_t room_tape_delay_read_half(room_tape_delay *state, const d
 static inline uint32_t room_tape_delay_store_half(room_tape_delay *state, double *memory, uint64_t places, double saturated,
                                                   double out[1])
 {
-    return room_raw_tape_delay_store_half(&state->write_pos, state->smoothed_delay, state->delay_primed, &state->waiting,
-                                          &state->kept_audio, &state->kept_read, &state->kept_mix, state->sample_rate,
-                                          state->delay_smooth_coef, memory, places, saturated, out);
+    return room_raw_tape_delay_store_half(&state->write_pos, state->smoothed_delay, &state->kept_audio, &state->kept_read,
+                                          &state->kept_mix, state->sample_rate, state->delay_smooth_coef,
+                                          state->delay_primed, &state->waiting, memory, places, saturated, out);
 }
 
 /*
@@ -776,9 +782,9 @@ static inline uint32_t room_tape_delay_silent(const room_tape_delay *state, cons
 {
     uint32_t yes = 0u;
     const uint32_t number =
-        room_raw_tape_delay_silent(state->write_pos, state->smoothed_delay, state->delay_primed, state->waiting,
-                                   state->kept_audio, state->kept_read, state->kept_mix, state->sample_rate,
-                                   state->delay_smooth_coef, memory, places, &yes);
+        room_raw_tape_delay_silent(state->write_pos, state->smoothed_delay, state->kept_audio, state->kept_read,
+                                   state->kept_mix, state->sample_rate, state->delay_smooth_coef, state->delay_primed,
+                                   state->waiting, memory, places, &yes);
     *silent = yes != 0u;
     return number;
 }
@@ -798,38 +804,38 @@ static inline uint32_t room_tape_delay_silent(const room_tape_delay *state, cons
  */
 
 typedef struct room_reverb {
-    uint64_t comb_pos_l[8]; /* each below its comb's length, left and right */
-    uint64_t comb_pos_r[8];
+    uint32_t comb_pos_l[8]; /* each below its comb's length, left and right */
+    uint32_t comb_pos_r[8];
+    uint32_t allpass_pos_l[4]; /* each below its all-pass's length */
+    uint32_t allpass_pos_r[4];
+    uint32_t predelay_pos;         /* below 9,600 */
     double comb_filter_state_l[8]; /* the combs' damping stores: any floats */
     double comb_filter_state_r[8];
-    uint64_t allpass_pos_l[4]; /* each below its all-pass's length */
-    uint64_t allpass_pos_r[4];
-    uint64_t predelay_pos; /* below 9,600 */
-    double sample_rate;    /* 8,000 to 192,000 */
+    double sample_rate; /* 8,000 to 192,000 */
 } room_reverb;
 
 /* A reverb at this rate: positions 0, damping stores +0, +0 in every place. Refusals: 1, 3. */
 static inline uint32_t room_reverb_start(room_reverb *state, double *memory, uint64_t places, double sample_rate)
 {
-    return room_raw_reverb_start(sample_rate, memory, places, state->comb_pos_l, state->comb_pos_r,
-                                 state->comb_filter_state_l, state->comb_filter_state_r, state->allpass_pos_l,
-                                 state->allpass_pos_r, &state->predelay_pos, &state->sample_rate);
+    return room_raw_reverb_start(sample_rate, memory, places, state->comb_pos_l, state->comb_pos_r, state->allpass_pos_l,
+                                 state->allpass_pos_r, &state->predelay_pos, state->comb_filter_state_l,
+                                 state->comb_filter_state_r, &state->sample_rate);
 }
 
 /* As a new start: positions 0, damping stores +0, +0 in every place, the same rate or another. Refusals: 4, 1, 3. */
 static inline uint32_t room_reverb_retune(room_reverb *state, double *memory, uint64_t places, double sample_rate)
 {
-    return room_raw_reverb_retune(sample_rate, memory, places, state->comb_pos_l, state->comb_pos_r,
-                                  state->comb_filter_state_l, state->comb_filter_state_r, state->allpass_pos_l,
-                                  state->allpass_pos_r, &state->predelay_pos, &state->sample_rate);
+    return room_raw_reverb_retune(sample_rate, memory, places, state->comb_pos_l, state->comb_pos_r, state->allpass_pos_l,
+                                  state->allpass_pos_r, &state->predelay_pos, state->comb_filter_state_l,
+                                  state->comb_filter_state_r, &state->sample_rate);
 }
 
 /* Positions 0, damping stores +0, +0 in every place; the rate stays. Refusals: 4, 3. */
 static inline uint32_t room_reverb_reset(room_reverb *state, double *memory, uint64_t places)
 {
-    return room_raw_reverb_reset(memory, places, state->comb_pos_l, state->comb_pos_r, state->comb_filter_state_l,
-                                 state->comb_filter_state_r, state->allpass_pos_l, state->allpass_pos_r,
-                                 &state->predelay_pos, state->sample_rate);
+    return room_raw_reverb_reset(memory, places, state->comb_pos_l, state->comb_pos_r, state->allpass_pos_l,
+                                 state->allpass_pos_r, &state->predelay_pos, state->comb_filter_state_l,
+                                 state->comb_filter_state_r, state->sample_rate);
 }
 
 /*
@@ -844,9 +850,9 @@ static inline uint32_t room_reverb_reset(room_reverb *state, double *memory, uin
 static inline uint32_t room_reverb_tick(room_reverb *state, double *memory, uint64_t places, room_port audio, room_port size,
                                         room_port damping, room_port mix, room_port predelay, double out[2])
 {
-    return room_raw_reverb_tick(state->comb_pos_l, state->comb_pos_r, state->comb_filter_state_l,
-                                state->comb_filter_state_r, state->allpass_pos_l, state->allpass_pos_r,
-                                &state->predelay_pos, state->sample_rate, memory, places,
+    return room_raw_reverb_tick(state->comb_pos_l, state->comb_pos_r, state->allpass_pos_l, state->allpass_pos_r,
+                                &state->predelay_pos, state->comb_filter_state_l, state->comb_filter_state_r,
+                                state->sample_rate, memory, places,
                                 room_set_mask(audio, size, damping) | room_set_bit(mix, 8u) | room_set_bit(predelay, 16u),
                                 audio.value, size.value, damping.value, mix.value, predelay.value, out);
 }
@@ -859,8 +865,8 @@ static inline uint32_t room_reverb_silent(const room_reverb *state, const double
 {
     uint32_t yes = 0u;
     const uint32_t number =
-        room_raw_reverb_silent(state->comb_pos_l, state->comb_pos_r, state->comb_filter_state_l,
-                               state->comb_filter_state_r, state->allpass_pos_l, state->allpass_pos_r, state->predelay_pos,
+        room_raw_reverb_silent(state->comb_pos_l, state->comb_pos_r, state->allpass_pos_l, state->allpass_pos_r,
+                               state->predelay_pos, state->comb_filter_state_l, state->comb_filter_state_r,
                                state->sample_rate, memory, places, &yes);
     *silent = yes != 0u;
     return number;

@@ -4,3 +4,4 @@ pub mod Demand3
 pub mod Three
 pub mod StaysSilent
 pub mod HearsBack
+pub mod Narrow

@@ -19,7 +19,7 @@ use port::{Answer, Port, Refusal};
 
 #[derive(Clone, Copy)]
 pub struct Chorus {
-    pub write_pos: u64,
+    pub write_pos: u32,
     pub lfo_phases: [f64; 3],
     pub sample_rate: f64,
 }
@@ -55,7 +55,8 @@ impl Unit for Chorus {
     fn fitting_places(self) -> Option<u64> {
         let n = Chorus::line_length(self.sample_rate)?;
         let phases = self.lfo_phases;
-        let fits = self.write_pos < n && phases.iter().all(|phase| float64::phase_fits(*phase));
+        let fits = u64::from(self.write_pos) < n
+            && phases.iter().all(|phase| float64::phase_fits(*phase));
         fits.then_some(n)
     }
 }

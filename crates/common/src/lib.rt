@@ -128,16 +128,17 @@ fn place_before(n: usize, p: usize) -> usize
     p - 1
 }
 
-// The position after w in a line of n places.
-pub fn next_place(n: u64, w: u64) -> u64
-    requires { w < n }
+// The position after w in a line of n places, as a state keeps it.
+pub fn next_place(n: usize, w: usize) -> u32
+    requires inside { w < n }
+    requires short { n ≤ 4294967296 }
     ensures { result ≡ next_place n w }
 {
     let next = w + 1;
     if next >= n {
         return 0;
     }
-    next
+    next as u32
 }
 
 // A line of lent memory with its write position, as it is read.
@@ -188,10 +189,10 @@ impl<'a> Line<'a> {
     }
 
     // The position after this one.
-    pub fn next_place(self) -> u64
+    pub fn next_place(self) -> u32
         ensures { result ≡ next_place (length self.entry.places.now) self.entry.write_pos }
     {
-        next_place(self.places.len() as u64, self.write_pos as u64)
+        next_place(self.places.len(), self.write_pos)
     }
 }
 

@@ -8,6 +8,7 @@ use Rattle.common.specs.Signal.{sanitized, cause_number}
 use Rattle.common.specs.Reads.{Read}
 use Rattle.effect.specs.Parts.{first_places}
 use Rattle.effect.specs.Effect.{Effect, Page, effect_of, Write}
+use Rattle.effect.specs.Narrow.{Fields}
 use Rattle.delay_line.specs.declared.DelayLine.{DelayLine}
 use Rattle.delay_line.specs.declared.Settings.{Settings}
 use Rattle.delay_line.specs.declared.Retune.{Retune}
@@ -61,12 +62,12 @@ abbrev pub state_of : ℕ → Float → Bool → Settings → DelayLine
 state_of pos distance primed k =
     record {
       write_pos = pos;
-      sample_rate = k.rate;
-      max_delay_secs = k.maximum;
-      linear_time = k.linear;
       smoothed_delay = distance;
+      sample_rate = k.rate;
       delay_smooth_coef = k.coefficient;
+      max_delay_secs = k.maximum;
       delay_primed = primed;
+      linear_time = k.linear;
     }
 
 -- after every clearing: position 0, the glide unprimed with distance +0
@@ -82,10 +83,10 @@ abbrev pub reader : DelayLine → Reader
 reader s =
     record {
       write_pos = s.write_pos;
-      sample_rate = s.sample_rate;
-      max_delay_secs = s.max_delay_secs;
       smoothed_delay = s.smoothed_delay;
+      sample_rate = s.sample_rate;
       delay_smooth_coef = s.delay_smooth_coef;
+      max_delay_secs = s.max_delay_secs;
       delay_primed = s.delay_primed;
     }
 
@@ -178,3 +179,14 @@ page =
 
 abbrev pub delay_line : Effect
 delay_line = effect_of page
+
+-- ---- its state's fields, for the two widths of positions
+
+abbrev pub fields : Fields DelayLine
+fields =
+    record {
+      positions = λ s. (s.write_pos ∷ []) ∷ [];
+      floats = λ s. (s.smoothed_delay ∷ s.sample_rate ∷ s.delay_smooth_coef ∷ s.max_delay_secs ∷ []) ∷ [];
+      flags = λ s. s.delay_primed ∷ s.linear_time ∷ [];
+      map_positions = λ f s. state_of (f s.write_pos) s.smoothed_delay s.delay_primed (settings s);
+    }

@@ -37,11 +37,13 @@ size r = line_length r.sample_rate r.max_delay_secs
 unfoldable pub glide_fits : Bool → Float → ℕ → Bool
 glide_fits primed distance L = cond primed (in_range distance (float_of 1) (float_of (L - 1))) (is_plus_zero distance)
 
+-- position, coefficient and glide fit a line of L places
+abbrev pub fits_in_line : Reader → ℕ → Bool
+fits_in_line r L = ltb r.write_pos L && (coefficient_fits r.delay_smooth_coef && glide_fits r.delay_primed r.smoothed_delay L)
+
 -- what the state test asks of either effect
 unfoldable pub reader_fits : Reader → Bool
-reader_fits r =
-    (rate_fits r.sample_rate && maximum_fits r.max_delay_secs)
-    && (ltb r.write_pos (size r) && (coefficient_fits r.delay_smooth_coef && glide_fits r.delay_primed r.smoothed_delay (size r)))
+reader_fits r = (rate_fits r.sample_rate && maximum_fits r.max_delay_secs) && fits_in_line r (size r)
 
 -- ---- the distance
 

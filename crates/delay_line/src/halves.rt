@@ -3,7 +3,7 @@ ghost use Rattle.std.specs.Prelude.{◌≡◌, ◌≤◌, ◌<◌, true, ◌&&�
 ghost use Rattle.std.specs.Bool.{then_some};
 ghost use Rattle.float64.specs.Number.{is_number, rate_fits};
 ghost use Rattle.port.specs.Answer.{number_of};
-ghost use Rattle.delay_line.specs.Halves.{maximum_fits, line_length, settings_row, size, glide_fits, reader_fits, linear_ms, samples_of, glided, half_read, half_stored};
+ghost use Rattle.delay_line.specs.Halves.{maximum_fits, line_length, settings_row, size, glide_fits, reader_fits, fits_in_line, linear_ms, samples_of, glided, half_read, half_stored};
 
 use crate::DelayLine;
 use common::Line;
@@ -12,11 +12,11 @@ use port::Refusal;
 // What reads a line: its write position, the rate and the maximum that give its length, and the glide.
 #[derive(Clone, Copy)]
 pub struct Reader {
-    pub write_pos: u64,
-    pub sample_rate: f64,
-    pub max_delay_secs: f64,
+    pub write_pos: u32,
     pub smoothed_delay: f64,
+    pub sample_rate: f64,
     pub delay_smooth_coef: f64,
+    pub max_delay_secs: f64,
     pub delay_primed: bool,
 }
 
@@ -40,7 +40,7 @@ pub struct HalfRead {
 // What a store half comes to: the position after it, and what is heard.
 #[derive(Clone, Copy)]
 pub struct HalfStored {
-    pub write_pos: u64,
+    pub write_pos: u32,
     pub sample: f64,
 }
 
@@ -55,15 +55,35 @@ fn maximum_fits(seconds: f64) -> bool
     )
 }
 
-// The places of the line; none where the rate or the maximum is out of range.
+// The places of a line whose rate and maximum are in range.
 #[tactic(auto, using(crate::proofs::ReaderLaws::size_cases), unfolding(crate::specs::Halves::line_length))]
+fn length_within(rate: f64, maximum: f64) -> u64
+    requires { rate_fits rate && maximum_fits maximum ≡ true }
+    ensures { result ≡ line_length rate maximum }
+{
+    float64::whole_part_small(rate * maximum) + 1
+}
+
+// The places of the line; none where the rate or the maximum is out of range.
 pub fn line_length(rate: f64, maximum: f64) -> Option<u64>
     ensures { result ≡ then_some (rate_fits rate && maximum_fits maximum) (line_length rate maximum) }
 {
     if !(float64::rate_fits(rate) & maximum_fits(maximum)) {
         return None;
     }
-    Some(float64::whole_part_small(rate * maximum) + 1)
+    Some(length_within(rate, maximum))
+}
+
+// The same for a maximum that is in range. The tape's is a constant, whose test the compiler would leave in each of its halves.
+#[tactic(auto, using(float64::proofs::Tests::both))]
+pub fn line_length_held(rate: f64, maximum: f64) -> Option<u64>
+    requires { maximum_fits maximum ≡ true }
+    ensures { result ≡ then_some (rate_fits rate) (line_length rate maximum) }
+{
+    if !float64::rate_fits(rate) {
+        return None;
+    }
+    Some(length_within(rate, maximum))
 }
 
 // Causes 1, 2 and 3, the second of which no other effects have. A maximum out of range, which only a state that fails its test has, counts as a refused rate: the state
@@ -106,13 +126,18 @@ impl Reader {
         ensures { result ≡ then_some (reader_fits self) (size self) }
     {
         let n = line_length(self.sample_rate, self.max_delay_secs)?;
-        if self.write_pos >= n {
-            return None;
-        }
-        if !float64::coefficient_fits(self.delay_smooth_coef) {
-            return None;
-        }
-        self.glide_fits(n).then_some(n)
+        self.fits_in_line(n).then_some(n)
+    }
+
+    // Whether position, coefficient and glide fit a line of n places.
+    pub fn fits_in_line(self, n: u64) -> bool
+        requires n_at_least { 1 ≤ n }
+        requires n_bound { n ≤ 11520001 }
+        ensures { result ≡ fits_in_line self n }
+    {
+        u64::from(self.write_pos) < n
+            && float64::coefficient_fits(self.delay_smooth_coef)
+            && self.glide_fits(n)
     }
 
     // The glide distance in a line of n places: +0 while unprimed, else 1 to n - 1.
@@ -180,13 +205,15 @@ impl Reader {
 
 impl Kept {
     // The store half: `value` at the position, which moves on.
-    pub fn store_half(self, places: &mut [f64], write_pos: u64, value: f64) -> HalfStored
-        requires { write_pos < length places.old }
+    pub fn store_half(self, places: &mut [f64], write_pos: u32, value: f64) -> HalfStored
+        requires inside { write_pos < length places.old }
+        requires short { length places.old ≤ 4294967296 }
         ensures result { result ≡ half_stored (length places.old) write_pos self }
         ensures stored { places.new ≡ set places.old write_pos value }
     {
-        let next = common::next_place(places.len() as u64, write_pos);
-        places[write_pos as usize] = value;
+        let w = write_pos as usize;
+        let next = common::next_place(places.len(), w);
+        places[w] = value;
         HalfStored {
             write_pos: next,
             sample: common::blend(self.audio, self.read, self.mix),

@@ -15,20 +15,21 @@ mod halves;
 
 use effect::{Cleared, InMemory, InOnePart, Ticked, Unit};
 pub use halves::{
-    HalfRead, HalfStored, Kept, Reader, line_length, linear_ms, samples_of, settings_refusal,
+    HalfRead, HalfStored, Kept, Reader, line_length, line_length_held, linear_ms, samples_of,
+    settings_refusal,
 };
 use port::{Answer, Port, Refusal};
 
 #[derive(Clone, Copy)]
 pub struct DelayLine {
-    pub write_pos: u64,
-    pub sample_rate: f64,
-    pub max_delay_secs: f64,
-    pub linear_time: bool,
+    pub write_pos: u32,
     pub smoothed_delay: f64,
+    pub sample_rate: f64,
     pub delay_smooth_coef: f64,
+    pub max_delay_secs: f64,
     // No `Option` of the distance: C hands in and gets both numbers, and a state with the flag off and a distance other than +0 is refused.
     pub delay_primed: bool,
+    pub linear_time: bool,
 }
 
 // What is in force from one clearing to the next; also what a start is handed, with a maximum still to be held.
@@ -90,12 +91,12 @@ impl Settings {
     {
         DelayLine {
             write_pos: 0,
-            sample_rate: self.rate,
-            max_delay_secs: self.maximum,
-            linear_time: self.linear,
             smoothed_delay: 0.0,
+            sample_rate: self.rate,
             delay_smooth_coef: self.coefficient,
+            max_delay_secs: self.maximum,
             delay_primed: false,
+            linear_time: self.linear,
         }
     }
 }
@@ -221,10 +222,10 @@ impl DelayLine {
     {
         Reader {
             write_pos: self.write_pos,
-            sample_rate: self.sample_rate,
-            max_delay_secs: self.max_delay_secs,
             smoothed_delay: self.smoothed_delay,
+            sample_rate: self.sample_rate,
             delay_smooth_coef: self.delay_smooth_coef,
+            max_delay_secs: self.max_delay_secs,
             delay_primed: self.delay_primed,
         }
     }
@@ -264,7 +265,7 @@ impl DelayLine {
     }
 
     // The state after a tick that moved to the position and read at the distance: no other effect keeps one.
-    fn next(self, write_pos: u64, distance: f64) -> DelayLine
+    fn next(self, write_pos: u32, distance: f64) -> DelayLine
         ensures { result ≡ state_of write_pos distance true (settings self) }
     {
         DelayLine {

@@ -10,6 +10,7 @@ use Rattle.common.specs.Line.{swept_length, next_place}
 use Rattle.common.specs.Reads.{Read, heard}
 use Rattle.effect.specs.Parts.{first_places}
 use Rattle.effect.specs.Effect.{Effect, Page, effect_of, Write}
+use Rattle.effect.specs.Narrow.{Fields}
 use Rattle.flanger.specs.declared.Flanger.{Flanger}
 
 -- what a tick is handed: its ports, and the curve numbers frequency and two sines, the second at the phase plus half the spread
@@ -154,3 +155,14 @@ page =
 
 abbrev pub flanger : Effect
 flanger = effect_of page
+
+-- ---- its state's fields, for the two widths of positions
+
+abbrev pub fields : Fields Flanger
+fields =
+    record {
+      positions = λ s. (s.write_pos ∷ []) ∷ [];
+      floats = λ s. (s.lfo_phase ∷ s.sample_rate ∷ []) ∷ [];
+      flags = λ s. [];
+      map_positions = λ f s. state_of (f s.write_pos) s.lfo_phase s.sample_rate;
+    }

@@ -17,7 +17,7 @@ use port::{Answer, Port, Refusal};
 
 #[derive(Clone, Copy)]
 pub struct Flanger {
-    pub write_pos: u64,
+    pub write_pos: u32,
     pub lfo_phase: f64,
     pub sample_rate: f64,
 }
@@ -52,7 +52,7 @@ impl Unit for Flanger {
     #[tactic(auto, using(crate::proofs::Laws::length_fits), unfolding(crate::specs::Flanger::state_fits))]
     fn fitting_places(self) -> Option<u64> {
         let n = Flanger::line_length(self.sample_rate)?;
-        (self.write_pos < n && float64::phase_fits(self.lfo_phase)).then_some(2 * n)
+        (u64::from(self.write_pos) < n && float64::phase_fits(self.lfo_phase)).then_some(2 * n)
     }
 }
 

@@ -2,3 +2,4 @@ pub mod Laws
 pub mod Idle
 pub mod Demand1
 pub mod StaysSilent
+pub mod Narrow

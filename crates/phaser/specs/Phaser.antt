@@ -11,6 +11,7 @@ use Rattle.port.specs.Answer.{Reply, played}
 use Rattle.common.specs.Signal.{sanitized, blended, advanced, cause_number}
 use Rattle.common.specs.Line.{zeros, are_zeros}
 use Rattle.effect.specs.Effect.{Effect, Page, effect_of}
+use Rattle.effect.specs.Narrow.{Fields}
 use Rattle.phaser.specs.declared.Phaser.{Phaser}
 use Rattle.phaser.specs.declared.Lent.{Lent}
 use Rattle.phaser.specs.declared.allpass.Chain as lent
@@ -169,3 +170,14 @@ page =
 
 abbrev pub phaser : Effect
 phaser = effect_of page
+
+-- ---- its state's fields, for the two widths of positions
+
+abbrev pub fields : Fields Phaser
+fields =
+    record {
+      positions = λ s. [];
+      floats = λ s. s.allpass_x1_l ∷ s.allpass_x1_r ∷ s.allpass_y1_l ∷ s.allpass_y1_r ∷ (s.lfo_phase ∷ s.sample_rate ∷ []) ∷ [];
+      flags = λ s. [];
+      map_positions = λ f s. s;
+    }

@@ -17,25 +17,25 @@ const LEFT_STORES: u64 = 3;
 const RIGHT_STORES: u64 = 4;
 
 // The four positions in a word.
-fn unpacked(packed: u64) -> [u64; 4]
+fn unpacked(packed: u64) -> [u32; 4]
     ensures { result ≡ unpacked packed }
 {
     [
-        packed & 0xffff,
-        packed >> 16 & 0xffff,
-        packed >> 32 & 0xffff,
-        packed >> 48,
+        (packed & 0xffff) as u32,
+        (packed >> 16 & 0xffff) as u32,
+        (packed >> 32 & 0xffff) as u32,
+        (packed >> 48) as u32,
     ]
 }
 
-fn are_four_stored(positions: &[u64], packed: u64) -> bool
+fn are_four_stored(positions: &[u32], packed: u64) -> bool
     ensures { IsTrue result ↔ (positions.now ≡ unpacked packed) }
 {
     positions == unpacked(packed).as_slice()
 }
 
 // Whether eight positions are those packed from word i on; i is a byte, so that i + 1 is a number of a word too.
-fn are_eight_stored(positions: &[u64; 8], stored: &Record, i: u8) -> bool
+fn are_eight_stored(positions: &[u32; 8], stored: &Record, i: u8) -> bool
     ensures { IsTrue result ↔ (positions.now ≡ eight_from stored.now.bytes i) }
 {
     let at = usize::from(i);
@@ -62,7 +62,7 @@ pub fn is_stored(r: &Reverb, stored: &Record) -> bool
         && are_eight_stored(&r.comb_pos_r, stored, 11)
         && r.allpass_pos_l == unpacked(stored.word(13))
         && r.allpass_pos_r == unpacked(stored.word(14))
-        && r.predelay_pos == stored.word(15)
+        && u64::from(r.predelay_pos) == stored.word(15)
         && stored.are_held(looked(r, stored.word(0)))
 }
 

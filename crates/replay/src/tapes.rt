@@ -17,14 +17,15 @@ use delay_line::Kept;
 use effect::InMemory;
 use tape_delay::{Settings, TapeDelay};
 
-// The unit that a file's start leaves, at the position of its first tick: the end of the line is further from the first place than a file's ticks go.
+// The unit that a file's start leaves, at the position of its first tick: the end of the line is further from the first place than a file's ticks go. A position that
+// 32 bits do not hold becomes one that every call refuses.
 pub fn started(start: &Record, mem: &mut [f64]) -> TapeDelay {
     let handed = Settings {
         rate: start.float(1),
         coefficient: start.float(3),
     };
     TapeDelay {
-        write_pos: start.word(4),
+        write_pos: u32::try_from(start.word(4)).unwrap_or(u32::MAX),
         ..TapeDelay::new(handed, mem).state
     }
 }
@@ -47,7 +48,7 @@ fn is_none_kept(kept: Kept) -> bool
 pub fn is_stored(t: &TapeDelay, stored: &Record) -> bool
     ensures { IsTrue result ↔ IsTapeStored t.now stored.now.bytes }
 {
-    t.write_pos == stored.word(9)
+    u64::from(t.write_pos) == stored.word(9)
         && stored.holds(10, t.smoothed_delay)
         && t.delay_primed == (stored.word(11) == 1)
         && !t.waiting

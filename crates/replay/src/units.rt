@@ -310,16 +310,18 @@ impl Unit {
     {
         match self {
             Unit::Tremolo => true,
-            Unit::Vibrato(v) => v.write_pos == stored.word(8) && stored.holds(9, v.lfo_phase),
+            Unit::Vibrato(v) => u64::from(v.write_pos) == stored.word(8)
+                && stored.holds(9, v.lfo_phase),
             Unit::Chorus(c) => {
-                c.write_pos == stored.word(12)
+                u64::from(c.write_pos) == stored.word(12)
                     && stored.holds(13, c.lfo_phases[0])
                     && stored.holds(14, c.lfo_phases[1])
                     && stored.holds(15, c.lfo_phases[2])
             }
-            Unit::Flanger(f) => f.write_pos == stored.word(12) && stored.holds(13, f.lfo_phase),
+            Unit::Flanger(f) => u64::from(f.write_pos) == stored.word(12)
+                && stored.holds(13, f.lfo_phase),
             Unit::Delay(d) => {
-                d.write_pos == stored.word(8)
+                u64::from(d.write_pos) == stored.word(8)
                     && stored.holds(9, d.smoothed_delay)
                     && d.delay_primed == (stored.word(10) == 1)
             }

@@ -8,3 +8,4 @@ pub mod Ticks
 pub mod Used
 pub mod Demand1
 pub mod StaysSilent
+pub mod Narrow

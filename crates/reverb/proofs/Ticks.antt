@@ -148,7 +148,7 @@ module _ (c : Controls) (s : Reverb) (m : List Float) (f : Fits s) where
     pub advances : {p : ℕ} {l r : Float} → p ≡ next_place predelay_size s.predelay_pos
         → l ≡ blended (input c) outl (mix c)
         → r ≡ blended (input c) outr (mix c)
-        → Advances c s m (state_of wl wr zl zr vl vr p s.sample_rate) n5 (played (l ∷ r ∷ []) 0)
+        → Advances c s m (state_of wl wr vl vr p zl zr s.sample_rate) n5 (played (l ∷ r ∷ []) 0)
     unfolding page.next page.samples
     advances p l r =
         let comb-l = combs-moved left cl into damped fed first combs-left combl in
@@ -160,7 +160,7 @@ module _ (c : Controls) (s : Reverb) (m : List Float) (f : Fits s) where
         let wet-l = wet-is left pl suml-is third passes-left passl in
         let wet-r = wet-is right pr sumr-is fourth passes-right passr in
         record {
-          state = λ j. state_of (comb-l j) (comb-r j) (store-l j) (store-r j) (pass-l j) (pass-r j) (p j) s.sample_rate;
+          state = λ j. state_of (comb-l j) (comb-r j) (pass-l j) (pass-r j) (p j) (store-l j) (store-r j) s.sample_rate;
           memory = passes-written right pr sumr-is fourth passes-right passr ∙ written;
           answer = λ j. played ((l ∙ (λ k. blended (input c) (wet-l k) (mix c))) j ∷ (r ∙ (λ k. blended (input c) (wet-r k) (mix c))) j ∷ []) 0;
         }

@@ -1,5 +1,5 @@
 -- The reverb: a predelay, and on each side eight combs in parallel, summed, and four all-passes in series. Definitions only. Assumes nothing.
-use Rattle.std.specs.Prelude.{◌≡◌, ℕ, ◌+◌, ◌-◌, Bool, cond, ◌&&◌, ◌||◌, List, [], ◌∷◌, ◌++◌, replicate, Float}
+use Rattle.std.specs.Prelude.{◌≡◌, ℕ, ◌+◌, ◌-◌, Bool, cond, ◌&&◌, ◌||◌, List, [], ◌∷◌, ◌++◌, map, replicate, Float}
 use Rattle.std.specs.Float.{binary64}
 use Rattle.std.specs.Float.Ieee.{add, mul}
 use Rattle.float64.specs.Number.{plus_zero, float_of, fraction, half, rate_fits, clamp_of, at_most, whole_part}
@@ -9,6 +9,7 @@ use Rattle.port.specs.Answer.{Reply, played}
 use Rattle.common.specs.Signal.{sanitized, blended}
 use Rattle.common.specs.Line.{zeros, are_zeros, next_place, table}
 use Rattle.effect.specs.Effect.{Effect, Page, effect_of, Write, laid}
+use Rattle.effect.specs.Narrow.{Fields}
 use Rattle.reverb.specs.declared.tick.Controls.{Controls}
 use Rattle.reverb.specs.declared.Reverb.{Reverb}
 use Rattle.reverb.specs.declared.Lent.{Lent}
@@ -29,39 +30,39 @@ tick_of audio size damping mix predelay = record { audio = audio; size = size; d
 -- ---- states
 
 -- a state of these parts
-abbrev pub state_of : List ℕ → List ℕ → List Float → List Float → List ℕ → List ℕ → ℕ → Float → Reverb
-state_of combl combr storesl storesr passl passr predelay rate =
+abbrev pub state_of : List ℕ → List ℕ → List ℕ → List ℕ → ℕ → List Float → List Float → Float → Reverb
+state_of combl combr passl passr predelay storesl storesr rate =
     record {
       comb_pos_l = combl;
       comb_pos_r = combr;
-      comb_filter_state_l = storesl;
-      comb_filter_state_r = storesr;
       allpass_pos_l = passl;
       allpass_pos_r = passr;
       predelay_pos = predelay;
+      comb_filter_state_l = storesl;
+      comb_filter_state_r = storesr;
       sample_rate = rate;
     }
 
 -- what is lent, as a state
 abbrev pub lent_state : Lent → Reverb
 lent_state l =
-    state_of l.comb_pos_l.now l.comb_pos_r.now l.comb_filter_state_l.now l.comb_filter_state_r.now l.allpass_pos_l.now l.allpass_pos_r.now l.predelay_pos.now
+    state_of l.comb_pos_l.now l.comb_pos_r.now l.allpass_pos_l.now l.allpass_pos_r.now l.predelay_pos.now l.comb_filter_state_l.now l.comb_filter_state_r.now
     l.sample_rate
 
 -- the parts of l' lie where those of l do, and its rate is that of l
 pub record SameParts (l l' : Lent) : Type 0 where
   pub comb_pos_l : l'.comb_pos_l.ghost_name ≡ l.comb_pos_l.ghost_name
   pub comb_pos_r : l'.comb_pos_r.ghost_name ≡ l.comb_pos_r.ghost_name
-  pub comb_filter_state_l : l'.comb_filter_state_l.ghost_name ≡ l.comb_filter_state_l.ghost_name
-  pub comb_filter_state_r : l'.comb_filter_state_r.ghost_name ≡ l.comb_filter_state_r.ghost_name
   pub allpass_pos_l : l'.allpass_pos_l.ghost_name ≡ l.allpass_pos_l.ghost_name
   pub allpass_pos_r : l'.allpass_pos_r.ghost_name ≡ l.allpass_pos_r.ghost_name
   pub predelay_pos : l'.predelay_pos.ghost_name ≡ l.predelay_pos.ghost_name
+  pub comb_filter_state_l : l'.comb_filter_state_l.ghost_name ≡ l.comb_filter_state_l.ghost_name
+  pub comb_filter_state_r : l'.comb_filter_state_r.ghost_name ≡ l.comb_filter_state_r.ghost_name
   pub sample_rate : l'.sample_rate ≡ l.sample_rate
 
 -- after a start, a retune and a reset: positions 0, damping stores +0
 abbrev pub fresh : Float → Reverb
-fresh rate = state_of (replicate 8 0) (replicate 8 0) (zeros 8) (zeros 8) (replicate 4 0) (replicate 4 0) 0 rate
+fresh rate = state_of (replicate 8 0) (replicate 8 0) (replicate 4 0) (replicate 4 0) 0 (zeros 8) (zeros 8) rate
 
 -- what a refused start gives
 abbrev pub blank : Reverb
@@ -144,11 +145,11 @@ next c s m =
     record {
       comb_pos_l = table (next_position (combs s left)) 8;
       comb_pos_r = table (next_position (combs s right)) 8;
-      comb_filter_state_l = table (comb_stored (damping c) (stores s left) (combs_held (combs s left) m)) 8;
-      comb_filter_state_r = table (comb_stored (damping c) (stores s right) (combs_held (combs s right) m)) 8;
       allpass_pos_l = table (next_position (allpasses s left)) 4;
       allpass_pos_r = table (next_position (allpasses s right)) 4;
       predelay_pos = next_place predelay_size s.predelay_pos;
+      comb_filter_state_l = table (comb_stored (damping c) (stores s left) (combs_held (combs s left) m)) 8;
+      comb_filter_state_r = table (comb_stored (damping c) (stores s right) (combs_held (combs s right) m)) 8;
       sample_rate = s.sample_rate;
     }
 
@@ -199,3 +200,16 @@ page =
 
 abbrev pub reverb : Effect
 reverb = effect_of page
+
+-- ---- its state's fields, for the two widths of positions
+
+abbrev pub fields : Fields Reverb
+fields =
+    record {
+      positions = λ s. s.comb_pos_l ∷ s.comb_pos_r ∷ s.allpass_pos_l ∷ s.allpass_pos_r ∷ (s.predelay_pos ∷ []) ∷ [];
+      floats = λ s. s.comb_filter_state_l ∷ s.comb_filter_state_r ∷ (s.sample_rate ∷ []) ∷ [];
+      flags = λ s. [];
+      map_positions = λ f s.
+          state_of (map f s.comb_pos_l) (map f s.comb_pos_r) (map f s.allpass_pos_l) (map f s.allpass_pos_r) (f s.predelay_pos) s.comb_filter_state_l s.comb_filter_state_r
+          s.sample_rate;
+    }

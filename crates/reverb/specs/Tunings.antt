@@ -86,15 +86,15 @@ abbrev pub lengths_at : Float → Lengths
 lengths_at rate =
     record {
       comb_l = comb_lengths left rate;
-      comb_r = comb_lengths right rate;
       allpass_l = allpass_lengths left rate;
+      comb_r = comb_lengths right rate;
       allpass_r = allpass_lengths right rate;
     }
 
 -- at a refused rate
 abbrev pub no_lengths : Lengths
 no_lengths =
-    record { comb_l = replicate 8 0; comb_r = replicate 8 0; allpass_l = replicate 4 0; allpass_r = replicate 4 0 }
+    record { comb_l = replicate 8 0; allpass_l = replicate 4 0; comb_r = replicate 8 0; allpass_r = replicate 4 0 }
 
 -- as the code finds them: none at a refused rate
 abbrev pub lengths_for : Float → Lengths

@@ -14,27 +14,28 @@ use crate::Reverb;
 pub struct Combed {
     pub output: f64,
     pub filter_state: f64,
-    pub pos: u64,
+    pub pos: u32,
 }
 
 // What a step of an all-pass answers, with its next position.
 #[derive(Clone, Copy)]
 pub struct Passed {
     pub output: f64,
-    pub pos: u64,
+    pub pos: u32,
 }
 
 // One step of a comb on its part of the tank.
 #[tactic(auto, unfolding(crate::specs::Freeverb::comb_store, crate::specs::Freeverb::comb_fed, crate::specs::Freeverb::combed, crate::specs::Freeverb::comb_line, float64::proofs::Literals::of_bits, float64::proofs::Literals::of_int))]
 pub fn process_comb(
     line: &mut [f64],
-    pos: u64,
+    pos: u32,
     filter_state: f64,
     input: f64,
     feedback: f64,
     damping: f64,
 ) -> Combed
-    requires { pos < ListN.length line.old }
+    requires inside { pos < ListN.length line.old }
+    requires short { ListN.length line.old ≤ comb_size }
     ensures value { result ≡ combed (ListN.get_or line.old pos nan) (ListN.length line.old) pos filter_state damping }
     ensures line_after { line.new ≡ comb_line line.old pos filter_state input damping feedback }
 {
@@ -45,14 +46,15 @@ pub fn process_comb(
     Combed {
         output,
         filter_state: store,
-        pos: common::next_place(line.len() as u64, pos),
+        pos: common::next_place(line.len(), w),
     }
 }
 
 // One step of an all-pass on its part of the tank.
 #[tactic(auto, unfolding(crate::specs::Freeverb::pass_output, crate::specs::Freeverb::pass_fed, crate::specs::Freeverb::passed, crate::specs::Freeverb::pass_line, float64::proofs::Literals::of_bits, float64::proofs::Literals::round))]
-pub fn process_allpass(line: &mut [f64], pos: u64, input: f64) -> Passed
-    requires { pos < ListN.length line.old }
+pub fn process_allpass(line: &mut [f64], pos: u32, input: f64) -> Passed
+    requires inside { pos < ListN.length line.old }
+    requires short { ListN.length line.old ≤ allpass_size }
     ensures value { result ≡ passed (ListN.get_or line.old pos nan) (ListN.length line.old) pos input }
     ensures line_after { line.new ≡ pass_line line.old pos input }
 {
@@ -61,7 +63,7 @@ pub fn process_allpass(line: &mut [f64], pos: u64, input: f64) -> Passed
     line[w] = input + buffered * 0.5;
     Passed {
         output: -input + buffered,
-        pos: common::next_place(line.len() as u64, pos),
+        pos: common::next_place(line.len(), w),
     }
 }
 
@@ -79,7 +81,7 @@ pub fn predelay_samples(control: f64, rate: f64) -> u64
 
 // The predelay on its part of the tank: it writes first, so that a delay of 0 passes the audio itself.
 #[tactic(auto, using(crate::proofs::Predelay::delayed_cases))]
-pub fn process_predelay(line: &mut [f64], pos: u64, samples: u64, input: f64) -> f64
+pub fn process_predelay(line: &mut [f64], pos: u32, samples: u64, input: f64) -> f64
     requires line_len { ListN.length line.old ≡ predelay_size }
     requires pos_lt_predelay_size { pos < predelay_size }
     requires samples_lt_predelay_size { samples < predelay_size }

@@ -63,7 +63,7 @@ impl Lent<'_> {
         let w = *self.predelay_pos;
         let line = &mut mem[Reverb::PREDELAY..Reverb::END];
         let delayed = process_predelay(line, w, samples, input);
-        *self.predelay_pos = common::next_place(Reverb::MAX_PREDELAY_SIZE as u64, w);
+        *self.predelay_pos = common::next_place(Reverb::MAX_PREDELAY_SIZE, w as usize);
         let sum_l = combs(
             self.comb_pos_l,
             self.comb_filter_state_l,
@@ -164,11 +164,11 @@ impl Reverb {
         let mut lent = Lent {
             comb_pos_l: &mut state.comb_pos_l,
             comb_pos_r: &mut state.comb_pos_r,
-            comb_filter_state_l: &mut state.comb_filter_state_l,
-            comb_filter_state_r: &mut state.comb_filter_state_r,
             allpass_pos_l: &mut state.allpass_pos_l,
             allpass_pos_r: &mut state.allpass_pos_r,
             predelay_pos: &mut state.predelay_pos,
+            comb_filter_state_l: &mut state.comb_filter_state_l,
+            comb_filter_state_r: &mut state.comb_filter_state_r,
             sample_rate: state.sample_rate,
         };
         let answer = lent.tick(mem, audio, size, damping, mix, predelay);

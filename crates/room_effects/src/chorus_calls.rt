@@ -12,7 +12,7 @@ use effect::{InMemory, InOnePart};
 use port::{Answer, number_of, silent_flag};
 
 // A chorus's position and phases into lent numbers; the rate is written, or kept, beside.
-fn put_chorus(state: Chorus, write_pos: &mut u64, lfo_phases: &mut [f64; 3])
+fn put_chorus(state: Chorus, write_pos: &mut u32, lfo_phases: &mut [f64; 3])
     ensures { state_of write_pos.new lfo_phases.new state.sample_rate ≡ state }
 {
     let phases = state.lfo_phases;
@@ -25,7 +25,7 @@ fn put_chorus(state: Chorus, write_pos: &mut u64, lfo_phases: &mut [f64; 3])
 pub extern "C" fn room_raw_chorus_start(
     new_sample_rate: f64,
     memory: &mut [f64],
-    write_pos: &mut u64,
+    write_pos: &mut u32,
     lfo_phases: &mut [f64; 3],
     sample_rate: &mut f64,
 ) -> u32
@@ -42,7 +42,7 @@ pub extern "C" fn room_raw_chorus_start(
 pub extern "C" fn room_raw_chorus_retune(
     new_sample_rate: f64,
     memory: &mut [f64],
-    write_pos: &mut u64,
+    write_pos: &mut u32,
     lfo_phases: &mut [f64; 3],
     sample_rate: &mut f64,
 ) -> u32
@@ -67,7 +67,7 @@ pub extern "C" fn room_raw_chorus_retune(
 #[unsafe(no_mangle)]
 pub extern "C" fn room_raw_chorus_reset(
     memory: &mut [f64],
-    write_pos: &mut u64,
+    write_pos: &mut u32,
     lfo_phases: &mut [f64; 3],
     sample_rate: f64,
 ) -> u32
@@ -90,7 +90,7 @@ pub extern "C" fn room_raw_chorus_reset(
 // A tick. The mask's bits say which ports are set: 1 audio, 2 depth, 4 mix.
 #[unsafe(no_mangle)]
 pub extern "C" fn room_raw_chorus_tick(
-    write_pos: &mut u64,
+    write_pos: &mut u32,
     lfo_phases: &mut [f64; 3],
     sample_rate: f64,
     memory: &mut [f64],
@@ -133,7 +133,7 @@ pub extern "C" fn room_raw_chorus_tick(
 
 #[unsafe(no_mangle)]
 pub extern "C" fn room_raw_chorus_silent(
-    write_pos: u64,
+    write_pos: u32,
     lfo_phases: &[f64; 3],
     sample_rate: f64,
     memory: &[f64],

@@ -14,25 +14,25 @@ use port::{Answer, number_of, silent_flag};
 
 // A delay's state from lent numbers.
 fn delay_of(
-    write_pos: u64,
+    write_pos: u32,
     smoothed_delay: f64,
-    delay_primed: u32,
     sample_rate: f64,
     delay_smooth_coef: f64,
     max_delay_secs: f64,
+    delay_primed: u32,
     linear_time: u32,
 ) -> DelayLine
-    ensures { result ≡ delay_of write_pos smoothed_delay (is_on delay_primed) sample_rate delay_smooth_coef max_delay_secs
+    ensures { result ≡ delay_of write_pos smoothed_delay sample_rate delay_smooth_coef max_delay_secs (is_on delay_primed)
         (is_on linear_time) }
 {
     DelayLine {
         write_pos,
-        sample_rate,
-        max_delay_secs,
-        linear_time: linear_time != 0,
         smoothed_delay,
+        sample_rate,
         delay_smooth_coef,
+        max_delay_secs,
         delay_primed: delay_primed != 0,
+        linear_time: linear_time != 0,
     }
 }
 
@@ -44,18 +44,18 @@ pub extern "C" fn room_raw_delay_start(
     new_delay_smooth_coef: f64,
     new_linear_time: u32,
     memory: &mut [f64],
-    write_pos: &mut u64,
+    write_pos: &mut u32,
     smoothed_delay: &mut f64,
-    delay_primed: &mut u32,
     sample_rate: &mut f64,
     delay_smooth_coef: &mut f64,
     max_delay_secs: &mut f64,
+    delay_primed: &mut u32,
     linear_time: &mut u32,
 ) -> u32
     ensures { StartReturns delay_line (handing new_sample_rate new_delay_smooth_coef new_max_delay_secs
         (is_on new_linear_time)) memory.old (device_of (delay_of write_pos.new
-        smoothed_delay.new (is_on delay_primed.new) sample_rate.new
-        delay_smooth_coef.new max_delay_secs.new (is_on linear_time.new))
+        smoothed_delay.new sample_rate.new delay_smooth_coef.new
+        max_delay_secs.new (is_on delay_primed.new) (is_on linear_time.new))
         memory.new) result × FlagWritten delay_primed.new × FlagWritten linear_time.new }
 {
     let started = DelayLine::with_max_delay(
@@ -67,10 +67,10 @@ pub extern "C" fn room_raw_delay_start(
     );
     *write_pos = started.state.write_pos;
     *smoothed_delay = started.state.smoothed_delay;
-    *delay_primed = u32::from(started.state.delay_primed);
     *sample_rate = started.state.sample_rate;
     *delay_smooth_coef = started.state.delay_smooth_coef;
     *max_delay_secs = started.state.max_delay_secs;
+    *delay_primed = u32::from(started.state.delay_primed);
     *linear_time = u32::from(started.state.linear_time);
     number_of(started.outcome)
 }
@@ -80,26 +80,26 @@ pub extern "C" fn room_raw_delay_retune(
     new_sample_rate: f64,
     new_delay_smooth_coef: f64,
     memory: &mut [f64],
-    write_pos: &mut u64,
+    write_pos: &mut u32,
     smoothed_delay: &mut f64,
-    delay_primed: &mut u32,
     sample_rate: &mut f64,
     delay_smooth_coef: &mut f64,
     max_delay_secs: f64,
+    delay_primed: &mut u32,
     linear_time: u32,
 ) -> u32
-    ensures { from_to (λ k. device_of (delay_of (lent_at write_pos k) (lent_at smoothed_delay k) (is_on (lent_at delay_primed k))
-        (lent_at sample_rate k) (lent_at delay_smooth_coef k) max_delay_secs (is_on linear_time)) (lent_at memory k))
+    ensures { from_to (λ k. device_of (delay_of (lent_at write_pos k) (lent_at smoothed_delay k) (lent_at sample_rate k)
+        (lent_at delay_smooth_coef k) max_delay_secs (is_on (lent_at delay_primed k)) (is_on linear_time)) (lent_at memory k))
         (λ u u'. CallReturns delay_line (retune (retuning new_sample_rate new_delay_smooth_coef)) u u' result)
         × from_to (lent_at delay_primed) (FlagLeft result) }
 {
     let state = delay_of(
         *write_pos,
         *smoothed_delay,
-        *delay_primed,
         *sample_rate,
         *delay_smooth_coef,
         max_delay_secs,
+        *delay_primed,
         linear_time,
     );
     let handed = Retune {
@@ -112,35 +112,35 @@ pub extern "C" fn room_raw_delay_retune(
     }
     *write_pos = cleared.state.write_pos;
     *smoothed_delay = cleared.state.smoothed_delay;
-    *delay_primed = u32::from(cleared.state.delay_primed);
     *sample_rate = cleared.state.sample_rate;
     *delay_smooth_coef = cleared.state.delay_smooth_coef;
+    *delay_primed = u32::from(cleared.state.delay_primed);
     0
 }
 
 #[unsafe(no_mangle)]
 pub extern "C" fn room_raw_delay_reset(
     memory: &mut [f64],
-    write_pos: &mut u64,
+    write_pos: &mut u32,
     smoothed_delay: &mut f64,
-    delay_primed: &mut u32,
     sample_rate: f64,
     delay_smooth_coef: f64,
     max_delay_secs: f64,
+    delay_primed: &mut u32,
     linear_time: u32,
 ) -> u32
-    ensures { from_to (λ k. device_of (delay_of (lent_at write_pos k) (lent_at smoothed_delay k) (is_on (lent_at delay_primed k))
-        sample_rate delay_smooth_coef max_delay_secs (is_on linear_time)) (lent_at memory k))
+    ensures { from_to (λ k. device_of (delay_of (lent_at write_pos k) (lent_at smoothed_delay k) sample_rate
+        delay_smooth_coef max_delay_secs (is_on (lent_at delay_primed k)) (is_on linear_time)) (lent_at memory k))
         (λ u u'. CallReturns delay_line reset u u' result)
         × from_to (lent_at delay_primed) (FlagLeft result) }
 {
     let state = delay_of(
         *write_pos,
         *smoothed_delay,
-        *delay_primed,
         sample_rate,
         delay_smooth_coef,
         max_delay_secs,
+        *delay_primed,
         linear_time,
     );
     let cleared = state.reset(memory);
@@ -156,12 +156,12 @@ pub extern "C" fn room_raw_delay_reset(
 // A tick. The mask's bits say which ports are set: 1 audio, 2 time, 4 feedback, 8 mix.
 #[unsafe(no_mangle)]
 pub extern "C" fn room_raw_delay_tick(
-    write_pos: &mut u64,
+    write_pos: &mut u32,
     smoothed_delay: &mut f64,
-    delay_primed: &mut u32,
     sample_rate: f64,
     delay_smooth_coef: f64,
     max_delay_secs: f64,
+    delay_primed: &mut u32,
     linear_time: u32,
     memory: &mut [f64],
     set: u32,
@@ -173,18 +173,18 @@ pub extern "C" fn room_raw_delay_tick(
     out: &mut f64,
     age: &mut u32,
 ) -> u32
-    ensures { from_to (λ k. device_of (delay_of (lent_at write_pos k) (lent_at smoothed_delay k) (is_on (lent_at delay_primed k))
-        sample_rate delay_smooth_coef max_delay_secs (is_on linear_time)) (lent_at memory k))
+    ensures { from_to (λ k. device_of (delay_of (lent_at write_pos k) (lent_at smoothed_delay k) sample_rate
+        delay_smooth_coef max_delay_secs (is_on (lent_at delay_primed k)) (is_on linear_time)) (lent_at memory k))
         (λ u u'. AgedReturns delay_line 1 (tick_of (port_at set 1 audio) (port_at set 2 time) (port_at set 4 feedback)
         (port_at set 8 mix) milliseconds) u u' (out.new ∷ []) age.new result) × from_to (lent_at delay_primed) (FlagLeft result) }
 {
     let state = delay_of(
         *write_pos,
         *smoothed_delay,
-        *delay_primed,
         sample_rate,
         delay_smooth_coef,
         max_delay_secs,
+        *delay_primed,
         linear_time,
     );
     let ticked = state.tick(
@@ -208,26 +208,26 @@ pub extern "C" fn room_raw_delay_tick(
 
 #[unsafe(no_mangle)]
 pub extern "C" fn room_raw_delay_silent(
-    write_pos: u64,
+    write_pos: u32,
     smoothed_delay: f64,
-    delay_primed: u32,
     sample_rate: f64,
     delay_smooth_coef: f64,
     max_delay_secs: f64,
+    delay_primed: u32,
     linear_time: u32,
     memory: &[f64],
     out: &mut u32,
 ) -> u32
-    ensures { AskReturns delay_line (device_of (delay_of write_pos smoothed_delay (is_on delay_primed) sample_rate
-        delay_smooth_coef max_delay_secs (is_on linear_time)) memory.now) out.new result }
+    ensures { AskReturns delay_line (device_of (delay_of write_pos smoothed_delay sample_rate delay_smooth_coef
+        max_delay_secs (is_on delay_primed) (is_on linear_time)) memory.now) out.new result }
 {
     let state = delay_of(
         write_pos,
         smoothed_delay,
-        delay_primed,
         sample_rate,
         delay_smooth_coef,
         max_delay_secs,
+        delay_primed,
         linear_time,
     );
     let silence = state.silent(memory);

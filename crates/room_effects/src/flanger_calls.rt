@@ -15,7 +15,7 @@ use port::{Answer, number_of, silent_flag};
 pub extern "C" fn room_raw_flanger_start(
     new_sample_rate: f64,
     memory: &mut [f64],
-    write_pos: &mut u64,
+    write_pos: &mut u32,
     lfo_phase: &mut f64,
     sample_rate: &mut f64,
 ) -> u32
@@ -33,7 +33,7 @@ pub extern "C" fn room_raw_flanger_start(
 pub extern "C" fn room_raw_flanger_retune(
     new_sample_rate: f64,
     memory: &mut [f64],
-    write_pos: &mut u64,
+    write_pos: &mut u32,
     lfo_phase: &mut f64,
     sample_rate: &mut f64,
 ) -> u32
@@ -59,7 +59,7 @@ pub extern "C" fn room_raw_flanger_retune(
 #[unsafe(no_mangle)]
 pub extern "C" fn room_raw_flanger_reset(
     memory: &mut [f64],
-    write_pos: &mut u64,
+    write_pos: &mut u32,
     lfo_phase: &mut f64,
     sample_rate: f64,
 ) -> u32
@@ -83,7 +83,7 @@ pub extern "C" fn room_raw_flanger_reset(
 // A tick. The mask's bits say which ports are set: 1 audio, 2 depth, 4 feedback, 8 mix.
 #[unsafe(no_mangle)]
 pub extern "C" fn room_raw_flanger_tick(
-    write_pos: &mut u64,
+    write_pos: &mut u32,
     lfo_phase: &mut f64,
     sample_rate: f64,
     memory: &mut [f64],
@@ -129,7 +129,7 @@ pub extern "C" fn room_raw_flanger_tick(
 
 #[unsafe(no_mangle)]
 pub extern "C" fn room_raw_flanger_silent(
-    write_pos: u64,
+    write_pos: u32,
     lfo_phase: f64,
     sample_rate: f64,
     memory: &[f64],

@@ -14,17 +14,17 @@ use reverb::{Lent, Reverb};
 // A reverb's state into lent arrays; the rate is written, or kept, beside.
 fn put_reverb(
     state: Reverb,
-    comb_pos_l: &mut [u64; 8],
-    comb_pos_r: &mut [u64; 8],
+    comb_pos_l: &mut [u32; 8],
+    comb_pos_r: &mut [u32; 8],
+    allpass_pos_l: &mut [u32; 4],
+    allpass_pos_r: &mut [u32; 4],
+    predelay_pos: &mut u32,
     comb_filter_state_l: &mut [f64; 8],
     comb_filter_state_r: &mut [f64; 8],
-    allpass_pos_l: &mut [u64; 4],
-    allpass_pos_r: &mut [u64; 4],
-    predelay_pos: &mut u64,
 )
-    ensures { state_of comb_pos_l.new comb_pos_r.new comb_filter_state_l.new
-        comb_filter_state_r.new allpass_pos_l.new allpass_pos_r.new
-        predelay_pos.new state.sample_rate ≡ state }
+    ensures { state_of comb_pos_l.new comb_pos_r.new allpass_pos_l.new
+        allpass_pos_r.new predelay_pos.new comb_filter_state_l.new
+        comb_filter_state_r.new state.sample_rate ≡ state }
 {
     let combs_l = state.comb_pos_l;
     let combs_r = state.comb_pos_r;
@@ -34,11 +34,11 @@ fn put_reverb(
     let passes_r = state.allpass_pos_r;
     *comb_pos_l = combs_l;
     *comb_pos_r = combs_r;
-    *comb_filter_state_l = damping_l;
-    *comb_filter_state_r = damping_r;
     *allpass_pos_l = passes_l;
     *allpass_pos_r = passes_r;
     *predelay_pos = state.predelay_pos;
+    *comb_filter_state_l = damping_l;
+    *comb_filter_state_r = damping_r;
 }
 
 // Start of a reverb. A refused one writes the state of zeros too, and leaves the memory as it was.
@@ -46,18 +46,18 @@ fn put_reverb(
 pub extern "C" fn room_raw_reverb_start(
     new_sample_rate: f64,
     memory: &mut [f64],
-    comb_pos_l: &mut [u64; 8],
-    comb_pos_r: &mut [u64; 8],
+    comb_pos_l: &mut [u32; 8],
+    comb_pos_r: &mut [u32; 8],
+    allpass_pos_l: &mut [u32; 4],
+    allpass_pos_r: &mut [u32; 4],
+    predelay_pos: &mut u32,
     comb_filter_state_l: &mut [f64; 8],
     comb_filter_state_r: &mut [f64; 8],
-    allpass_pos_l: &mut [u64; 4],
-    allpass_pos_r: &mut [u64; 4],
-    predelay_pos: &mut u64,
     sample_rate: &mut f64,
 ) -> u32
     ensures { StartReturns reverb new_sample_rate memory.old (device_of (state_of comb_pos_l.new
-        comb_pos_r.new comb_filter_state_l.new comb_filter_state_r.new
-        allpass_pos_l.new allpass_pos_r.new predelay_pos.new sample_rate.new)
+        comb_pos_r.new allpass_pos_l.new allpass_pos_r.new
+        predelay_pos.new comb_filter_state_l.new comb_filter_state_r.new sample_rate.new)
         memory.new) result }
 {
     let started = Reverb::new(new_sample_rate, memory);
@@ -65,11 +65,11 @@ pub extern "C" fn room_raw_reverb_start(
         started.state,
         comb_pos_l,
         comb_pos_r,
-        comb_filter_state_l,
-        comb_filter_state_r,
         allpass_pos_l,
         allpass_pos_r,
         predelay_pos,
+        comb_filter_state_l,
+        comb_filter_state_r,
     );
     *sample_rate = started.state.sample_rate;
     number_of(started.outcome)
@@ -79,28 +79,28 @@ pub extern "C" fn room_raw_reverb_start(
 pub extern "C" fn room_raw_reverb_retune(
     new_sample_rate: f64,
     memory: &mut [f64],
-    comb_pos_l: &mut [u64; 8],
-    comb_pos_r: &mut [u64; 8],
+    comb_pos_l: &mut [u32; 8],
+    comb_pos_r: &mut [u32; 8],
+    allpass_pos_l: &mut [u32; 4],
+    allpass_pos_r: &mut [u32; 4],
+    predelay_pos: &mut u32,
     comb_filter_state_l: &mut [f64; 8],
     comb_filter_state_r: &mut [f64; 8],
-    allpass_pos_l: &mut [u64; 4],
-    allpass_pos_r: &mut [u64; 4],
-    predelay_pos: &mut u64,
     sample_rate: &mut f64,
 ) -> u32
-    ensures { from_to (λ k. device_of (state_of (lent_at comb_pos_l k) (lent_at comb_pos_r k) (lent_at comb_filter_state_l k)
-        (lent_at comb_filter_state_r k) (lent_at allpass_pos_l k) (lent_at allpass_pos_r k) (lent_at predelay_pos k)
+    ensures { from_to (λ k. device_of (state_of (lent_at comb_pos_l k) (lent_at comb_pos_r k) (lent_at allpass_pos_l k)
+        (lent_at allpass_pos_r k) (lent_at predelay_pos k) (lent_at comb_filter_state_l k) (lent_at comb_filter_state_r k)
         (lent_at sample_rate k)) (lent_at memory k))
         (λ u u'. CallReturns reverb (retune new_sample_rate) u u' result) }
 {
     let state = Reverb {
         comb_pos_l: *comb_pos_l,
         comb_pos_r: *comb_pos_r,
-        comb_filter_state_l: *comb_filter_state_l,
-        comb_filter_state_r: *comb_filter_state_r,
         allpass_pos_l: *allpass_pos_l,
         allpass_pos_r: *allpass_pos_r,
         predelay_pos: *predelay_pos,
+        comb_filter_state_l: *comb_filter_state_l,
+        comb_filter_state_r: *comb_filter_state_r,
         sample_rate: *sample_rate,
     };
     let cleared = state.set_sample_rate(new_sample_rate, memory);
@@ -111,11 +111,11 @@ pub extern "C" fn room_raw_reverb_retune(
         cleared.state,
         comb_pos_l,
         comb_pos_r,
-        comb_filter_state_l,
-        comb_filter_state_r,
         allpass_pos_l,
         allpass_pos_r,
         predelay_pos,
+        comb_filter_state_l,
+        comb_filter_state_r,
     );
     *sample_rate = cleared.state.sample_rate;
     0
@@ -124,28 +124,28 @@ pub extern "C" fn room_raw_reverb_retune(
 #[unsafe(no_mangle)]
 pub extern "C" fn room_raw_reverb_reset(
     memory: &mut [f64],
-    comb_pos_l: &mut [u64; 8],
-    comb_pos_r: &mut [u64; 8],
+    comb_pos_l: &mut [u32; 8],
+    comb_pos_r: &mut [u32; 8],
+    allpass_pos_l: &mut [u32; 4],
+    allpass_pos_r: &mut [u32; 4],
+    predelay_pos: &mut u32,
     comb_filter_state_l: &mut [f64; 8],
     comb_filter_state_r: &mut [f64; 8],
-    allpass_pos_l: &mut [u64; 4],
-    allpass_pos_r: &mut [u64; 4],
-    predelay_pos: &mut u64,
     sample_rate: f64,
 ) -> u32
-    ensures { from_to (λ k. device_of (state_of (lent_at comb_pos_l k) (lent_at comb_pos_r k) (lent_at comb_filter_state_l k)
-        (lent_at comb_filter_state_r k) (lent_at allpass_pos_l k) (lent_at allpass_pos_r k) (lent_at predelay_pos k) sample_rate)
+    ensures { from_to (λ k. device_of (state_of (lent_at comb_pos_l k) (lent_at comb_pos_r k) (lent_at allpass_pos_l k)
+        (lent_at allpass_pos_r k) (lent_at predelay_pos k) (lent_at comb_filter_state_l k) (lent_at comb_filter_state_r k) sample_rate)
         (lent_at memory k))
         (λ u u'. CallReturns reverb reset u u' result) }
 {
     let state = Reverb {
         comb_pos_l: *comb_pos_l,
         comb_pos_r: *comb_pos_r,
-        comb_filter_state_l: *comb_filter_state_l,
-        comb_filter_state_r: *comb_filter_state_r,
         allpass_pos_l: *allpass_pos_l,
         allpass_pos_r: *allpass_pos_r,
         predelay_pos: *predelay_pos,
+        comb_filter_state_l: *comb_filter_state_l,
+        comb_filter_state_r: *comb_filter_state_r,
         sample_rate,
     };
     let cleared = state.reset(memory);
@@ -156,26 +156,26 @@ pub extern "C" fn room_raw_reverb_reset(
         cleared.state,
         comb_pos_l,
         comb_pos_r,
-        comb_filter_state_l,
-        comb_filter_state_r,
         allpass_pos_l,
         allpass_pos_r,
         predelay_pos,
+        comb_filter_state_l,
+        comb_filter_state_r,
     );
     0
 }
 
-// A tick, on the lent arrays themselves, which are one struct of one lifetime there: each of their 42 words is read where it is used, and written once. The mask's bits say which ports are set: 1 audio,
+// A tick, on the lent arrays themselves, which are one struct of one lifetime there: each of their 42 numbers is read where it is used, and written once. The mask's bits say which ports are set: 1 audio,
 // 2 size, 4 damping, 8 mix, 16 predelay.
 #[unsafe(no_mangle)]
 pub extern "C" fn room_raw_reverb_tick<'a>(
-    comb_pos_l: &'a mut [u64; 8],
-    comb_pos_r: &'a mut [u64; 8],
+    comb_pos_l: &'a mut [u32; 8],
+    comb_pos_r: &'a mut [u32; 8],
+    allpass_pos_l: &'a mut [u32; 4],
+    allpass_pos_r: &'a mut [u32; 4],
+    predelay_pos: &'a mut u32,
     comb_filter_state_l: &'a mut [f64; 8],
     comb_filter_state_r: &'a mut [f64; 8],
-    allpass_pos_l: &'a mut [u64; 4],
-    allpass_pos_r: &'a mut [u64; 4],
-    predelay_pos: &'a mut u64,
     sample_rate: f64,
     memory: &mut [f64],
     set: u32,
@@ -186,8 +186,8 @@ pub extern "C" fn room_raw_reverb_tick<'a>(
     predelay: f64,
     out: &mut [f64; 2],
 ) -> u32
-    ensures { from_to (λ k. device_of (state_of (lent_at comb_pos_l k) (lent_at comb_pos_r k) (lent_at comb_filter_state_l k)
-        (lent_at comb_filter_state_r k) (lent_at allpass_pos_l k) (lent_at allpass_pos_r k) (lent_at predelay_pos k) sample_rate)
+    ensures { from_to (λ k. device_of (state_of (lent_at comb_pos_l k) (lent_at comb_pos_r k) (lent_at allpass_pos_l k)
+        (lent_at allpass_pos_r k) (lent_at predelay_pos k) (lent_at comb_filter_state_l k) (lent_at comb_filter_state_r k) sample_rate)
         (lent_at memory k))
         (λ u u'. TickReturns reverb 2 (tick_of (port_at set 1 audio) (port_at set 2 size) (port_at set 4 damping) (port_at set 8 mix)
         (port_at set 16 predelay)) u u' out.new result) }
@@ -195,11 +195,11 @@ pub extern "C" fn room_raw_reverb_tick<'a>(
     let mut lent = Lent {
         comb_pos_l,
         comb_pos_r,
-        comb_filter_state_l,
-        comb_filter_state_r,
         allpass_pos_l,
         allpass_pos_r,
         predelay_pos,
+        comb_filter_state_l,
+        comb_filter_state_r,
         sample_rate,
     };
     let answer = lent.tick(
@@ -216,29 +216,29 @@ pub extern "C" fn room_raw_reverb_tick<'a>(
 
 #[unsafe(no_mangle)]
 pub extern "C" fn room_raw_reverb_silent(
-    comb_pos_l: &[u64; 8],
-    comb_pos_r: &[u64; 8],
+    comb_pos_l: &[u32; 8],
+    comb_pos_r: &[u32; 8],
+    allpass_pos_l: &[u32; 4],
+    allpass_pos_r: &[u32; 4],
+    predelay_pos: u32,
     comb_filter_state_l: &[f64; 8],
     comb_filter_state_r: &[f64; 8],
-    allpass_pos_l: &[u64; 4],
-    allpass_pos_r: &[u64; 4],
-    predelay_pos: u64,
     sample_rate: f64,
     memory: &[f64],
     out: &mut u32,
 ) -> u32
     ensures { AskReturns reverb (device_of (state_of comb_pos_l.now comb_pos_r.now
-        comb_filter_state_l.now comb_filter_state_r.now allpass_pos_l.now
-        allpass_pos_r.now predelay_pos sample_rate) memory.now) out.new result }
+        allpass_pos_l.now allpass_pos_r.now predelay_pos
+        comb_filter_state_l.now comb_filter_state_r.now sample_rate) memory.now) out.new result }
 {
     let state = Reverb {
         comb_pos_l: *comb_pos_l,
         comb_pos_r: *comb_pos_r,
-        comb_filter_state_l: *comb_filter_state_l,
-        comb_filter_state_r: *comb_filter_state_r,
         allpass_pos_l: *allpass_pos_l,
         allpass_pos_r: *allpass_pos_r,
         predelay_pos,
+        comb_filter_state_l: *comb_filter_state_l,
+        comb_filter_state_r: *comb_filter_state_r,
         sample_rate,
     };
     let silence = state.silent(memory);

@@ -16,7 +16,7 @@ use vibrato::Vibrato;
 pub extern "C" fn room_raw_vibrato_start(
     new_sample_rate: f64,
     memory: &mut [f64],
-    write_pos: &mut u64,
+    write_pos: &mut u32,
     lfo_phase: &mut f64,
     sample_rate: &mut f64,
 ) -> u32
@@ -34,7 +34,7 @@ pub extern "C" fn room_raw_vibrato_start(
 pub extern "C" fn room_raw_vibrato_retune(
     new_sample_rate: f64,
     memory: &mut [f64],
-    write_pos: &mut u64,
+    write_pos: &mut u32,
     lfo_phase: &mut f64,
     sample_rate: &mut f64,
 ) -> u32
@@ -60,7 +60,7 @@ pub extern "C" fn room_raw_vibrato_retune(
 #[unsafe(no_mangle)]
 pub extern "C" fn room_raw_vibrato_reset(
     memory: &mut [f64],
-    write_pos: &mut u64,
+    write_pos: &mut u32,
     lfo_phase: &mut f64,
     sample_rate: f64,
 ) -> u32
@@ -84,7 +84,7 @@ pub extern "C" fn room_raw_vibrato_reset(
 // A tick. The mask's bits say which ports are set: 1 audio, 2 depth, 4 mix.
 #[unsafe(no_mangle)]
 pub extern "C" fn room_raw_vibrato_tick(
-    write_pos: &mut u64,
+    write_pos: &mut u32,
     lfo_phase: &mut f64,
     sample_rate: f64,
     memory: &mut [f64],
@@ -126,7 +126,7 @@ pub extern "C" fn room_raw_vibrato_tick(
 
 #[unsafe(no_mangle)]
 pub extern "C" fn room_raw_vibrato_silent(
-    write_pos: u64,
+    write_pos: u32,
     lfo_phase: f64,
     sample_rate: f64,
     memory: &[f64],

@@ -1,6 +1,6 @@
 -- The tape delay's definitions by their cases: the maximum, the state test, the table's row of a half, and an accepted half from its steps, also where ports are
 -- unset. Assumes nothing.
-use Prim.Native.Nat.{ℕ, ◌-◌, ◌<◌}
+use Prim.Native.Nat.{ℕ, ◌-◌, ◌<◌, ◌≤◌}
 use native.Mathlib.Omega.{arith}
 use mathlib.Core.Path.{◌≡◌, refl, sym, ap, ◌∙◌}
 use mathlib.Core.Bool.{Bool, true, false, not, ◌||◌, cond}
@@ -23,7 +23,7 @@ use Rattle.effect.specs.Run.{reset, first, memory_number, number_in}
 use Rattle.effect.proofs.Rows.{unit, first-long}
 use Rattle.delay_line.specs.declared.halves.HalfRead.{HalfRead}
 use Rattle.delay_line.specs.Halves.{maximum_fits, size, reader_fits, linear_ms, samples_of, reads_at, read_by, half_read}
-use Rattle.delay_line.proofs.ReaderLaws.{Fits, fits-parts, linear-number, samples-number, reads_in, front-half, front-stored}
+use Rattle.delay_line.proofs.ReaderLaws.{Fits, fits-parts, size-fits, linear-number, samples-number, reads_in, front-half, front-stored}
 use Rattle.tape_delay.specs.declared.TapeDelay.{TapeDelay}
 use Rattle.tape_delay.specs.TapeDelay.{Ports, Tick, read_half, store_half, tape_delay, maximum, ceiling, settings, places, reader, kept_fits, state_fits, turn_number, tick_number, delay_samples, half_of, waiting_state, next, saturated, writes}
 use Rattle.tape_delay.specs.TapeDelay as page
@@ -113,11 +113,17 @@ module _ (p : Ports) {c f b : Float} (time : c ≡ value_or p.time half) (back :
 -- it takes from its ports
 
 module _ (s : TapeDelay) (m : List Float) {n : ℕ} (e : n ≡ size (reader s)) (passed : 0 ≡ number_in tape_delay reset (length m) s) where
+  reads : Fits (reader s)
+  reads = (state-parts s (unit tape_delay s m e passed).state_fits).reads
+
   inside : s.write_pos < size (reader s)
-  inside = (state-parts s (unit tape_delay s m e passed).state_fits).reads.inside
+  inside = reads.inside
 
   pub store-inside : s.write_pos < length (take n m)
   store-inside = omega (arith, e, inside, first-long tape_delay s m e passed)
+
+  pub store-short : length (take n m) ≤ 4294967296
+  store-short = omega (arith, e, first-long tape_delay s m e passed, (size-fits (reader s) reads).1)
 
   module _ (p : Ports) {a c f b : Float} (audio : a ≡ value_or p.audio plus_zero) (time : c ≡ value_or p.time half) (back : f ≡ value_or p.feedback plus_zero) (wet : b ≡ value_or p.mix half) where
     half-is : half_read ceiling (reader s) (samples_of s.sample_rate (linear_ms maximum c)) a f b (take n m) ≡ half_of p s m

@@ -11,6 +11,7 @@ use Rattle.common.specs.Signal.{sanitized, cause_number}
 use Rattle.common.specs.Reads.{Read}
 use Rattle.effect.specs.Parts.{first_places}
 use Rattle.effect.specs.Effect.{Effect, Page, effect_of, Write}
+use Rattle.effect.specs.Narrow.{Fields}
 use Rattle.delay_line.specs.declared.halves.Reader.{Reader}
 use Rattle.delay_line.specs.declared.halves.Kept.{Kept}
 use Rattle.delay_line.specs.declared.halves.HalfRead.{HalfRead}
@@ -56,12 +57,12 @@ abbrev pub state_of : ℕ → Float → Bool → Bool → Kept → Settings → 
 state_of pos distance primed waiting kept k =
     record {
       write_pos = pos;
-      sample_rate = k.rate;
       smoothed_delay = distance;
+      kept = kept;
+      sample_rate = k.rate;
       delay_smooth_coef = k.coefficient;
       delay_primed = primed;
       waiting = waiting;
-      kept = kept;
     }
 
 -- while no read waits
@@ -188,6 +189,17 @@ page =
 
 abbrev pub tape_delay : Effect
 tape_delay = effect_of page
+
+-- ---- its state's fields, for the two widths of positions
+
+abbrev pub fields : Fields TapeDelay
+fields =
+    record {
+      positions = λ s. (s.write_pos ∷ []) ∷ [];
+      floats = λ s. (s.smoothed_delay ∷ s.kept.audio ∷ s.kept.read ∷ s.kept.mix ∷ s.sample_rate ∷ s.delay_smooth_coef ∷ []) ∷ [];
+      flags = λ s. s.delay_primed ∷ s.waiting ∷ [];
+      map_positions = λ f s. state_of (f s.write_pos) s.smoothed_delay s.delay_primed s.waiting s.kept (settings s);
+    }
 
 -- what of a unit that waits is a zero where it keeps nothing of the sound: the audio and what was read
 abbrev pub calm : TapeDelay → Bool

@@ -17,15 +17,15 @@ use port::{Answer, Port, Refusal};
 
 #[derive(Clone, Copy)]
 pub struct TapeDelay {
-    pub write_pos: u64,
-    pub sample_rate: f64,
+    pub write_pos: u32,
     pub smoothed_delay: f64,
+    pub kept: Kept,
+    pub sample_rate: f64,
     pub delay_smooth_coef: f64,
     pub delay_primed: bool,
     // A read half has been answered and its store half has not. No `Option` of what is kept: C hands in and gets the numbers, and a state that has others than +0
     // while no read waits is refused.
     pub waiting: bool,
-    pub kept: Kept,
 }
 
 // What a start and a retune are handed, and what is in force until the next.
@@ -55,12 +55,12 @@ impl Settings {
     {
         TapeDelay {
             write_pos: 0,
-            sample_rate: self.rate,
             smoothed_delay: 0.0,
+            kept: TapeDelay::NONE_KEPT,
+            sample_rate: self.rate,
             delay_smooth_coef: self.coefficient,
             delay_primed: false,
             waiting: false,
-            kept: TapeDelay::NONE_KEPT,
         }
     }
 }
@@ -99,9 +99,10 @@ impl Unit for TapeDelay {
         handed.refusal(places)
     }
 
+    #[tactic(auto, using(crate::proofs::Laws::maximum_held, delay_line::proofs::ReaderLaws::size_cases), unfolding(delay_line::specs::Halves::reader_fits, float64::proofs::Literals::of_bits, float64::proofs::Literals::of_int, float64::proofs::Literals::round))]
     fn fitting_places(self) -> Option<u64> {
-        let n = self.reader().fitting_places()?;
-        self.kept_fits().then_some(n)
+        let n = delay_line::line_length_held(self.sample_rate, TapeDelay::TAPE_MAX_DELAY_SECS)?;
+        (self.reader().fits_in_line(n) && self.kept_fits()).then_some(n)
     }
 }
 
@@ -164,10 +165,10 @@ impl TapeDelay {
     {
         Reader {
             write_pos: self.write_pos,
-            sample_rate: self.sample_rate,
-            max_delay_secs: TapeDelay::TAPE_MAX_DELAY_SECS,
             smoothed_delay: self.smoothed_delay,
+            sample_rate: self.sample_rate,
             delay_smooth_coef: self.delay_smooth_coef,
+            max_delay_secs: TapeDelay::TAPE_MAX_DELAY_SECS,
             delay_primed: self.delay_primed,
         }
     }
@@ -206,9 +207,9 @@ impl TapeDelay {
     {
         TapeDelay {
             smoothed_delay: half.smoothed_delay,
+            kept: half.kept,
             delay_primed: true,
             waiting: true,
-            kept: half.kept,
             ..self
         }
     }
@@ -219,8 +220,8 @@ impl TapeDelay {
     {
         TapeDelay {
             write_pos: half.write_pos,
-            waiting: false,
             kept: TapeDelay::NONE_KEPT,
+            waiting: false,
             ..self
         }
     }

@@ -9,6 +9,7 @@ use Rattle.port.specs.declared.Port.{Port}
 use Rattle.port.specs.Port.{value_or, is_nan_set}
 use Rattle.common.specs.Signal.{advanced, cause_number}
 use Rattle.effect.specs.Effect.{Effect, Page, effect_of}
+use Rattle.effect.specs.Narrow.{Fields}
 use Rattle.tremolo.specs.declared.Tremolo.{Tremolo}
 
 -- what a tick is handed: its ports, and the curve numbers frequency and sine
@@ -98,3 +99,14 @@ page =
 
 abbrev pub tremolo : Effect
 tremolo = effect_of page
+
+-- ---- its state's fields, for the two widths of positions
+
+abbrev pub fields : Fields Tremolo
+fields =
+    record {
+      positions = λ s. [];
+      floats = λ s. (s.lfo_phase ∷ s.sample_rate ∷ []) ∷ [];
+      flags = λ s. [];
+      map_positions = λ f s. s;
+    }

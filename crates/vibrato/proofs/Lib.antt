@@ -3,3 +3,4 @@ pub mod Demand1
 pub mod Demand3
 pub mod StaysSilent
 pub mod HearsBack
+pub mod Narrow

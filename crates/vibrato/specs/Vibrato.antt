@@ -10,6 +10,7 @@ use Rattle.common.specs.Line.{swept_length, next_place}
 use Rattle.common.specs.Reads.{Read, heard}
 use Rattle.effect.specs.Parts.{first_places}
 use Rattle.effect.specs.Effect.{Effect, Page, effect_of, Write}
+use Rattle.effect.specs.Narrow.{Fields}
 use Rattle.effect.specs.Lines.{Lines, in_each}
 use Rattle.vibrato.specs.declared.Vibrato.{Vibrato}
 
@@ -124,6 +125,17 @@ page =
 
 abbrev pub vibrato : Effect
 vibrato = effect_of page
+
+-- ---- its state's fields, for the two widths of positions
+
+abbrev pub fields : Fields Vibrato
+fields =
+    record {
+      positions = λ s. (s.write_pos ∷ []) ∷ [];
+      floats = λ s. (s.lfo_phase ∷ s.sample_rate ∷ []) ∷ [];
+      flags = λ s. [];
+      map_positions = λ f s. state_of (f s.write_pos) s.lfo_phase s.sample_rate;
+    }
 
 -- ---- its line, for the recent pasts
 

@@ -1,5 +1,5 @@
 -- `Lent::advance`: the predelay writes and reads, then the combs step, then the all-passes. Assumes nothing.
-use Rattle.std.proofs.Common.{◌+◌, set, refl, ap, ◌∙◌}
+use Rattle.std.proofs.Common.{◌+◌, set, refl, ap, ◌∙◌, arith}
 use lib.Ieee.{Float, binary64, add, mul, le, of_bits, of_int, round}
 use lib.Ieee as Ieee
 use borrow.Rule.Slice.PartMut.{put_mid}
@@ -24,7 +24,7 @@ process_predelay-delayed-requires-clause-samples_lt_predelay_size c =
     (delay-less _ c.args.self.now.sample_rate (clamp-in c.args.c.predelay tt tt c.requires.predelay_is_number) (fits-parts _ c.requires.unit_fits).rate)
 
 pub next_place-self-requires : goal.next_place-self-requires
-next_place-self-requires c = (fits-parts _ c.requires.unit_fits).predelay
+next_place-self-requires c = record { inside = (fits-parts _ c.requires.unit_fits).predelay; short = omega arith }
 
 -- the lines that the steps are handed, at their lengths for the rate
 pub combs-sum_l-requires-clause-in_lines : goal.combs-sum_l-requires-clause-in_lines

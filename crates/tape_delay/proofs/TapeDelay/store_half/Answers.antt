@@ -9,7 +9,7 @@ use Rattle.effect.specs.Run.{tick}
 use Rattle.effect.proofs.Contract.{accepts}
 use Rattle.effect.proofs.Rows.{tick_row, row_refuses, first-long}
 use Rattle.tape_delay.specs.TapeDelay.{tape_delay, store_half, stored_state, tick_number, next, samples, reads}
-use Rattle.tape_delay.proofs.Laws.{half-passed, in-turn, store-inside, stored-is}
+use Rattle.tape_delay.proofs.Laws.{half-passed, in-turn, store-inside, store-short, stored-is}
 use Rattle.tape_delay.proofs.TapeDelay.store_half.Goals as goal
 
 pub returns-then-not-saturated_fits : goal.returns-then-not-saturated_fits
@@ -27,7 +27,8 @@ pub store_half-stored-requires : goal.store_half-stored-requires
 store_half-stored-requires c =
     let s = c.args.self in
     let m = c.args.mem.now in
-    store-inside s m c.in-Ok.ensures.needed (half-passed (store_half c.args.saturated) s (length m) s.waiting refl c.in-Ok.ensures.number)
+    let passed = half-passed (store_half c.args.saturated) s (length m) s.waiting refl c.in-Ok.ensures.number in
+    record { inside = store-inside s m c.in-Ok.ensures.needed passed; short = store-short s m c.in-Ok.ensures.needed passed }
 
 pub returns : goal.returns
 unfolding tick_number next samples reads of_bits of_int round

@@ -1,0 +1,30 @@
+-- The tape delay in both widths of positions: its line has at most 2,304,001 places. Assumes nothing.
+use Rattle.std.proofs.Common.{false, get_or, ap, refl, arith}
+use lib.Ieee.{nan}
+use Rattle.effect.specs.Narrow.{Narrow}
+use Rattle.effect.proofs.Narrow.{Supplied, one-below, same-entry, narrows}
+use Rattle.delay_line.proofs.ReaderLaws.{size-fits}
+use Rattle.tape_delay.specs.TapeDelay.{tape_delay, state_of, handing, reader, fields}
+use Rattle.tape_delay.proofs.Laws.{state-parts}
+use Rattle.tape_delay.proofs.Demand1.{laws}
+
+own : Supplied tape_delay fields 1
+own =
+    record {
+      fields =
+          record {
+            whole = λ s t e i.
+                state_of (same-entry 0 e.positions 0 0 i) (same-entry nan e.floats 0 0 i) (ap (λ l. get_or l 0 false) e.flags i) (ap (λ l. get_or l 1 false) e.flags i)
+                record { audio = same-entry nan e.floats 0 1 i; read = same-entry nan e.floats 0 2 i; mix = same-entry nan e.floats 0 3 i }
+                (handing (same-entry nan e.floats 0 4 i) (same-entry nan e.floats 0 5 i));
+            counted = λ s f. refl;
+            mapped = λ f s. refl;
+            floats_stay = λ f s. refl;
+            flags_stay = λ f s. refl;
+          };
+      fits-below = λ s f. let p = (state-parts s f).reads in one-below (omega (arith, p.inside, size-fits (reader s) p));
+      blank-below = one-below (omega arith);
+    }
+
+pub shown : Narrow tape_delay fields 1
+shown = narrows tape_delay fields laws 1 own
