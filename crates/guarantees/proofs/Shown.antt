@@ -47,6 +47,14 @@ use Rattle.phaser.proofs.Idle.{x1-kept, y1-kept}
 use Rattle.tape_delay.specs.TapeDelay as tape
 use Rattle.tape_delay.proofs.Demand1 as tape1
 use Rattle.tape_delay.proofs.HearsBack as tape-ages
+use Rattle.delay_line.proofs.Narrow as delay-narrow
+use Rattle.chorus.proofs.Narrow as chorus-narrow
+use Rattle.flanger.proofs.Narrow as flanger-narrow
+use Rattle.vibrato.proofs.Narrow as vibrato-narrow
+use Rattle.tremolo.proofs.Narrow as tremolo-narrow
+use Rattle.reverb.proofs.Narrow as reverb-narrow
+use Rattle.phaser.proofs.Narrow as phaser-narrow
+use Rattle.tape_delay.proofs.Narrow as tape-narrow
 use Rattle.guarantees.proofs.Places.{places-needed}
 use Rattle.guarantees.proofs.Cases.{starred-hold}
 use Rattle.guarantees.proofs.Pairs.{tapes, tape-lamp}
@@ -56,6 +64,7 @@ use Rattle.guarantees.specs.WholePart.{WholePart}
 use Rattle.guarantees.specs.OneLine.{OneLine}
 use Rattle.guarantees.specs.IdleStages.{SameStage, IdleStages}
 use Rattle.guarantees.specs.Ages.{Ageless, Ages}
+use Rattle.guarantees.specs.Positions.{Positions}
 use Rattle.guarantees.specs.Lamp.{as_it_is, under_rule, zero_as_it_is, zero_under_rule, Lamp}
 
 pub clean-memory : CleanMemory
@@ -167,5 +176,28 @@ ages =
       exact = λ M x h r. exact-weights M h (range-in (whole-ends M h) r);
     }
 
+-- ---- positions
+
+pub positions : Positions
+positions =
+    record {
+      delay-lines = delay-narrow.shown;
+      choruses = chorus-narrow.shown;
+      flangers = flanger-narrow.shown;
+      vibratos = vibrato-narrow.shown;
+      tremolos = tremolo-narrow.shown;
+      reverbs = reverb-narrow.shown;
+      phasers = phaser-narrow.shown;
+      tapes = tape-narrow.shown;
+      of_delay = λ s. refl;
+      of_chorus = λ s. refl;
+      of_flanger = λ s. refl;
+      of_vibrato = λ s. refl;
+      of_tremolo = λ s. refl;
+      of_reverb = λ s. refl;
+      of_phaser = λ s. refl;
+      of_tape_delay = λ s. refl;
+    }
+
 -- what the functions' contracts say
-pub ruleset statements = (clean-memory, recent-pasts, places-needed, starred-hold, whole_part, one_line, idle_stages, lamp, ages, tapes)
+pub ruleset statements = (clean-memory, recent-pasts, places-needed, starred-hold, whole_part, one_line, idle_stages, lamp, ages, tapes, positions)

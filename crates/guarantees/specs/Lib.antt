@@ -8,3 +8,4 @@ pub mod IdleStages
 pub mod Lamp
 pub mod Ages
 pub mod Tapes
+pub mod Positions

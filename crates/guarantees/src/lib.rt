@@ -12,7 +12,9 @@ ghost use Rattle.guarantees.specs.IdleStages.{IdleStages};
 ghost use Rattle.guarantees.specs.Lamp.{Lamp};
 ghost use Rattle.guarantees.specs.Ages.{Ages};
 ghost use Rattle.guarantees.specs.Tapes.{Tapes};
-ghost use Rattle.std.specs.Prelude.{◌≡◌};
+ghost use Rattle.guarantees.specs.Positions.{Positions};
+ghost use Rattle.std.specs.Prelude.{◌≡◌, ◌<◌, ◌+◌, [], ◌∷◌};
+ghost use Rattle.effect.specs.Narrow.{AllBelow, new_width};
 ghost use Rattle.tremolo.specs.Tremolo as tremolo_page;
 ghost use Rattle.vibrato.specs.Vibrato as vibrato_page;
 ghost use Rattle.chorus.specs.Chorus as chorus_page;
@@ -80,6 +82,30 @@ pub fn ages()
 // Every place of a tape's line lies from -5 to 5; its two halves are a tick; and what becomes of a read that waits.
 pub fn tapes()
     ensures { Tapes }
+{}
+
+// A state whose positions have 64 bits and that passes the state test has exactly one whose positions have 32, and answers alike.
+pub fn positions()
+    ensures { Positions }
+{}
+
+// What the code's types hold is of the new width: each position of any state, one that the test refuses too. By the types' own fields, and not by the pages' `fields`.
+pub fn positions_held(
+    delay: DelayLine,
+    chorus: Chorus,
+    flanger: Flanger,
+    vibrato: Vibrato,
+    reverb: Reverb,
+    tape: TapeDelay,
+)
+    ensures of_delay { delay.write_pos < new_width }
+    ensures of_chorus { chorus.write_pos < new_width }
+    ensures of_flanger { flanger.write_pos < new_width }
+    ensures of_vibrato { vibrato.write_pos < new_width }
+    ensures of_reverb { AllBelow new_width (reverb.comb_pos_l ∷ reverb.comb_pos_r ∷ reverb.allpass_pos_l ∷ reverb.allpass_pos_r
+        ∷ (reverb.predelay_pos ∷ []) ∷ []) }
+    ensures of_tape_delay { tape.write_pos < new_width }
+    ensures of_32_bits { new_width ≡ u32.MAX + 1 }
 {}
 
 // The page by which each effect's start, retune, reset and question go is its own.
