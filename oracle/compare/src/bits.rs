@@ -46,7 +46,8 @@ pub fn untouched(what: &str, before: f64, after: f64) -> Result<(), String> {
     ))
 }
 
-pub fn same_count(what: &str, ours: u64, rust: usize) -> Result<(), String> {
+pub fn same_count(what: &str, ours: impl Into<u64>, rust: usize) -> Result<(), String> {
+    let ours = ours.into();
     if ours == rust as u64 {
         return Ok(());
     }

@@ -46,7 +46,7 @@ pub fn run<const LINEAR: bool>(ticks: u64, seed: u64) -> Result<String, String> 
 
 fn junk_state() -> State {
     State {
-        write_pos: JUNK as u64,
+        write_pos: JUNK as u32,
         smoothed_delay: JUNK,
         delay_primed: JUNK as u32,
         sample_rate: JUNK,
@@ -311,7 +311,7 @@ impl<const LINEAR: bool> Delay<LINEAR> {
         same_count("position", self.state.write_pos, moving.write_pos)?;
         same_count(
             "primed",
-            u64::from(self.state.delay_primed),
+            self.state.delay_primed,
             usize::from(moving.delay_primed),
         )?;
         agree("distance", self.state.smoothed_delay, moving.smoothed_delay)?;
@@ -346,8 +346,8 @@ fn state_untouched(should: &State, is: &State) -> Result<(), String> {
     let counts = |state: &State| {
         [
             ("position after a refusal", state.write_pos),
-            ("primed after a refusal", u64::from(state.delay_primed)),
-            ("linear after a refusal", u64::from(state.linear_time)),
+            ("primed after a refusal", state.delay_primed),
+            ("linear after a refusal", state.linear_time),
         ]
     };
     for ((what, should), (_, is)) in counts(should).into_iter().zip(counts(is)) {

@@ -72,7 +72,7 @@ pub fn run<E: Effect>(ticks: u64, seed: u64) -> Result<String, String> {
 
 fn junk_state() -> State {
     State {
-        write_pos: JUNK as u64,
+        write_pos: JUNK as u32,
         phases: [JUNK; MOST],
         sample_rate: JUNK,
     }

@@ -1,6 +1,7 @@
 //! Numbers to call with: ordinary ones, and often those at which floats go wrong.
 //! The same seed draws the same numbers on every machine, so nothing here asks for a sine or a power.
 
+use crate::table::as_position;
 use std::f64::consts::PI;
 
 pub struct Random(u64);
@@ -303,9 +304,10 @@ impl Random {
         }
     }
 
-    pub fn wrong_position(&mut self, length: u64) -> u64 {
-        let beyond = length + self.below(100_000);
-        self.of(&[length, length, length + 1, beyond, 1 << 63, u64::MAX])
+    pub fn wrong_position(&mut self, length: u64) -> u32 {
+        let end = as_position(length);
+        let beyond = as_position(length + self.below(100_000));
+        self.of(&[end, end, end + 1, beyond, 1 << 31, u32::MAX])
     }
 
     pub fn wrong_phase(&mut self) -> f64 {

@@ -39,7 +39,7 @@ pub fn run(ticks: u64, seed: u64) -> Result<String, String> {
 }
 
 fn junk_state() -> State {
-    State::even(JUNK as u64, JUNK, JUNK)
+    State::even(JUNK as u32, JUNK, JUNK)
 }
 
 /// All of the memory is compared once in this many ticks of a unit.

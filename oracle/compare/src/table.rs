@@ -35,9 +35,14 @@ pub fn memory(places: u64, lines: u64, length: u64) -> bool {
     places < length.saturating_mul(lines)
 }
 
+/// A place of a line as states keep it, in 32 bits.
+pub fn as_position(place: u64) -> u32 {
+    u32::try_from(place).expect("no line is so long")
+}
+
 /// "every position below its line's length at that rate": the state test fails where this is true.
-pub fn position(position: u64, length: u64) -> bool {
-    position >= length
+pub fn position(position: u32, length: u64) -> bool {
+    u64::from(position) >= length
 }
 
 /// "every phase at least 0 and below 1": the state test fails where this is true.

@@ -278,7 +278,7 @@ impl Tape {
             self.rust.coefficient(),
         )?;
         let waiting = usize::from(self.rest.is_some());
-        same_count("waiting", u64::from(self.state.waiting), waiting)?;
+        same_count("waiting", self.state.waiting, waiting)?;
         if waiting == 0 {
             for (what, kept) in KEPT.into_iter().zip(self.state.kept) {
                 untouched(what, 0.0, kept)?;

@@ -4,7 +4,7 @@ use crate::{Lined, State, Tick};
 
 extern "C" {
     fn room_raw_chorus_tick(
-        pos: &mut u64,
+        pos: &mut u32,
         phases: &mut [f64; 3],
         rate: f64,
         memory: *mut f64,
@@ -21,7 +21,7 @@ extern "C" {
         age: &mut u32,
     ) -> u32;
     fn room_raw_chorus_silent(
-        pos: u64,
+        pos: u32,
         phases: &[f64; 3],
         rate: f64,
         memory: *const f64,

@@ -10,12 +10,12 @@ extern "C" {
         new_linear_time: u32,
         memory: *mut f64,
         places: u64,
-        write_pos: &mut u64,
+        write_pos: &mut u32,
         smoothed_delay: &mut f64,
-        delay_primed: &mut u32,
         sample_rate: &mut f64,
         delay_smooth_coef: &mut f64,
         max_delay_secs: &mut f64,
+        delay_primed: &mut u32,
         linear_time: &mut u32,
     ) -> u32;
     fn room_raw_delay_retune(
@@ -23,32 +23,32 @@ extern "C" {
         new_delay_smooth_coef: f64,
         memory: *mut f64,
         places: u64,
-        write_pos: &mut u64,
+        write_pos: &mut u32,
         smoothed_delay: &mut f64,
-        delay_primed: &mut u32,
         sample_rate: &mut f64,
         delay_smooth_coef: &mut f64,
         max_delay_secs: f64,
+        delay_primed: &mut u32,
         linear_time: u32,
     ) -> u32;
     fn room_raw_delay_reset(
         memory: *mut f64,
         places: u64,
-        write_pos: &mut u64,
+        write_pos: &mut u32,
         smoothed_delay: &mut f64,
-        delay_primed: &mut u32,
         sample_rate: f64,
         delay_smooth_coef: f64,
         max_delay_secs: f64,
+        delay_primed: &mut u32,
         linear_time: u32,
     ) -> u32;
     fn room_raw_delay_tick(
-        write_pos: &mut u64,
+        write_pos: &mut u32,
         smoothed_delay: &mut f64,
-        delay_primed: &mut u32,
         sample_rate: f64,
         delay_smooth_coef: f64,
         max_delay_secs: f64,
+        delay_primed: &mut u32,
         linear_time: u32,
         memory: *mut f64,
         places: u64,
@@ -62,12 +62,12 @@ extern "C" {
         age: &mut u32,
     ) -> u32;
     fn room_raw_delay_silent(
-        write_pos: u64,
+        write_pos: u32,
         smoothed_delay: f64,
-        delay_primed: u32,
         sample_rate: f64,
         delay_smooth_coef: f64,
         max_delay_secs: f64,
+        delay_primed: u32,
         linear_time: u32,
         memory: *const f64,
         places: u64,
@@ -78,12 +78,12 @@ extern "C" {
 /// The fields of a delay's state. A flag is off where it is 0.
 #[derive(Clone, Copy, Debug)]
 pub struct State {
-    pub write_pos: u64,
+    pub write_pos: u32,
     pub smoothed_delay: f64,
-    pub delay_primed: u32,
     pub sample_rate: f64,
     pub delay_smooth_coef: f64,
     pub max_delay_secs: f64,
+    pub delay_primed: u32,
     pub linear_time: u32,
 }
 
@@ -119,10 +119,10 @@ pub fn start(state: &mut State, memory: &mut [f64], settings: &Settings) -> u32 
             memory.len() as u64,
             &mut state.write_pos,
             &mut state.smoothed_delay,
-            &mut state.delay_primed,
             &mut state.sample_rate,
             &mut state.delay_smooth_coef,
             &mut state.max_delay_secs,
+            &mut state.delay_primed,
             &mut state.linear_time,
         )
     }
@@ -142,10 +142,10 @@ pub fn retune(
             memory.len() as u64,
             &mut state.write_pos,
             &mut state.smoothed_delay,
-            &mut state.delay_primed,
             &mut state.sample_rate,
             &mut state.delay_smooth_coef,
             state.max_delay_secs,
+            &mut state.delay_primed,
             state.linear_time,
         )
     }
@@ -158,10 +158,10 @@ pub fn reset(state: &mut State, memory: &mut [f64]) -> u32 {
             memory.len() as u64,
             &mut state.write_pos,
             &mut state.smoothed_delay,
-            &mut state.delay_primed,
             state.sample_rate,
             state.delay_smooth_coef,
             state.max_delay_secs,
+            &mut state.delay_primed,
             state.linear_time,
         )
     }
@@ -174,10 +174,10 @@ pub fn tick(state: &mut State, memory: &mut [f64], t: &Tick, out: &mut f64, age:
         room_raw_delay_tick(
             &mut state.write_pos,
             &mut state.smoothed_delay,
-            &mut state.delay_primed,
             state.sample_rate,
             state.delay_smooth_coef,
             state.max_delay_secs,
+            &mut state.delay_primed,
             state.linear_time,
             memory.as_mut_ptr(),
             memory.len() as u64,
@@ -198,10 +198,10 @@ pub fn silent(state: &State, memory: &[f64], out: &mut u32) -> u32 {
         room_raw_delay_silent(
             state.write_pos,
             state.smoothed_delay,
-            state.delay_primed,
             state.sample_rate,
             state.delay_smooth_coef,
             state.max_delay_secs,
+            state.delay_primed,
             state.linear_time,
             memory.as_ptr(),
             memory.len() as u64,

@@ -4,7 +4,7 @@ use crate::{Lined, State, Tick};
 
 extern "C" {
     fn room_raw_flanger_tick(
-        pos: &mut u64,
+        pos: &mut u32,
         phase: &mut f64,
         rate: f64,
         memory: *mut f64,
@@ -21,7 +21,7 @@ extern "C" {
         age: &mut u32,
     ) -> u32;
     fn room_raw_flanger_silent(
-        pos: u64,
+        pos: u32,
         phase: f64,
         rate: f64,
         memory: *const f64,

@@ -5,7 +5,7 @@ use crate::{Tick, MOST};
 /// The state of an effect with lines, which one write position goes round.
 #[derive(Clone, Copy, Debug)]
 pub struct State {
-    pub write_pos: u64,
+    pub write_pos: u32,
     pub phases: [f64; MOST],
     pub sample_rate: f64,
 }
@@ -42,7 +42,7 @@ macro_rules! lined {
                 sample_rate: f64,
                 memory: *mut f64,
                 places: u64,
-                pos: &mut u64,
+                pos: &mut u32,
                 phases: &mut [f64; $crate::MOST],
                 rate: &mut f64,
             ) -> u32;
@@ -50,14 +50,14 @@ macro_rules! lined {
                 sample_rate: f64,
                 memory: *mut f64,
                 places: u64,
-                pos: &mut u64,
+                pos: &mut u32,
                 phases: &mut [f64; $crate::MOST],
                 rate: &mut f64,
             ) -> u32;
             fn $reset(
                 memory: *mut f64,
                 places: u64,
-                pos: &mut u64,
+                pos: &mut u32,
                 phases: &mut [f64; $crate::MOST],
                 rate: f64,
             ) -> u32;

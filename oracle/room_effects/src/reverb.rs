@@ -10,48 +10,48 @@ extern "C" {
         new_sample_rate: f64,
         memory: *mut f64,
         places: u64,
-        comb_pos_l: &mut [u64; 8],
-        comb_pos_r: &mut [u64; 8],
+        comb_pos_l: &mut [u32; 8],
+        comb_pos_r: &mut [u32; 8],
+        allpass_pos_l: &mut [u32; 4],
+        allpass_pos_r: &mut [u32; 4],
+        predelay_pos: &mut u32,
         comb_filter_state_l: &mut [f64; 8],
         comb_filter_state_r: &mut [f64; 8],
-        allpass_pos_l: &mut [u64; 4],
-        allpass_pos_r: &mut [u64; 4],
-        predelay_pos: &mut u64,
         sample_rate: &mut f64,
     ) -> u32;
     fn room_raw_reverb_retune(
         new_sample_rate: f64,
         memory: *mut f64,
         places: u64,
-        comb_pos_l: &mut [u64; 8],
-        comb_pos_r: &mut [u64; 8],
+        comb_pos_l: &mut [u32; 8],
+        comb_pos_r: &mut [u32; 8],
+        allpass_pos_l: &mut [u32; 4],
+        allpass_pos_r: &mut [u32; 4],
+        predelay_pos: &mut u32,
         comb_filter_state_l: &mut [f64; 8],
         comb_filter_state_r: &mut [f64; 8],
-        allpass_pos_l: &mut [u64; 4],
-        allpass_pos_r: &mut [u64; 4],
-        predelay_pos: &mut u64,
         sample_rate: &mut f64,
     ) -> u32;
     fn room_raw_reverb_reset(
         memory: *mut f64,
         places: u64,
-        comb_pos_l: &mut [u64; 8],
-        comb_pos_r: &mut [u64; 8],
+        comb_pos_l: &mut [u32; 8],
+        comb_pos_r: &mut [u32; 8],
+        allpass_pos_l: &mut [u32; 4],
+        allpass_pos_r: &mut [u32; 4],
+        predelay_pos: &mut u32,
         comb_filter_state_l: &mut [f64; 8],
         comb_filter_state_r: &mut [f64; 8],
-        allpass_pos_l: &mut [u64; 4],
-        allpass_pos_r: &mut [u64; 4],
-        predelay_pos: &mut u64,
         sample_rate: f64,
     ) -> u32;
     fn room_raw_reverb_tick(
-        comb_pos_l: &mut [u64; 8],
-        comb_pos_r: &mut [u64; 8],
+        comb_pos_l: &mut [u32; 8],
+        comb_pos_r: &mut [u32; 8],
+        allpass_pos_l: &mut [u32; 4],
+        allpass_pos_r: &mut [u32; 4],
+        predelay_pos: &mut u32,
         comb_filter_state_l: &mut [f64; 8],
         comb_filter_state_r: &mut [f64; 8],
-        allpass_pos_l: &mut [u64; 4],
-        allpass_pos_r: &mut [u64; 4],
-        predelay_pos: &mut u64,
         sample_rate: f64,
         memory: *mut f64,
         places: u64,
@@ -64,13 +64,13 @@ extern "C" {
         out: &mut [f64; 2],
     ) -> u32;
     fn room_raw_reverb_silent(
-        comb_pos_l: &[u64; 8],
-        comb_pos_r: &[u64; 8],
+        comb_pos_l: &[u32; 8],
+        comb_pos_r: &[u32; 8],
+        allpass_pos_l: &[u32; 4],
+        allpass_pos_r: &[u32; 4],
+        predelay_pos: u32,
         comb_filter_state_l: &[f64; 8],
         comb_filter_state_r: &[f64; 8],
-        allpass_pos_l: &[u64; 4],
-        allpass_pos_r: &[u64; 4],
-        predelay_pos: u64,
         sample_rate: f64,
         memory: *const f64,
         places: u64,
@@ -81,33 +81,33 @@ extern "C" {
 /// The fields of a reverb's state.
 #[derive(Clone, Copy, Debug)]
 pub struct State {
-    pub comb_pos_l: [u64; 8],
-    pub comb_pos_r: [u64; 8],
+    pub comb_pos_l: [u32; 8],
+    pub comb_pos_r: [u32; 8],
+    pub allpass_pos_l: [u32; 4],
+    pub allpass_pos_r: [u32; 4],
+    pub predelay_pos: u32,
     pub comb_filter_state_l: [f64; 8],
     pub comb_filter_state_r: [f64; 8],
-    pub allpass_pos_l: [u64; 4],
-    pub allpass_pos_r: [u64; 4],
-    pub predelay_pos: u64,
     pub sample_rate: f64,
 }
 
 impl State {
     /// Every position and every store the same.
-    pub fn even(position: u64, store: f64, sample_rate: f64) -> Self {
+    pub fn even(position: u32, store: f64, sample_rate: f64) -> Self {
         Self {
             comb_pos_l: [position; 8],
             comb_pos_r: [position; 8],
-            comb_filter_state_l: [store; 8],
-            comb_filter_state_r: [store; 8],
             allpass_pos_l: [position; 4],
             allpass_pos_r: [position; 4],
             predelay_pos: position,
+            comb_filter_state_l: [store; 8],
+            comb_filter_state_r: [store; 8],
             sample_rate,
         }
     }
 
     /// The positions in the order of the tank: combs left and right, all-passes left and right, predelay.
-    pub fn positions(&self) -> [u64; LINES] {
+    pub fn positions(&self) -> [u32; LINES] {
         std::array::from_fn(|line| match line {
             0..8 => self.comb_pos_l[line],
             8..16 => self.comb_pos_r[line - 8],
@@ -117,7 +117,7 @@ impl State {
         })
     }
 
-    pub fn position_mut(&mut self, line: usize) -> &mut u64 {
+    pub fn position_mut(&mut self, line: usize) -> &mut u32 {
         match line {
             0..8 => &mut self.comb_pos_l[line],
             8..16 => &mut self.comb_pos_r[line - 8],
@@ -162,11 +162,11 @@ pub fn start(state: &mut State, memory: &mut [f64], sample_rate: f64) -> u32 {
             memory.len() as u64,
             &mut state.comb_pos_l,
             &mut state.comb_pos_r,
-            &mut state.comb_filter_state_l,
-            &mut state.comb_filter_state_r,
             &mut state.allpass_pos_l,
             &mut state.allpass_pos_r,
             &mut state.predelay_pos,
+            &mut state.comb_filter_state_l,
+            &mut state.comb_filter_state_r,
             &mut state.sample_rate,
         )
     }
@@ -180,11 +180,11 @@ pub fn retune(state: &mut State, memory: &mut [f64], sample_rate: f64) -> u32 {
             memory.len() as u64,
             &mut state.comb_pos_l,
             &mut state.comb_pos_r,
-            &mut state.comb_filter_state_l,
-            &mut state.comb_filter_state_r,
             &mut state.allpass_pos_l,
             &mut state.allpass_pos_r,
             &mut state.predelay_pos,
+            &mut state.comb_filter_state_l,
+            &mut state.comb_filter_state_r,
             &mut state.sample_rate,
         )
     }
@@ -197,11 +197,11 @@ pub fn reset(state: &mut State, memory: &mut [f64]) -> u32 {
             memory.len() as u64,
             &mut state.comb_pos_l,
             &mut state.comb_pos_r,
-            &mut state.comb_filter_state_l,
-            &mut state.comb_filter_state_r,
             &mut state.allpass_pos_l,
             &mut state.allpass_pos_r,
             &mut state.predelay_pos,
+            &mut state.comb_filter_state_l,
+            &mut state.comb_filter_state_r,
             state.sample_rate,
         )
     }
@@ -214,11 +214,11 @@ pub fn tick(state: &mut State, memory: &mut [f64], t: &Tick, out: &mut [f64; 2])
         room_raw_reverb_tick(
             &mut state.comb_pos_l,
             &mut state.comb_pos_r,
-            &mut state.comb_filter_state_l,
-            &mut state.comb_filter_state_r,
             &mut state.allpass_pos_l,
             &mut state.allpass_pos_r,
             &mut state.predelay_pos,
+            &mut state.comb_filter_state_l,
+            &mut state.comb_filter_state_r,
             state.sample_rate,
             memory.as_mut_ptr(),
             memory.len() as u64,
@@ -238,11 +238,11 @@ pub fn silent(state: &State, memory: &[f64], out: &mut u32) -> u32 {
         room_raw_reverb_silent(
             &state.comb_pos_l,
             &state.comb_pos_r,
-            &state.comb_filter_state_l,
-            &state.comb_filter_state_r,
             &state.allpass_pos_l,
             &state.allpass_pos_r,
             state.predelay_pos,
+            &state.comb_filter_state_l,
+            &state.comb_filter_state_r,
             state.sample_rate,
             memory.as_ptr(),
             memory.len() as u64,

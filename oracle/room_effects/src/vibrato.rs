@@ -4,7 +4,7 @@ use crate::{Lined, State, Tick, MOST};
 
 extern "C" {
     fn room_raw_vibrato_tick(
-        pos: &mut u64,
+        pos: &mut u32,
         phase: &mut f64,
         rate: f64,
         memory: *mut f64,
@@ -19,7 +19,7 @@ extern "C" {
         age: &mut u32,
     ) -> u32;
     fn room_raw_vibrato_silent(
-        pos: u64,
+        pos: u32,
         phase: f64,
         rate: f64,
         memory: *const f64,

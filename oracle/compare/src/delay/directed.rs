@@ -6,6 +6,7 @@ use crate::ages::Compared;
 use crate::random::Random;
 use crate::run::Pair as _;
 use crate::table;
+use crate::table::as_position;
 use room_effects::delay::{Settings, State, Tick};
 
 pub fn run<const LINEAR: bool>(seed: u64) -> Result<Compared, String> {
@@ -117,7 +118,7 @@ fn ends_of_the_line<const LINEAR: bool>(random: &mut Random) -> Result<Compared,
                     let t = reading(&unit, distance as f64, random.ordinary_audio());
                     let call = Call {
                         state: State {
-                            write_pos,
+                            write_pos: as_position(write_pos),
                             smoothed_delay: 0.0,
                             delay_primed: 0,
                             ..unit.state

@@ -5,6 +5,7 @@ use super::{length, places, Delay, LONGEST};
 use crate::memory::Quiet;
 use crate::random::Random;
 use crate::table;
+use crate::table::as_position;
 use quiver_oracle::delay::coefficient;
 use room_effects::delay::{Settings, State, Tick};
 
@@ -52,7 +53,7 @@ impl<const LINEAR: bool> Delay<LINEAR> {
     /// The place that the last tick wrote, if what it holds is not ordinary: it would stay, and spread until all is NaN.
     fn last_wild(&self) -> Option<usize> {
         let length = self.length();
-        let last = ((self.state.write_pos + length - 1) % length) as usize;
+        let last = ((u64::from(self.state.write_pos) + length - 1) % length) as usize;
         Some(last).filter(|last| wild(self.memory.shown(self.memory.count())[*last]))
     }
 
@@ -176,10 +177,10 @@ impl<const LINEAR: bool> Delay<LINEAR> {
     /// Another position, another glide, another coefficient; now and then the other mode, and flags that are on otherwise.
     fn at_any_state(&self, random: &mut Random) -> State {
         let last = self.length() - 1;
-        let (own, any) = (self.state.write_pos, random.below(last + 1));
+        let (own, any) = (self.state.write_pos, as_position(random.below(last + 1)));
         let primed = random.flag();
         State {
-            write_pos: random.of(&[own, own, own, 0, last, any]),
+            write_pos: random.of(&[own, own, own, 0, as_position(last), any]),
             delay_primed: primed,
             smoothed_delay: if primed != 0 {
                 random.distance(self.length())
@@ -203,7 +204,7 @@ impl<const LINEAR: bool> Delay<LINEAR> {
         let maximum = random.within(0.001, most * 1.1).clamp(0.001, 60.0);
         let length = table::delay_length(sample_rate, maximum);
         State {
-            write_pos: random.below(length + length / 16),
+            write_pos: as_position(random.below(length + length / 16)),
             smoothed_delay: random.distance(length),
             delay_primed: 1,
             sample_rate,

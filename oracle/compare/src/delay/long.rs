@@ -4,6 +4,7 @@ use super::call::{Call, What};
 use super::{draw, Delay};
 use crate::random::Random;
 use crate::run::Pair as _;
+use crate::table::as_position;
 use room_effects::delay::{Settings, State};
 
 /// So often, and at the end, every place is compared; at each tick the one that was written is.
@@ -24,7 +25,7 @@ pub fn run(ticks: u64, seed: u64) -> Result<String, String> {
     for place in 0..length as usize {
         unit.plant(place, random.ordinary_audio());
     }
-    let mut write_pos = length - (ticks / 2).clamp(1, length);
+    let mut write_pos = as_position(length - (ticks / 2).clamp(1, length));
     for at in 0..ticks {
         let state = State {
             write_pos,

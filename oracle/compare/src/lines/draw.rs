@@ -5,6 +5,7 @@ use super::{length, needed, Effect, Lines};
 use crate::memory::Quiet;
 use crate::random::Random;
 use crate::table;
+use crate::table::as_position;
 use room_effects::{State, Tick};
 
 impl<E: Effect> Lines<E> {
@@ -152,9 +153,9 @@ impl<E: Effect> Lines<E> {
     /// Another position and other phases.
     fn at_any_state(&self, random: &mut Random) -> State {
         let last = self.length() - 1;
-        let any = random.below(last + 1);
+        let any = as_position(random.below(last + 1));
         State {
-            write_pos: random.of(&[0, last, any, any]),
+            write_pos: random.of(&[0, as_position(last), any, any]),
             ..self.with_phases(|_| random.phase())
         }
     }
@@ -182,7 +183,7 @@ impl<E: Effect> Lines<E> {
         };
         let length = length::<E>(sample_rate);
         State {
-            write_pos: random.below(length + length / 16),
+            write_pos: as_position(random.below(length + length / 16)),
             sample_rate,
             ..self.state
         }

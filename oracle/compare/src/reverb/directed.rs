@@ -5,6 +5,7 @@ use super::{is_silent, lengths_agree, Reverb};
 use crate::memory::Quiet;
 use crate::random::Random;
 use crate::run::{number_agrees, Pair as _};
+use crate::table::as_position;
 use crate::table::{self, TANK, TANK_PLACES};
 use quiver_oracle::reverb::Unit;
 use room_effects::reverb as ours;
@@ -93,14 +94,14 @@ fn lengths_at(
     lengths_agree(&lengths, rust).map_err(|message| format!("at {rate:e}: {message}"))?;
     let mut last = State::even(0, 0.0, rate);
     for (line, length) in lengths.into_iter().enumerate() {
-        *last.position_mut(line) = length - 1;
+        *last.position_mut(line) = as_position(length - 1);
     }
     let asked =
         |state: &State, number: u32| number_agrees(ours::silent(state, memory, &mut 0), number);
     asked(&last, 0).map_err(|message| format!("at {rate:e}, length − 1: {message}"))?;
     for line in lines {
         let mut state = last;
-        *state.position_mut(line) = lengths[line];
+        *state.position_mut(line) = as_position(lengths[line]);
         asked(&state, table::STATE)
             .map_err(|message| format!("at {rate:e}, length of line {line}: {message}"))?;
     }
@@ -117,7 +118,7 @@ fn ends_of_the_lines(random: &mut Random) -> Result<(), String> {
         for back in [1, 2] {
             let mut state = State::even(0, 0.5, rate);
             for (line, length) in table::tank_lengths(rate).into_iter().enumerate() {
-                *state.position_mut(line) = length - back;
+                *state.position_mut(line) = as_position(length - back);
             }
             for _ in 0..3 {
                 tick(

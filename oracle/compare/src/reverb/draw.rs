@@ -4,6 +4,7 @@ use super::call::{Call, What};
 use super::{wild, Reverb};
 use crate::memory::Quiet;
 use crate::random::Random;
+use crate::table::as_position;
 use crate::table::{self, TANK, TANK_PLACES};
 use room_effects::reverb::{State, Tick, LINES, STORES};
 
@@ -51,7 +52,7 @@ impl Reverb {
         if random.one_in(64) {
             let line = random.below(LINES as u64) as usize;
             let (start, count) = TANK[line];
-            let next = state.positions()[line].min(count as u64 - 1) as usize;
+            let next = (state.positions()[line] as usize).min(count - 1);
             let any = random.below(self.memory.count() as u64) as usize;
             planted.push((random.of(&[start + next, any]), random.audio()));
         }
@@ -155,8 +156,8 @@ impl Reverb {
         let mut state = self.state;
         for (line, length) in self.lengths().into_iter().enumerate() {
             let own = state.positions()[line];
-            let any = random.below(length);
-            *state.position_mut(line) = random.of(&[own, own, 0, length - 1, any]);
+            let any = as_position(random.below(length));
+            *state.position_mut(line) = random.of(&[own, own, 0, as_position(length - 1), any]);
         }
         for comb in 0..STORES {
             if random.one_in(4) {
@@ -177,7 +178,7 @@ impl Reverb {
             .enumerate()
         {
             let beyond = u64::from(random.one_in(200));
-            *state.position_mut(line) = random.below(length) + beyond * length;
+            *state.position_mut(line) = as_position(random.below(length) + beyond * length);
         }
         state
     }

@@ -6,6 +6,7 @@ use super::{length, Tape};
 use crate::ages::Compared;
 use crate::random::Random;
 use crate::run::{Made, Pair as _};
+use crate::table::as_position;
 use room_effects::tape_delay::{Read, State};
 
 /// How many pairs were compared, and which ages.
@@ -84,7 +85,7 @@ fn lengths() -> Result<(), String> {
 /// A read half with every port set, from an unprimed state at this position, so many places back.
 fn reading(unit: &Tape, write_pos: u64, distance: u64, audio: f64) -> (State, Read) {
     let state = State {
-        write_pos,
+        write_pos: as_position(write_pos),
         smoothed_delay: 0.0,
         delay_primed: 0,
         ..unit.state
@@ -193,7 +194,7 @@ fn zeros(unit: &mut Tape) -> Result<(), String> {
         let zero = |i: u32| if signs >> i & 1 == 1 { -0.0 } else { 0.0 };
         let length = unit.length();
         for behind in [1, 2] {
-            let at = (unit.state.write_pos + length - behind) % length;
+            let at = (u64::from(unit.state.write_pos) + length - behind) % length;
             unit.plant(at as usize, zero(5));
         }
         let state = State {

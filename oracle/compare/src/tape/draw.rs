@@ -6,6 +6,7 @@ use super::{length, Tape};
 use crate::ages;
 use crate::memory::Quiet;
 use crate::random::Random;
+use crate::table::as_position;
 use crate::table::TAPE_MAXIMUM;
 use room_effects::tape_delay::{Read, State};
 
@@ -65,7 +66,7 @@ impl Tape {
         let count = self.memory.count() as u64;
         let length = length(state.sample_rate);
         let back = ages::tape(state, t, length) as u64 + random.below(3);
-        let read = (state.write_pos + 2 * length + 1 - back) % length;
+        let read = (u64::from(state.write_pos) + 2 * length + 1 - back) % length;
         let any = random.below(count);
         let place = random.of(&[any, read, read]);
         let value = random.audio();
@@ -214,11 +215,11 @@ impl Tape {
     /// otherwise.
     fn at_any_state(&self, random: &mut Random) -> State {
         let last = self.length() - 1;
-        let (own, any) = (self.state.write_pos, random.below(last + 1));
+        let (own, any) = (self.state.write_pos, as_position(random.below(last + 1)));
         let primed = random.flag();
         let waiting = random.flag();
         State {
-            write_pos: random.of(&[own, own, own, 0, last, any]),
+            write_pos: random.of(&[own, own, own, 0, as_position(last), any]),
             delay_primed: primed,
             smoothed_delay: if primed != 0 {
                 random.distance(self.length())
@@ -243,7 +244,7 @@ impl Tape {
         let sample_rate = low_rate(random);
         let length = length(sample_rate);
         State {
-            write_pos: random.below(length + length / 16),
+            write_pos: as_position(random.below(length + length / 16)),
             smoothed_delay: random.distance(length),
             delay_primed: 1,
             sample_rate,

@@ -112,7 +112,7 @@ impl Tape {
                     saturated: value,
                     out: audio * (1.0 - mix) + read * mix,
                     stored: value * 5.0,
-                    next: ((before.write_pos + 1) % length(before.sample_rate)) as usize,
+                    next: ((u64::from(before.write_pos) + 1) % length(before.sample_rate)) as usize,
                 };
                 (rest, false)
             }

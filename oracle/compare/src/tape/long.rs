@@ -7,6 +7,7 @@ use super::Tape;
 use crate::ages::Compared;
 use crate::random::Random;
 use crate::run::{Made, Pair as _};
+use crate::table::as_position;
 use room_effects::tape_delay::State;
 
 /// Pairs of one unit, the first half of them before the end of the line and the rest from its first place on.
@@ -21,7 +22,7 @@ pub fn run(seed: u64) -> Result<Directed, String> {
         let mut unit = Tape::started(rate, 0.5, 1)?;
         unit.fill(random.bits());
         let first = unit.length() - PAIRS / 2;
-        unit.state.write_pos = first;
+        unit.state.write_pos = as_position(first);
         unit.rust_at(&unit.state.clone());
         while unit.pairs < PAIRS {
             let state = State {

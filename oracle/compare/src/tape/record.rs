@@ -7,6 +7,7 @@ use super::{length, KIND};
 use crate::ages;
 use crate::bits::word;
 use crate::random::Random;
+use crate::table::as_position;
 use quiver_oracle::delay::{Moving, Unit};
 use room_effects::tape_delay::{Read, State};
 
@@ -140,7 +141,7 @@ fn state(unit: &Unit) -> State {
         delay_primed,
     } = unit.moving();
     State {
-        write_pos: write_pos as u64,
+        write_pos: as_position(write_pos as u64),
         smoothed_delay,
         delay_primed: u32::from(delay_primed),
         waiting: 0,

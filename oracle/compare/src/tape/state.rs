@@ -7,7 +7,7 @@ pub const KEPT: [&str; 3] = ["kept audio", "kept read", "kept mix"];
 
 pub fn junk_state() -> State {
     State {
-        write_pos: JUNK as u64,
+        write_pos: JUNK as u32,
         smoothed_delay: JUNK,
         delay_primed: JUNK as u32,
         waiting: JUNK as u32,
@@ -34,8 +34,8 @@ pub fn state_untouched(should: &State, is: &State) -> Result<(), String> {
     let counts = |state: &State| {
         [
             ("position after a refusal", state.write_pos),
-            ("primed after a refusal", u64::from(state.delay_primed)),
-            ("waiting after a refusal", u64::from(state.waiting)),
+            ("primed after a refusal", state.delay_primed),
+            ("waiting after a refusal", state.waiting),
         ]
     };
     for ((what, should), (_, is)) in counts(should).into_iter().zip(counts(is)) {

@@ -7,6 +7,7 @@ use super::Tape;
 use crate::memory::Quiet;
 use crate::run::Made;
 use crate::table;
+use crate::table::as_position;
 use room_effects::tape_delay::{Read, State};
 
 const RATE: f64 = 8_000.0;
@@ -72,7 +73,7 @@ fn orders(unit: &mut Tape) -> Result<(), String> {
             let state = if is(2) { waiting(unit) } else { idle(unit) };
             let call = Call {
                 state: State {
-                    write_pos: if is(3) { unit.length() } else { 7 },
+                    write_pos: if is(3) { as_position(unit.length()) } else { 7 },
                     kept: if is(4) { [0.0, 0.5, 1.5] } else { state.kept },
                     ..state
                 },
@@ -179,7 +180,7 @@ fn no_number(unit: &mut Tape) -> Result<(), String> {
     for ends in [What::Store(0.5), What::Store(-0.0), What::Reset] {
         let length = unit.length();
         for back in 1..=3 {
-            let at = (unit.state.write_pos + length - back) % length;
+            let at = (u64::from(unit.state.write_pos) + length - back) % length;
             unit.plant(at as usize, f64::NAN);
         }
         let near = Read {
