@@ -79,6 +79,7 @@ void phaser(void);
 void tape(void);
 void places(void);
 void order_of_causes(void);
+void layout(void);
 void ends(void);
 void ages(void);
 void stuck(void);

@@ -267,7 +267,7 @@ static void echo(void)
 /* The exported function by itself: bits of the mask beyond the three ports are not read. */
 static void mask(void)
 {
-    uint64_t pos = 3;
+    uint32_t pos = 3;
     double phases[3] = {0.0, 0.33, 0.67};
     double out[3] = {JUNK, JUNK, JUNK};
     uint32_t age = JUNK_AGE;

@@ -45,18 +45,18 @@ uint32_t ticked(room_delay *state, uint64_t places, const struct tick_of_delay *
 
 room_delay fresh(void)
 {
-    const room_delay state = {0, 0.0, 0, 8000.0, 0.5, MAXIMUM, 0};
+    const room_delay state = {0, 0.0, 8000.0, 0.5, MAXIMUM, 0, 0};
     return state;
 }
 
-room_delay unprimed_at(uint64_t write_pos)
+room_delay unprimed_at(uint32_t write_pos)
 {
     room_delay state = fresh();
     state.write_pos = write_pos;
     return state;
 }
 
-room_delay primed_at(uint64_t write_pos, double distance)
+room_delay primed_at(uint32_t write_pos, double distance)
 {
     room_delay state = unprimed_at(write_pos);
     state.smoothed_delay = distance;
@@ -72,7 +72,7 @@ room_delay linear_of(room_delay state)
 
 static room_delay junk_delay(void)
 {
-    const room_delay state = {12345u, JUNK, 12345u, JUNK, JUNK, JUNK, 12345u};
+    const room_delay state = {12345u, JUNK, JUNK, JUNK, JUNK, 12345u, 12345u};
     return state;
 }
 
@@ -169,7 +169,7 @@ static void start_accepted(double rate, double maximum, double coefficient, uint
 static void start_refused(double rate, double maximum, double coefficient, unsigned places, uint32_t number, const char *what,
                           unsigned i)
 {
-    const room_delay blank = {0, 0.0, 0, 0.0, 0.0, 0.0, 0};
+    const room_delay blank = {0, 0.0, 0.0, 0.0, 0.0, 0, 0};
     room_delay state = junk_delay();
     fill();
     check(room_delay_start(&state, memory, places, rate, maximum, coefficient, 1u) == number, what, i);
@@ -372,7 +372,7 @@ static void state_refused(room_delay state, unsigned i)
 
 static void positions_refused(void)
 {
-    const uint64_t positions[] = {LENGTH, LENGTH + 1u, 2u * LENGTH, UINT64_C(1) << 63, UINT64_MAX};
+    const uint32_t positions[] = {LENGTH, LENGTH + 1u, 2u * LENGTH, UINT32_C(1) << 31, UINT32_MAX};
     unsigned i;
     for (i = 0; i < COUNT(positions); i++) {
         state_refused(unprimed_at(positions[i]), i);
@@ -424,7 +424,7 @@ static void distances_refused(void)
 
 static void states_refused(void)
 {
-    const room_delay blank = {0, 0.0, 0, 0.0, 0.0, 0.0, 0};
+    const room_delay blank = {0, 0.0, 0.0, 0.0, 0.0, 0, 0};
     state_refused(blank, 0);
     positions_refused();
     settings_refused();

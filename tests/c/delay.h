@@ -26,10 +26,10 @@ uint32_t ticked(room_delay *state, uint64_t places, const struct tick_of_delay *
 room_delay fresh(void);
 
 /* That at another position: a tick reads at its target. */
-room_delay unprimed_at(uint64_t write_pos);
+room_delay unprimed_at(uint32_t write_pos);
 
 /* And with a glide that stands at this distance. */
-room_delay primed_at(uint64_t write_pos, double distance);
+room_delay primed_at(uint32_t write_pos, double distance);
 
 /* The same state in linear mode. */
 room_delay linear_of(room_delay state);

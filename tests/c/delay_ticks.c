@@ -4,7 +4,7 @@
 #include <string.h>
 
 /* A line of 0.5 but for one place, at this distance from the position. */
-static void line_with(uint64_t write_pos, unsigned distance, double value)
+static void line_with(uint32_t write_pos, unsigned distance, double value)
 {
     unsigned i;
     fill();
@@ -204,7 +204,7 @@ static void mixes(void)
 }
 
 /* Runs a tick at a line that plays `wet`: it stores this, at the position and nowhere else, spare places among them. */
-static void stores(uint64_t write_pos, double wet, struct tick_of_delay t, unsigned places, double stored, unsigned i)
+static void stores(uint32_t write_pos, double wet, struct tick_of_delay t, unsigned places, double stored, unsigned i)
 {
     room_delay state = unprimed_at(write_pos);
     double out[1];
@@ -223,7 +223,7 @@ static void feedbacks(void)
     const struct numbers above = at_least_one();
     const struct numbers below = at_most_zero();
     const double within[] = {0.5, 0.1, nearer(0.99), 0.99, SMALLEST};
-    const uint64_t positions[] = {0, 1, 250, LENGTH - 2u, LENGTH - 1u};
+    const uint32_t positions[] = {0, 1, 250, LENGTH - 2u, LENGTH - 1u};
     struct tick_of_delay t = delay_tick(1.0, 1.0, 2.0);
     unsigned i;
     for (i = 0; i < COUNT(within); i++) {
@@ -314,13 +314,13 @@ static void echo(void)
 static void mask(void)
 {
     const double nan_ = (double)NAN;
-    uint64_t write_pos = 3;
+    uint32_t write_pos = 3;
     double smoothed_delay = 0.0;
     uint32_t delay_primed = 0;
     double out = JUNK;
     uint32_t age = JUNK_AGE;
     line_with(3u, 16u, 12.0);
-    check(room_raw_delay_tick(&write_pos, &smoothed_delay, &delay_primed, 8000.0, 0.5, MAXIMUM, 0u, memory, LENGTH,
+    check(room_raw_delay_tick(&write_pos, &smoothed_delay, 8000.0, 0.5, MAXIMUM, &delay_primed, 0u, memory, LENGTH,
                               UINT32_C(0xfffffff1), 1.0, nan_, nan_, nan_, 2.0, &out, &age) == 0,
           "audio and the other bits", 0);
     check(same(out, 6.5) && age == 16u, "audio and the other bits: controls are unset", 0);

@@ -31,13 +31,13 @@ int cleared(unsigned places)
     return all_same(memory + places, kept + places, ROOM - places);
 }
 
-struct unit unit_at(uint64_t write_pos)
+struct unit unit_at(uint32_t write_pos)
 {
     const struct unit unit = {write_pos, {0.25, 0.5, 0.75}, 8000.0};
     return unit;
 }
 
-struct unit unit_of(uint64_t write_pos, const double phases[MOST], double sample_rate)
+struct unit unit_of(uint32_t write_pos, const double phases[MOST], double sample_rate)
 {
     struct unit unit;
     unit.write_pos = write_pos;
@@ -170,7 +170,7 @@ static void retunes(const struct lined *e)
 
 static void resets(const struct lined *e)
 {
-    const uint64_t positions[] = {0, 1, length_of(e) - 1u};
+    const uint32_t positions[] = {0, 1, length_of(e) - 1u};
     const unsigned lent[] = {needed(e), needed(e) + 1u, ROOM};
     unsigned i;
     for (i = 0; i < COUNT(positions); i++) {
@@ -205,8 +205,8 @@ static void state_refused(const struct lined *e, struct unit unit, unsigned i)
 
 static void states_refused(const struct lined *e)
 {
-    const uint64_t length = length_of(e);
-    const uint64_t positions[] = {length, length + 1u, 2u * length, UINT64_C(1) << 63, UINT64_MAX};
+    const uint32_t length = length_of(e);
+    const uint32_t positions[] = {length, length + 1u, 2u * length, UINT32_C(1) << 31, UINT32_MAX};
     const struct numbers phases = phases_refused();
     const struct numbers rates = rates_refused();
     unsigned i, k;

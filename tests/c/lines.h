@@ -9,7 +9,7 @@
 
 /* The fields of a state; of the phases, the effect's own come first. */
 struct unit {
-    uint64_t write_pos;
+    uint32_t write_pos;
     double phases[MOST];
     double sample_rate;
 };
@@ -96,13 +96,13 @@ int memory_kept(void);
 int cleared(unsigned places);
 
 /* A state at 8,000 with this position, its phases 0.25, 0.5 and 0.75. */
-struct unit unit_at(uint64_t write_pos);
+struct unit unit_at(uint32_t write_pos);
 
 /* A tick with every port set, feedback to 0, and all sines the same. */
 struct tick tick_of(double audio, double depth, double mix, double frequency, double sine);
 
 /* Runs the tick from this position at 8,000, in the memory as it is: the samples, a NaN standing for any. */
-void tick_plays(const struct lined *e, uint64_t write_pos, struct tick t, const double samples[MOST], const char *what,
+void tick_plays(const struct lined *e, uint32_t write_pos, struct tick t, const double samples[MOST], const char *what,
                 unsigned i);
 
 /* Every phase at `phase`, a tick at this frequency: what the phases then are. */

@@ -7,7 +7,7 @@
 /* What `memory_kept` and `cleared` compare the memory with; `fill` writes it. */
 extern double kept[ROOM];
 
-struct unit unit_of(uint64_t write_pos, const double phases[MOST], double sample_rate);
+struct unit unit_of(uint32_t write_pos, const double phases[MOST], double sample_rate);
 int unit_is(const struct lined *e, const struct unit *is, struct unit should);
 
 /* Length of a line and places needed, at 8,000. */

@@ -13,7 +13,7 @@ struct tick tick_of(double audio, double depth, double mix, double frequency, do
     return t;
 }
 
-void tick_plays(const struct lined *e, uint64_t write_pos, struct tick t, const double samples[MOST], const char *what,
+void tick_plays(const struct lined *e, uint32_t write_pos, struct tick t, const double samples[MOST], const char *what,
                 unsigned i)
 {
     struct unit unit = unit_at(write_pos);
@@ -74,7 +74,7 @@ static void fill_to_store(const struct lined *e)
 }
 
 /* Runs the tick from this position, lent so many places: all that it writes is the audio, in one place of each line. */
-static void tick_stores(const struct lined *e, uint64_t write_pos, unsigned places, struct tick t, double stored, unsigned i)
+static void tick_stores(const struct lined *e, uint32_t write_pos, unsigned places, struct tick t, double stored, unsigned i)
 {
     struct unit unit = unit_at(write_pos);
     double out[MOST];
@@ -83,7 +83,7 @@ static void tick_stores(const struct lined *e, uint64_t write_pos, unsigned plac
     fill_to_store(e);
     check(e->tick(&unit, memory, places, &t, out, &age) == 0, "tick is accepted", i);
     for (k = 0; k < e->lines; k++) {
-        const unsigned place = k * length_of(e) + (unsigned)write_pos;
+        const unsigned place = k * length_of(e) + write_pos;
         check(plays(memory[place], stored), "a tick stores its audio at the position", i);
         memory[place] = kept[place];
     }
@@ -94,7 +94,7 @@ static void tick_stores(const struct lined *e, uint64_t write_pos, unsigned plac
 
 static void stores(const struct lined *e)
 {
-    const uint64_t positions[] = {0, 1, length_of(e) / 2u, length_of(e) - 2u, length_of(e) - 1u};
+    const uint32_t positions[] = {0, 1, length_of(e) / 2u, length_of(e) - 2u, length_of(e) - 1u};
     const double audio[] = {4.0, 0.0, -0.0, SMALLEST, -DBL_MAX};
     const double not_finite[] = {(double)NAN, ODD_NAN, (double)INFINITY, -(double)INFINITY};
     struct tick t = tick_of(JUNK, 0.5, 0.5, 1.0, 0.25);

@@ -1,18 +1,16 @@
 /* Where several causes of a refusal apply at once the first in the call's order is given: every set of causes, for every call
    of every effect, each cause brought about in several ways. */
-#include "effects.h"
+#include "order.h"
 
 #include <string.h>
 
 #define RATE 8000.0
 #define MAXIMUM 0.0625
-#define ORDER_ROOM 96100u
 
-static double lent[ORDER_ROOM];
-static double as_lent[ORDER_ROOM];
+double order_lent[ORDER_ROOM];
 
 /* The places at 8,000 by document 01, of chorus, phaser and tape delay by document 02; the delay's with that maximum. */
-static const uint64_t places_at_8000[EFFECTS_END] = {0, 501, 266, 180, 170, 0, 87136, 0, 96001};
+const uint64_t places_at_8000[EFFECTS_END] = {0, 501, 266, 180, 170, 0, 87136, 0, 96001};
 
 /* "start 1, 2, 3; retune 4, 1, 2, 3; reset and silent 4, 3; tick 4, 3, 5, 6", and of the tape delay the read half 4, 7, 3, 5
    and the store half 4, 7, 3, 6. */
@@ -24,12 +22,12 @@ static const char *order_of(int effect, int call)
 
 static void set_wrong_reverb(room_reverb *state, unsigned way)
 {
-    uint64_t *const positions[] = {state->comb_pos_l,    state->comb_pos_r,    state->allpass_pos_l,
+    uint32_t *const positions[] = {state->comb_pos_l,    state->comb_pos_r,    state->allpass_pos_l,
                                    state->allpass_pos_r, &state->predelay_pos, &state->comb_pos_r[7]};
     if (way % 7u == 6u) {
         state->sample_rate = farther(192000.0);
     } else {
-        *positions[way % 7u] = UINT64_C(9600) << way;
+        *positions[way % 7u] = UINT32_C(9600) << way;
     }
 }
 
@@ -83,7 +81,7 @@ static void set_wrong_state(int effect, struct effect_state *s, unsigned way)
 {
     const double phases[] = {1.0, -SMALLEST, ODD_NAN};
     const double phase = phases[way % 3u];
-    const uint64_t position = UINT64_C(6154) << way;
+    const uint32_t position = UINT32_C(6154) << way;
     if (effect == ROOM_DELAY) {
         set_wrong_delay(&s->delay, way);
     } else if (effect == ROOM_TAPE_DELAY) {
@@ -131,7 +129,7 @@ static void set_wrong_argument(struct effect_call *c, char cause, unsigned way)
    waits. */
 static void begin(int effect, int call, struct effect_state *state)
 {
-    struct effect_call c = effect_good(effect, START, lent, places_at_8000[effect], RATE, MAXIMUM);
+    struct effect_call c = effect_good(effect, START, order_lent, places_at_8000[effect], RATE, MAXIMUM);
     double out[3];
     uint32_t age;
     memset(state, 0, sizeof *state);
@@ -173,46 +171,62 @@ static uint32_t bring_about(struct effect_call *c, struct effect_state *state, u
     return number;
 }
 
-/* Makes the call with these causes, and looks at what it left. */
-static void attempt(int effect, int call, unsigned set, unsigned way)
+/* Makes the call with these causes ready, and hands it over. */
+static void with_causes(int effect, int call, unsigned set, unsigned way, void (*made)(const struct attempt *a))
 {
-    const unsigned i = 10000u * (unsigned)effect + 1000u * (unsigned)call + 10u * set + way;
-    const unsigned answers = effect_answers(effect, call);
-    struct effect_call c = effect_good(effect, call, lent, places_at_8000[effect], RATE, MAXIMUM);
+    struct attempt a;
+    a.places = places_at_8000[effect];
+    a.call = effect_good(effect, call, order_lent, a.places, RATE, MAXIMUM);
+    a.which = 10000u * (unsigned)effect + 1000u * (unsigned)call + 10u * set + way;
+    begin(effect, call, &a.state);
+    a.number = bring_about(&a.call, &a.state, set, way);
+    if (a.number != NONE) {
+        made(&a);
+    }
+}
+
+void each_attempt(int effect, void (*made)(const struct attempt *a))
+{
+    int call;
+    unsigned set, way;
+    for (call = START; call < CALLS; call++) {
+        for (set = 0; effect_has(effect, call) && set < 1u << strlen(order_of(effect, call)); set++) {
+            for (way = 0; way < 8u; way++) {
+                with_causes(effect, call, set, way, made);
+            }
+        }
+    }
+}
+
+/* Makes the call, and looks at what it left. */
+static void first_is_given(const struct attempt *a)
+{
+    static double as_lent[ORDER_ROOM];
     const double none[3] = {0.0, 0.0, 0.0};
+    const unsigned i = a->which;
+    const int effect = a->call.effect, call = a->call.call;
     struct effect_state state, left;
     double out[3] = {JUNK, JUNK, JUNK};
-    uint32_t number, age = JUNK_AGE;
-    begin(effect, call, &state);
-    number = bring_about(&c, &state, set, way);
-    if (number == NONE) {
-        return;
-    }
-    memcpy(&left, &state, sizeof left);
-    memcpy(as_lent, lent, sizeof lent);
+    uint32_t age = JUNK_AGE;
+    memcpy(&state, &a->state, sizeof state);
+    memcpy(&left, &a->state, sizeof left);
+    memcpy(as_lent, order_lent, sizeof as_lent);
     if (call == START) {
         memset(&left, 0, sizeof left);
     }
-    check(effect_make(&state, &c, out, &age) == number, "the first cause in the call's order is given", i);
-    if (number != 0u) {
+    check(effect_make(&state, &a->call, out, &age) == a->number, "the first cause in the call's order is given", i);
+    if (a->number != 0u) {
         check(memcmp(&state, &left, sizeof state) == 0, "a refused call leaves the state, of a start zeros", i);
-        check(memcmp(as_lent, lent, sizeof lent) == 0, "a refused call leaves the memory", i);
-        check(all_same(out, none, answers), "a refused call plays +0 and answers 0", i);
+        check(memcmp(as_lent, order_lent, sizeof as_lent) == 0, "a refused call leaves the memory", i);
+        check(all_same(out, none, effect_answers(effect, call)), "a refused call plays +0 and answers 0", i);
         check(call != TICK || !effect_aged(effect) || age == 0u, "a refused tick answers the age 0", i);
     }
 }
 
 void order_of_causes(void)
 {
-    int effect, call;
-    unsigned set, way;
+    int effect;
     for (effect = ROOM_DELAY; effect < EFFECTS_END; effect++) {
-        for (call = START; call < CALLS; call++) {
-            for (set = 0; effect_has(effect, call) && set < 1u << strlen(order_of(effect, call)); set++) {
-                for (way = 0; way < 8u; way++) {
-                    attempt(effect, call, set, way);
-                }
-            }
-        }
+        each_attempt(effect, first_is_given);
     }
 }

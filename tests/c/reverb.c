@@ -42,7 +42,7 @@ static int tank_cleared(unsigned places)
 /* States */
 
 /* Every number of it the same. */
-static room_reverb even_reverb(uint64_t position, double store, double rate)
+static room_reverb even_reverb(uint32_t position, double store, double rate)
 {
     room_reverb state;
     unsigned i;
@@ -285,8 +285,8 @@ static void states_at(const struct tuning *at, unsigned which)
     room_reverb state;
     unsigned line;
     for (line = 0; line < LINES; line++) {
-        const uint64_t length = line_length(at, line);
-        const uint64_t far[] = {length + 1u, 2u * length, 4096u * 1500u, UINT64_C(1) << 32, UINT64_C(1) << 63, UINT64_MAX};
+        const uint32_t length = line_length(at, line);
+        const uint32_t far[] = {length + 1u, 2u * length, 4096u * 1500u, UINT32_C(1) << 31, UINT32_MAX};
         const unsigned i = 1000u * which + 10u * line;
         state = varied;
         *line_pos(&state, line) = length;

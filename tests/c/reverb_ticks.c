@@ -81,10 +81,10 @@ static void moves_at(const struct tuning *at, unsigned which)
         }
         check(reverb_ticked(&state, TANK + 1u, &t, out) == 0, "tick at positions", 10u * which + i);
         for (line = 0; line < LINES; line++) {
-            const uint64_t next = (*line_pos(&states[i], line) + 1u) % line_length(at, line);
+            const uint32_t next = (*line_pos(&states[i], line) + 1u) % line_length(at, line);
             check(*line_pos(&state, line) == next, "a position moves on", 1000u * which + 10u * line + i);
             check(!same(*at_pos(&states[i], line), 0.25), "a line is written", 1000u * which + 10u * line + i);
-            *at_pos(&states[i], line) = filled(line_start(line) + (unsigned)*line_pos(&states[i], line));
+            *at_pos(&states[i], line) = filled(line_start(line) + *line_pos(&states[i], line));
         }
         check(tank_kept(), "no other place is written", 10u * which + i);
         check(same(state.sample_rate, at->rate), "the rate stays", 10u * which + i);
@@ -98,7 +98,7 @@ static void moves_at(const struct tuning *at, unsigned which)
 }
 
 /* What the combs get: a predelay of so many samples from this position at this rate, where the place `back` holds 9. */
-static void predelayed(double rate, double control, uint64_t pos, unsigned back, const char *what, unsigned i)
+static void predelayed(double rate, double control, uint32_t pos, unsigned back, const char *what, unsigned i)
 {
     room_reverb state = cleared_reverb(rate);
     struct tick_of_reverb t = reverb_tick(2.0, 0.5, 0.5, 0.0);
@@ -119,10 +119,10 @@ static void predelays(void)
 {
     const double none[] = {0.0, -0.0, SMALLEST, -SMALLEST, -1.0, -(double)INFINITY, 0.00124};
     const double all[] = {1.0, nearer(1.0), farther(1.0), 2.0, DBL_MAX, (double)INFINITY};
-    const uint64_t positions[] = {0, 3u, 501u, 502u, 9598u, 9599u};
+    const uint32_t positions[] = {0, 3u, 501u, 502u, 9598u, 9599u};
     unsigned i, k;
     for (k = 0; k < COUNT(positions); k++) {
-        const uint64_t pos = positions[k];
+        const uint32_t pos = positions[k];
         for (i = 0; i < COUNT(none); i++) {
             predelayed(8000.0, none[i], pos, 0, "a delay of 0 samples passes the audio itself", 10u * k + i);
         }
@@ -358,8 +358,8 @@ static void mask(void)
     const double nan_ = (double)NAN;
     room_reverb state = playing();
     double out[2] = {JUNK, JUNK};
-    check(room_raw_reverb_tick(state.comb_pos_l, state.comb_pos_r, state.comb_filter_state_l, state.comb_filter_state_r,
-                               state.allpass_pos_l, state.allpass_pos_r, &state.predelay_pos, 8000.0, tank, TANK,
+    check(room_raw_reverb_tick(state.comb_pos_l, state.comb_pos_r, state.allpass_pos_l, state.allpass_pos_r,
+                               &state.predelay_pos, state.comb_filter_state_l, state.comb_filter_state_r, 8000.0, tank, TANK,
                                UINT32_C(0xffffffe1), 1.0, nan_, nan_, nan_, nan_, out) == 0,
           "audio and the other bits", 0);
     check(same(out[0], 6.5) && same(out[1], 10.5), "audio and the other bits: controls are unset", 0);

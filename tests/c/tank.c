@@ -44,7 +44,7 @@ unsigned line_length(const struct tuning *at, unsigned line)
     return 9600u;
 }
 
-uint64_t *line_pos(room_reverb *state, unsigned line)
+uint32_t *line_pos(room_reverb *state, unsigned line)
 {
     return line < RIGHT_COMB      ? &state->comb_pos_l[line]
            : line < LEFT_ALLPASS  ? &state->comb_pos_r[line - RIGHT_COMB]

@@ -29,7 +29,7 @@ extern const struct tuning tunings[TUNINGS];
 unsigned line_length(const struct tuning *at, unsigned line);
 
 /* A line's position in a state, and a comb's damping store. */
-uint64_t *line_pos(room_reverb *state, unsigned line);
+uint32_t *line_pos(room_reverb *state, unsigned line);
 double *comb_store(room_reverb *state, unsigned comb);
 
 #endif

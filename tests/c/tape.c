@@ -47,13 +47,13 @@ int tape_wrote(uint64_t place, double value)
 
 /* States */
 
-room_tape_delay unread_at(uint64_t write_pos)
+room_tape_delay unread_at(uint32_t write_pos)
 {
-    const room_tape_delay state = {write_pos, 0.0, 0, 0, 0.0, 0.0, 0.0, 8000.0, 0.5};
+    const room_tape_delay state = {write_pos, 0.0, 0.0, 0.0, 0.0, 8000.0, 0.5, 0, 0};
     return state;
 }
 
-room_tape_delay read_from(uint64_t write_pos, double distance)
+room_tape_delay read_from(uint32_t write_pos, double distance)
 {
     room_tape_delay state = unread_at(write_pos);
     state.smoothed_delay = distance;
@@ -138,7 +138,7 @@ static void starts(void)
     const unsigned lent[] = {TAPE_LINE, TAPE_LINE + 1u, TAPE_LENT};
     unsigned i;
     for (i = 0; i < good.count; i++) {
-        room_tape_delay state = {12345u, JUNK, 12345u, 12345u, JUNK, JUNK, JUNK, JUNK, JUNK};
+        room_tape_delay state = {12345u, JUNK, JUNK, JUNK, JUNK, JUNK, JUNK, 12345u, 12345u};
         uint32_t number;
         tape_fill();
         number = room_tape_delay_start(&state, tape_memory, lent[i % 3u], 8000.0, good.list[i]);

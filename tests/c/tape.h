@@ -19,8 +19,8 @@ int tape_left(void);
 int tape_wrote(uint64_t place, double value);
 
 /* States at 8,000 with a coefficient of 0.5 in which no read waits: at this position, and with a glide at this distance. */
-room_tape_delay unread_at(uint64_t write_pos);
-room_tape_delay read_from(uint64_t write_pos, double distance);
+room_tape_delay unread_at(uint32_t write_pos);
+room_tape_delay read_from(uint32_t write_pos, double distance);
 
 /* The state with a read that waits, which has kept these. */
 room_tape_delay waits_with(room_tape_delay state, double audio, double read, double mix);

@@ -2,7 +2,7 @@
 #include "tape.h"
 
 /* A tape of 0.5 but for one place, at this distance from the position. */
-static void tape_with(uint64_t write_pos, unsigned distance, double value)
+static void tape_with(uint32_t write_pos, unsigned distance, double value)
 {
     tape_lay(0.5);
     tape_put((write_pos + TAPE_LINE - distance) % TAPE_LINE, value);
@@ -67,7 +67,7 @@ static void round_the_end(void)
 {
     const double half = 0x1p-7; /* 62.5 places */
     const struct {
-        uint64_t write_pos;
+        uint32_t write_pos;
         double seconds;
         uint64_t place;
         double share;
@@ -215,7 +215,7 @@ static void unset_ports(void)
         p.audio.set = p.time.set = p.feedback.set = p.mix.set = 0;
         reads(unread_at(3u), p, r, "the numbers of unset ports are not read", i);
     }
-    check(room_raw_tape_delay_read_half(3u, &distance, &primed, &waiting, &audio, &read, &mix, 8000.0, 0.5, tape_memory,
+    check(room_raw_tape_delay_read_half(3u, &distance, &audio, &read, &mix, 8000.0, 0.5, &primed, &waiting, tape_memory,
                                         TAPE_LINE, UINT32_C(0xfffffff5), 2.0, ODD_NAN, 1.0, ODD_NAN, &sum, &age) == 0,
           "audio and feedback, and the other bits", 0);
     check(same(sum, 6.0) && age == 4000u && same(distance, 4000.0) && primed == 1u && waiting == 1u && same(audio, 2.0) &&

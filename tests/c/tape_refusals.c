@@ -5,8 +5,8 @@
 
 static void start_refused(double rate, double coefficient, uint64_t places, uint32_t number, unsigned i)
 {
-    const room_tape_delay blank = {0, 0.0, 0, 0, 0.0, 0.0, 0.0, 0.0, 0.0};
-    room_tape_delay state = {12345u, JUNK, 12345u, 12345u, JUNK, JUNK, JUNK, JUNK, JUNK};
+    const room_tape_delay blank = {0, 0.0, 0.0, 0.0, 0.0, 0.0, 0.0, 0, 0};
+    room_tape_delay state = {12345u, JUNK, JUNK, JUNK, JUNK, JUNK, JUNK, 12345u, 12345u};
     check(room_tape_delay_start(&state, tape_memory, places, rate, coefficient) == number, "start is refused", i);
     check(tape_is(&state, blank), "a refused start writes a state of zeros", i);
     check(tape_left(), "a refused start leaves the memory", i);
@@ -121,10 +121,10 @@ static void refused_either_way(room_tape_delay state, unsigned i)
 
 static void settings_and_positions_refused(void)
 {
-    const uint64_t positions[] = {TAPE_LINE, TAPE_LINE + 1u, UINT64_C(1) << 63, UINT64_MAX};
+    const uint32_t positions[] = {TAPE_LINE, TAPE_LINE + 1u, 2u * TAPE_LINE, UINT32_C(1) << 31, UINT32_MAX};
     const struct numbers rates = rates_refused();
     const struct numbers coefficients = coefficients_refused();
-    const room_tape_delay blank = {0, 0.0, 0, 0, 0.0, 0.0, 0.0, 0.0, 0.0};
+    const room_tape_delay blank = {0, 0.0, 0.0, 0.0, 0.0, 0.0, 0.0, 0, 0};
     room_tape_delay state;
     unsigned i;
     refused_either_way(blank, 0);

@@ -66,7 +66,7 @@ static void both(double audio, double time, double feedback, double mix, unsigne
 {
     const struct whole_tick t = model_tick(audio, time, feedback, mix);
     struct tape_ports p = tape_ports(audio, mix, time);
-    const uint64_t place = unit.write_pos;
+    const uint32_t place = unit.write_pos;
     double sum = JUNK, out[1] = {JUNK};
     uint32_t age = JUNK_AGE;
     p.feedback = room_set(feedback);

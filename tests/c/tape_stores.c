@@ -5,7 +5,7 @@
    nowhere else. */
 static void stores(room_tape_delay state, double value, double sample, const char *what, unsigned i)
 {
-    const uint64_t place = state.write_pos;
+    const uint32_t place = state.write_pos;
     room_tape_delay should = waits_not(state);
     double out[3] = {JUNK, JUNK, JUNK};
     should.write_pos = (place + 1u) % TAPE_LINE;
@@ -19,10 +19,10 @@ static void stores(room_tape_delay state, double value, double sample, const cha
 static void values(void)
 {
     const double list[] = {1.0, -1.0, nearer(1.0), nearer(-1.0), 0.2, 0.1, -0.3, 0.0, -0.0, SMALLEST, -SMALLEST};
-    const uint64_t positions[] = {0, 1, 48000, TAPE_LINE - 2u, TAPE_LINE - 1u};
+    const uint32_t positions[] = {0, 1, 48000, TAPE_LINE - 2u, TAPE_LINE - 1u};
     unsigned i;
     for (i = 0; i < COUNT(list); i++) {
-        const uint64_t position = positions[i % COUNT(positions)];
+        const uint32_t position = positions[i % COUNT(positions)];
         stores(waits_with(read_from(position, 16.0), 1.0, 4.0, 0.25), list[i], 1.75, "a value from -1 to 1", i);
         /* No call leads to a read that waits in a state that has not read, but it passes. */
         stores(waits_with(unread_at(position), 1.0, 4.0, 0.25), list[i], 1.75, "a state that is not primed", i);
@@ -130,11 +130,11 @@ static void foreign_nan(void)
 /* The exported function by itself: it leaves the glide and the settings, which it is handed by value. */
 static void raw(void)
 {
-    uint64_t write_pos = TAPE_LINE - 1u;
+    uint32_t write_pos = TAPE_LINE - 1u;
     uint32_t waiting = 7;
     double audio = 1.0, read = 4.0, mix = 1.0, out = JUNK;
     tape_lay(0.5);
-    check(room_raw_tape_delay_store_half(&write_pos, 250.0, 7u, &waiting, &audio, &read, &mix, 8000.0, 0.5, tape_memory,
+    check(room_raw_tape_delay_store_half(&write_pos, 250.0, &audio, &read, &mix, 8000.0, 0.5, 7u, &waiting, tape_memory,
                                          TAPE_LINE, -1.0, &out) == 0,
           "the store half by itself", 0);
     check(write_pos == 0u && waiting == 0u && same(audio, 0.0) && same(read, 0.0) && same(mix, 0.0) && same(out, 4.0),

@@ -139,7 +139,7 @@ static void echo(void)
 /* The exported function by itself: bits of the mask beyond the three ports are not read. */
 static void mask(void)
 {
-    uint64_t pos = 3;
+    uint32_t pos = 3;
     double phase = 0.0;
     double out = JUNK;
     uint32_t age = JUNK_AGE;

@@ -58,7 +58,7 @@ int plus_zero(const double *from, uint64_t count)
 }
 
 /* A line read newest to oldest, at (w + L - d) mod L for d from 1 to L, beside the recent past: +0 before the clearing. */
-static int line_is_past(const double *line, uint64_t length, uint64_t w, const double *past, uint64_t ticks)
+static int line_is_past(const double *line, uint64_t length, uint32_t w, const double *past, uint64_t ticks)
 {
     uint64_t d;
     for (d = 1; d <= length; d++) {
@@ -83,7 +83,7 @@ static uint64_t tank_start(unsigned line)
     return line < 16u ? line * 4096u : line < 24u ? 65536u + (line - 16u) * 1500u : 77536u;
 }
 
-static uint64_t tank_position(const room_reverb *state, unsigned line)
+static uint32_t tank_position(const room_reverb *state, unsigned line)
 {
     return line < 8u    ? state->comb_pos_l[line]
            : line < 16u ? state->comb_pos_r[line - 8u]

@@ -31,19 +31,18 @@ struct hired {
     uint64_t length;
 };
 
-static struct hired make_hired(void)
+/* States are compared whole, with the bytes that belong to no field: those are 0 from here on. */
+static void make_hired(struct hired *h)
 {
-    struct hired h;
     uint64_t i;
-    memset(&h, 0, sizeof h);
-    h.lent = malloc(LENT * sizeof *h.lent);
-    if (h.lent == NULL) {
+    memset(h, 0, sizeof *h);
+    h->lent = malloc(LENT * sizeof *h->lent);
+    if (h->lent == NULL) {
         exit(1);
     }
     for (i = 0; i < LENT; i++) {
-        h.lent[i] = i % 3u == 0u ? (double)NAN : (double)i;
+        h->lent[i] = i % 3u == 0u ? (double)NAN : (double)i;
     }
-    return h;
 }
 
 static uint32_t start(struct hired *h, double rate)
@@ -123,9 +122,11 @@ static int nothing_kept(const room_tape_delay *s)
 /* The read that waited is dropped: its store half comes too late. */
 static void look_after_clearing(struct hired *h)
 {
-    const room_tape_delay before = h->state;
+    room_tape_delay before;
     double out = 1.0;
-    const uint32_t number = room_tape_delay_store_half(&h->state, h->lent, LENT, 0.5, &out);
+    uint32_t number;
+    memcpy(&before, &h->state, sizeof before);
+    number = room_tape_delay_store_half(&h->state, h->lent, LENT, 0.5, &out);
     fact(number == ROOM_REFUSED_TURN && plus_zero(&out, 1) && memcmp(&before, &h->state, sizeof before) == 0,
          "after a clearing no read of a tape waits for a store half");
     fact(nothing_kept(&h->state) && plus_zero(h->lent, LENT) && is_silent(h) == 1,
@@ -167,8 +168,10 @@ static void take_beside(struct hired *h, struct hired *fresh)
 
 void tape_hirers(void)
 {
-    struct hired tape = make_hired(), fresh = make_hired();
+    struct hired tape, fresh;
     int leaving, clearing;
+    make_hired(&tape);
+    make_hired(&fresh);
     for (leaving = 0; leaving < LEAVINGS; leaving++) {
         for (clearing = 0; clearing < CLEARINGS; clearing++) {
             play_song(&tape);

@@ -303,7 +303,7 @@ static void tape_refused(void)
         near("tape is not refused yet", u.kind->tick(&u, 1.0, out), 0.0);
     u.state.tape.waiting = 1;
     u.state.tape.kept_audio = u.state.tape.kept_read = u.state.tape.kept_mix = 0.5;
-    before = u.state.tape;
+    memcpy(&before, &u.state.tape, sizeof before);
     memory[before.write_pos] = 0.25;
     memcpy(memory + 100000, memory, 96001 * sizeof *memory);
     near("tape whose read waits is refused", u.kind->tick(&u, 1.0, out), ROOM_REFUSED_TURN);

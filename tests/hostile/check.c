@@ -28,9 +28,9 @@ static int memory_is(const struct unit *unit, const struct call *c, int whole)
         return arena_as_it_should(unit->arena);
     }
     for (i = 0; i < words_of(c->effect); i++) {
-        const uint64_t start = c->effect != REVERB || state_words[REVERB][i] != 'w' ? 0u : tank_start(i < 16u ? i : i - 16u);
+        const uint64_t start = c->effect == REVERB ? tank_start(i) : 0u;
         const uint64_t pos = c->state.word[i];
-        if (state_words[c->effect][i] == 'w' && pos < c->places && start + pos < c->places &&
+        if (is_position(c->effect, i) && pos < c->places && start + pos < c->places &&
             !window_as_it_should(unit->arena, offset + start + pos)) {
             return 0;
         }

@@ -66,10 +66,10 @@ static int stores_zero(const struct call *c)
 /* "yes when every place in use of the unit's lines is +0 or -0. The tremolo has no line and is always silent." */
 int lines_zero_by_the_paper(const struct call *c)
 {
-    const double rate = of_bits(c->state.word[word_of(c->effect, 'r')]);
+    const double rate = rate_of(c->effect, &c->state);
     unsigned line;
     if (c->effect != REVERB) {
-        return all_zero(c->memory, needed(c->effect, rate, c->effect == DELAY ? of_bits(c->state.word[5]) : 0.0));
+        return all_zero(c->memory, needed(c->effect, rate, maximum_of(c->effect, &c->state)));
     }
     for (line = 0; line < TANK_LINES; line++) {
         if (!all_zero(c->memory + tank_start(line), tank_length(line, rate))) {

@@ -73,12 +73,8 @@ static void lend_too_few(struct call *c, const struct arena *arena, uint64_t nee
 uint64_t call_needs(const struct call *c)
 {
     const int anew = c->kind == START || c->kind == RETUNE;
-    const double rate = anew ? c->rate : of_bits(c->state.word[word_of(c->effect, 'r')]);
-    double maximum = 0.0;
-    if (c->effect == DELAY) {
-        maximum = held_maximum(c->kind == START ? c->maximum : of_bits(c->state.word[5]));
-    }
-    return needed(c->effect, rate, maximum);
+    const double rate = anew ? c->rate : rate_of(c->effect, &c->state);
+    return needed(c->effect, rate, held_maximum(c->kind == START ? c->maximum : maximum_of(c->effect, &c->state)));
 }
 
 /* A number for a port: mostly within the controls' ranges or a little beyond, NaN never. */
@@ -119,7 +115,7 @@ static double saturated(void)
 /* Milliseconds up to the maximum and beyond; any but NaN. */
 static double milliseconds(const struct call *c)
 {
-    const double x = one_in(6) ? any_float() : from_to(-1.0, 1100.0) * held_maximum(of_bits(c->state.word[5]));
+    const double x = one_in(6) ? any_float() : from_to(-1.0, 1100.0) * held_maximum(maximum_of(DELAY, &c->state));
     return is_nan(x) ? 1.0 : x;
 }
 
@@ -166,35 +162,29 @@ static void draw_settings(struct call *c, const struct arena *arena)
     } while (tries > 0u && call_needs(c) > arena->places);
 }
 
-/* Positions at the length and around it, at the top bit, and anywhere. */
-static uint64_t wrong_position(const struct call *c, unsigned word)
+/* Positions at the length and around it, at the top bit, at the end of 32 bits, and anywhere. */
+static uint32_t wrong_position(const struct call *c, unsigned word)
 {
-    const double rate = of_bits(c->state.word[word_of(c->effect, 'r')]);
-    const double maximum = c->effect == DELAY ? held_maximum(of_bits(c->state.word[5])) : 0.0;
-    uint64_t length = 4096;
-    if (rate_holds(rate) && c->effect == REVERB) {
-        length = tank_length(word < 16u ? word : word - 16u, rate);
-    } else if (rate_holds(rate)) {
-        length = line_length(c->effect, rate, maximum);
-    }
-    switch (below(5)) {
+    const int has_length = rate_holds(rate_of(c->effect, &c->state));
+    const uint32_t length = has_length ? (uint32_t)length_at(c->effect, &c->state, word) : 4096u;
+    switch (below(6)) {
     case 0:
-        return any_bits() >> below(64);
+        return (uint32_t)any_bits() >> below(32);
     case 1:
-        return below(length);
+        return (uint32_t)below(length);
     case 2:
-        return (UINT64_C(1) << 63) + (one_in(2) ? 0u : below(length));
+        return (UINT32_C(1) << 31) + (one_in(2) ? 0u : (uint32_t)below(length));
+    case 3:
+        return UINT32_MAX - (one_in(4) ? (uint32_t)below(length) : 0u);
     default:
-        return length + below(3) - 1u;
+        return length + (uint32_t)below(3) - 1u;
     }
 }
 
 /* Distances at the line's end and at 1, of either sign, and anywhere. */
 static double wrong_distance(const struct call *c)
 {
-    const double rate = of_bits(c->state.word[word_of(c->effect, 'r')]);
-    const double maximum = c->effect == DELAY ? held_maximum(of_bits(c->state.word[5])) : 12.0;
-    const double length = rate_holds(rate) ? (double)line_length(c->effect, rate, maximum) : 9.0;
+    const double length = rate_holds(rate_of(c->effect, &c->state)) ? (double)length_at(c->effect, &c->state, 0) : 9.0;
     switch (below(4)) {
     case 0:
         return near(length - 1.0);
@@ -225,7 +215,7 @@ static double wrong_kept(void)
 static void set_wrong_word(struct call *c, unsigned word)
 {
     const char letter = state_words[c->effect][word];
-    if (letter == 'w') {
+    if (is_position(c->effect, word)) {
         c->state.word[word] = wrong_position(c, word);
     } else if (letter == 'k') {
         c->state.word[word] = bits(wrong_kept());

@@ -29,10 +29,11 @@ const char *call_name(int effect, int kind);
 #define WRITES 25
 
 /*
- * A state in one form for all effects: the bits of its numbers in the order of the header's struct. What each word is stands
- * in a string: w a position, p a phase, r the rate, d a delay's distance, c the coefficient, m the maximum, s a store that may
- * be any float: a damping store, an all-pass's last input or output; k a number that a read that waits keeps; and the flags, of
- * 32 bits: f whether a delay is primed, q whether a read waits, l whether the time is linear.
+ * A state in one form for all effects: its fields in the order of the header's struct, and nothing of the bytes that belong to
+ * none. What each word is stands in a string: w a position, p a phase, r the rate, d a delay's distance, k a number that a read
+ * that waits keeps, c the coefficient, m the maximum, s a store that may be any float: a damping store, an all-pass's last
+ * input or output; and the flags: f whether a delay is primed, q whether a read waits, l whether the time is linear. A word is
+ * a float by its bits, or a number of 32 bits: a position, a flag.
  */
 struct state {
     uint64_t word[WORDS];
@@ -41,12 +42,16 @@ extern const char *const state_words[EFFECTS];
 
 unsigned words_of(int effect);
 
-/* The first word of this letter. */
+/* The first word of this letter, and what it holds. */
 unsigned word_of(int effect, char letter);
+uint64_t value_of(int effect, const struct state *state, char letter);
 
+int is_position(int effect, unsigned word);
 int is_flag(int effect, unsigned word);
 int has_coefficient(int effect);
 int read_waits(int effect, const struct state *state);
+double rate_of(int effect, const struct state *state);
+double maximum_of(int effect, const struct state *state); /* a delay's; of the others 0, which their lengths do not read */
 
 /* A call with its arguments. Ports and curve numbers stand in the order of the exported function. */
 struct call {
@@ -86,16 +91,17 @@ int is_finite(double x);
 int rate_holds(double rate);
 double held_maximum(double maximum);
 uint64_t line_length(int effect, double rate, double maximum);
+uint64_t length_at(int effect, const struct state *state, unsigned position); /* of the line whose position this word is */
 unsigned lines_of(int effect); /* 0: it is lent no memory and has no retune */
 uint64_t needed(int effect, double rate, double maximum);
 int state_passes(int effect, const struct state *state);
 uint32_t number_for(const struct call *c);
 
-/* tank.c: the reverb's lines, 0 to 7 combs left, to 15 right, to 19 all-passes left, to 23 right, 24 the predelay. */
+/* tank.c: the reverb's lines, 0 to 7 combs left, to 15 right, to 19 all-passes left, to 23 right, 24 the predelay; in this
+   order the state begins with their positions. */
 #define TANK_LINES 25
 uint64_t tank_start(unsigned line);
 uint64_t tank_length(unsigned line, double rate);
-unsigned tank_word(unsigned line); /* the state's word that is its position */
 
 /* What an accepted tick must leave: the places of the lent memory that it writes, and what it writes there. */
 struct ticked {
@@ -153,10 +159,14 @@ struct unit draw_unit(int effect, int long_line);
 struct call draw_call(const struct unit *unit);
 uint64_t call_needs(const struct call *c); /* how many places, if nothing else is wrong with it */
 
-/* reached.c: what calls of the tape delay, and ages, came to; how much of it was reached and how much was not. */
+/* reached.c: what calls of the tape delay, and ages, came to; how much of it was reached and how much was not. positions.c:
+   the same of positions. */
 void count_reached(const struct call *c, const struct answer *a);
 void count_age(const struct call *c, const struct answer *a);
 void print_reached(unsigned *passed, unsigned *failed);
+void count_positions(const struct call *c, const struct answer *a);
+void print_positions(unsigned *passed, unsigned *failed);
+void count(unsigned *passed, unsigned *failed, int good, const char *name);
 
 /* check.c: makes the call and holds all that it left against the paper; the words say what is wrong, NULL if nothing. */
 const char *check_call(struct unit *unit, const struct call *c, struct answer *a);

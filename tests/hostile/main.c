@@ -3,7 +3,7 @@
  *
  * Units come one after another, each with a chain of calls. The table printed at the end says how often each call was accepted
  * and refused by each number; a cell that the table of refusals has and that no call came to is a failure. The last line is
- * `N passed, M failed`, counted in cells, and in what reached.c counts.
+ * `N passed, M failed`, counted in cells, and in what reached.c and positions.c count.
  */
 #define _POSIX_C_SOURCE 200809L
 #include "hostile.h"
@@ -76,12 +76,9 @@ static void show_wrong(const struct call *c, const struct answer *a, const char 
 /* A place at one of the ends of a line of the unit: its first, its last, the one behind. */
 static uint64_t at_an_end(const struct unit *unit)
 {
-    const double rate = of_bits(unit->state.word[word_of(unit->effect, 'r')]);
-    const double maximum = unit->effect == DELAY ? of_bits(unit->state.word[5]) : 0.0;
-    const uint64_t line = below(lines_of(unit->effect));
-    const uint64_t reverb = unit->effect == REVERB;
-    const uint64_t length = reverb ? tank_length((unsigned)line, rate) : line_length(unit->effect, rate, maximum);
-    const uint64_t start = reverb ? tank_start((unsigned)line) : line * length;
+    const unsigned line = (unsigned)below(lines_of(unit->effect));
+    const uint64_t length = length_at(unit->effect, &unit->state, line);
+    const uint64_t start = unit->effect == REVERB ? tank_start(line) : line * length;
     return start + (one_in(3) ? 0u : length - below(2));
 }
 
@@ -130,6 +127,7 @@ static void one_call(struct unit *unit)
     count_length(&c);
     count_age(&c, &a);
     count_reached(&c, &a);
+    count_positions(&c, &a);
     if (wrong != NULL) {
         show_wrong(&c, &a, wrong);
         tally[c.effect][c.kind].wrong[number_for(&c)]++;
@@ -265,6 +263,7 @@ int main(int argc, char **argv)
     }
     print_table();
     print_reached(&passed, &failed);
+    print_positions(&passed, &failed);
     printf("%u passed, %u failed\n", passed, failed);
     return failed != 0u;
 }

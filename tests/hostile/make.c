@@ -14,18 +14,21 @@ static struct {
 } lent[SPOTS];
 static unsigned lents;
 
-/* A flag has 32 bits, all else 64. */
+/* Positions and flags have 32 bits, all else 64. */
 static unsigned bytes_of(int effect, unsigned word)
 {
-    return is_flag(effect, word) ? 4u : 8u;
+    return is_position(effect, word) || is_flag(effect, word) ? 4u : 8u;
 }
 
 static void *lend(const struct call *c, unsigned first, unsigned count)
 {
     const unsigned bytes = bytes_of(c->effect, first);
-    void *at = spot(lents, count * bytes, one_in(2));
-    const uint32_t flag = (uint32_t)c->state.word[first];
-    memcpy(at, bytes == 4u ? (const void *)&flag : &c->state.word[first], (size_t)count * bytes);
+    char *at = spot(lents, count * bytes, one_in(2));
+    unsigned i;
+    for (i = 0; i < count; i++) {
+        const uint32_t short_word = (uint32_t)c->state.word[first + i];
+        memcpy(at + i * bytes, bytes == 4u ? (const void *)&short_word : &c->state.word[first + i], bytes);
+    }
     lent[lents].first = first;
     lent[lents].count = count;
     lent[lents].at = at;
@@ -33,25 +36,41 @@ static void *lend(const struct call *c, unsigned first, unsigned count)
     return at;
 }
 
+static uint64_t taken_back(const char *at, unsigned bytes)
+{
+    uint32_t short_word;
+    uint64_t word;
+    if (bytes == 4u) {
+        memcpy(&short_word, at, sizeof short_word);
+        return short_word;
+    }
+    memcpy(&word, at, sizeof word);
+    return word;
+}
+
 static void take_back(const struct call *c, struct state *state)
 {
-    unsigned i;
+    unsigned i, k;
     *state = c->state;
     for (i = 0; i < lents; i++) {
-        uint32_t flag;
-        if (bytes_of(c->effect, lent[i].first) == 4u) {
-            memcpy(&flag, lent[i].at, sizeof flag);
-            state->word[lent[i].first] = flag;
-        } else {
-            memcpy(&state->word[lent[i].first], lent[i].at, (size_t)lent[i].count * 8u);
+        const unsigned bytes = bytes_of(c->effect, lent[i].first);
+        for (k = 0; k < lent[i].count; k++) {
+            state->word[lent[i].first + k] = taken_back((const char *)lent[i].at + k * bytes, bytes);
         }
     }
     lents = 0;
 }
 
+/* What is handed over by value: a float, a number of 32 bits. */
+
 static double number(const struct call *c, unsigned word)
 {
     return of_bits(c->state.word[word]);
+}
+
+static uint32_t whole(const struct call *c, unsigned word)
+{
+    return (uint32_t)c->state.word[word];
 }
 
 static uint32_t tremolo(const struct call *c, double *out, uint32_t *yes, uint32_t *age)
@@ -83,7 +102,7 @@ static uint32_t vibrato(const struct call *c, double *out, uint32_t *yes, uint32
         return room_raw_vibrato_tick(lend(c, 0, 1), lend(c, 1, 1), number(c, 2), c->memory, c->places, c->set, c->ports[0],
                                      c->ports[1], c->ports[2], c->curves[0], c->curves[1], out, age);
     default:
-        return room_raw_vibrato_silent(c->state.word[0], number(c, 1), number(c, 2), c->memory, c->places, yes);
+        return room_raw_vibrato_silent(whole(c, 0), number(c, 1), number(c, 2), c->memory, c->places, yes);
     }
 }
 
@@ -101,7 +120,7 @@ static uint32_t chorus(const struct call *c, double *out, uint32_t *yes, uint32_
                                     c->ports[1], c->ports[2], c->curves[0], c->curves[1], c->curves[2], c->curves[3], out,
                                     age);
     default:
-        return room_raw_chorus_silent(c->state.word[0], lend(c, 1, 3), number(c, 4), c->memory, c->places, yes);
+        return room_raw_chorus_silent(whole(c, 0), lend(c, 1, 3), number(c, 4), c->memory, c->places, yes);
     }
 }
 
@@ -119,14 +138,12 @@ static uint32_t flanger(const struct call *c, double *out, uint32_t *yes, uint32
                                      c->ports[1], c->ports[2], c->ports[3], c->curves[0], c->curves[1], c->curves[2], out,
                                      age);
     default:
-        return room_raw_flanger_silent(c->state.word[0], number(c, 1), number(c, 2), c->memory, c->places, yes);
+        return room_raw_flanger_silent(whole(c, 0), number(c, 1), number(c, 2), c->memory, c->places, yes);
     }
 }
 
 static uint32_t delay(const struct call *c, double *out, uint32_t *yes, uint32_t *age)
 {
-    const uint32_t primed = (uint32_t)c->state.word[2];
-    const uint32_t linear = (uint32_t)c->state.word[6];
     switch (c->kind) {
     case START:
         return room_raw_delay_start(c->rate, c->maximum, c->coefficient, c->linear, c->memory, c->places, lend(c, 0, 1),
@@ -134,42 +151,42 @@ static uint32_t delay(const struct call *c, double *out, uint32_t *yes, uint32_t
                                     lend(c, 6, 1));
     case RETUNE:
         return room_raw_delay_retune(c->rate, c->coefficient, c->memory, c->places, lend(c, 0, 1), lend(c, 1, 1),
-                                     lend(c, 2, 1), lend(c, 3, 1), lend(c, 4, 1), number(c, 5), linear);
+                                     lend(c, 2, 1), lend(c, 3, 1), number(c, 4), lend(c, 5, 1), whole(c, 6));
     case RESET:
-        return room_raw_delay_reset(c->memory, c->places, lend(c, 0, 1), lend(c, 1, 1), lend(c, 2, 1), number(c, 3),
-                                    number(c, 4), number(c, 5), linear);
+        return room_raw_delay_reset(c->memory, c->places, lend(c, 0, 1), lend(c, 1, 1), number(c, 2), number(c, 3),
+                                    number(c, 4), lend(c, 5, 1), whole(c, 6));
     case TICK:
-        return room_raw_delay_tick(lend(c, 0, 1), lend(c, 1, 1), lend(c, 2, 1), number(c, 3), number(c, 4), number(c, 5),
-                                   linear, c->memory, c->places, c->set, c->ports[0], c->ports[1], c->ports[2], c->ports[3],
-                                   c->curves[0], out, age);
+        return room_raw_delay_tick(lend(c, 0, 1), lend(c, 1, 1), number(c, 2), number(c, 3), number(c, 4), lend(c, 5, 1),
+                                   whole(c, 6), c->memory, c->places, c->set, c->ports[0], c->ports[1], c->ports[2],
+                                   c->ports[3], c->curves[0], out, age);
     default:
-        return room_raw_delay_silent(c->state.word[0], number(c, 1), primed, number(c, 3), number(c, 4), number(c, 5), linear,
-                                     c->memory, c->places, yes);
+        return room_raw_delay_silent(whole(c, 0), number(c, 1), number(c, 2), number(c, 3), number(c, 4), whole(c, 5),
+                                     whole(c, 6), c->memory, c->places, yes);
     }
 }
 
 static uint32_t reverb(const struct call *c, double *out, uint32_t *yes, uint32_t *age)
 {
-    uint64_t *comb_l = lend(c, 0, 8), *comb_r = lend(c, 8, 8);
-    double *store_l = lend(c, 16, 8), *store_r = lend(c, 24, 8);
-    uint64_t *pass_l = lend(c, 32, 4), *pass_r = lend(c, 36, 4);
+    uint32_t *comb_l = lend(c, 0, 8), *comb_r = lend(c, 8, 8);
+    uint32_t *pass_l = lend(c, 16, 4), *pass_r = lend(c, 20, 4);
+    double *store_l = lend(c, 25, 8), *store_r = lend(c, 33, 8);
     (void)age;
     switch (c->kind) {
     case START:
-        return room_raw_reverb_start(c->rate, c->memory, c->places, comb_l, comb_r, store_l, store_r, pass_l, pass_r,
-                                     lend(c, 40, 1), lend(c, 41, 1));
+        return room_raw_reverb_start(c->rate, c->memory, c->places, comb_l, comb_r, pass_l, pass_r, lend(c, 24, 1), store_l,
+                                     store_r, lend(c, 41, 1));
     case RETUNE:
-        return room_raw_reverb_retune(c->rate, c->memory, c->places, comb_l, comb_r, store_l, store_r, pass_l, pass_r,
-                                      lend(c, 40, 1), lend(c, 41, 1));
+        return room_raw_reverb_retune(c->rate, c->memory, c->places, comb_l, comb_r, pass_l, pass_r, lend(c, 24, 1), store_l,
+                                      store_r, lend(c, 41, 1));
     case RESET:
-        return room_raw_reverb_reset(c->memory, c->places, comb_l, comb_r, store_l, store_r, pass_l, pass_r, lend(c, 40, 1),
+        return room_raw_reverb_reset(c->memory, c->places, comb_l, comb_r, pass_l, pass_r, lend(c, 24, 1), store_l, store_r,
                                      number(c, 41));
     case TICK:
-        return room_raw_reverb_tick(comb_l, comb_r, store_l, store_r, pass_l, pass_r, lend(c, 40, 1), number(c, 41),
+        return room_raw_reverb_tick(comb_l, comb_r, pass_l, pass_r, lend(c, 24, 1), store_l, store_r, number(c, 41),
                                     c->memory, c->places, c->set, c->ports[0], c->ports[1], c->ports[2], c->ports[3],
                                     c->ports[4], out);
     default:
-        return room_raw_reverb_silent(comb_l, comb_r, store_l, store_r, pass_l, pass_r, c->state.word[40], number(c, 41),
+        return room_raw_reverb_silent(comb_l, comb_r, pass_l, pass_r, whole(c, 24), store_l, store_r, number(c, 41),
                                       c->memory, c->places, yes);
     }
 }
@@ -194,7 +211,6 @@ static uint32_t phaser(const struct call *c, double *out, uint32_t *yes, uint32_
 
 static uint32_t tape(const struct call *c, double *out, uint32_t *yes, uint32_t *age)
 {
-    const uint32_t primed = (uint32_t)c->state.word[2];
     switch (c->kind) {
     case START:
         return room_raw_tape_delay_start(c->rate, c->coefficient, c->memory, c->places, lend(c, 0, 1), lend(c, 1, 1),
@@ -206,18 +222,18 @@ static uint32_t tape(const struct call *c, double *out, uint32_t *yes, uint32_t 
                                           lend(c, 7, 1), lend(c, 8, 1));
     case RESET:
         return room_raw_tape_delay_reset(c->memory, c->places, lend(c, 0, 1), lend(c, 1, 1), lend(c, 2, 1), lend(c, 3, 1),
-                                         lend(c, 4, 1), lend(c, 5, 1), lend(c, 6, 1), number(c, 7), number(c, 8));
+                                         lend(c, 4, 1), number(c, 5), number(c, 6), lend(c, 7, 1), lend(c, 8, 1));
     case TICK:
-        return room_raw_tape_delay_read_half(c->state.word[0], lend(c, 1, 1), lend(c, 2, 1), lend(c, 3, 1), lend(c, 4, 1),
-                                             lend(c, 5, 1), lend(c, 6, 1), number(c, 7), number(c, 8), c->memory, c->places,
+        return room_raw_tape_delay_read_half(whole(c, 0), lend(c, 1, 1), lend(c, 2, 1), lend(c, 3, 1), lend(c, 4, 1),
+                                             number(c, 5), number(c, 6), lend(c, 7, 1), lend(c, 8, 1), c->memory, c->places,
                                              c->set, c->ports[0], c->ports[1], c->ports[2], c->ports[3], out, age);
     case STORE:
-        return room_raw_tape_delay_store_half(lend(c, 0, 1), number(c, 1), primed, lend(c, 3, 1), lend(c, 4, 1),
-                                              lend(c, 5, 1), lend(c, 6, 1), number(c, 7), number(c, 8), c->memory, c->places,
+        return room_raw_tape_delay_store_half(lend(c, 0, 1), number(c, 1), lend(c, 2, 1), lend(c, 3, 1), lend(c, 4, 1),
+                                              number(c, 5), number(c, 6), whole(c, 7), lend(c, 8, 1), c->memory, c->places,
                                               c->curves[0], out);
     default:
-        return room_raw_tape_delay_silent(c->state.word[0], number(c, 1), primed, (uint32_t)c->state.word[3], number(c, 4),
-                                          number(c, 5), number(c, 6), number(c, 7), number(c, 8), c->memory, c->places, yes);
+        return room_raw_tape_delay_silent(whole(c, 0), number(c, 1), number(c, 2), number(c, 3), number(c, 4), number(c, 5),
+                                          number(c, 6), whole(c, 7), whole(c, 8), c->memory, c->places, yes);
     }
 }
 

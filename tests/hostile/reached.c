@@ -14,8 +14,7 @@ static uint64_t ages[AGES], ages_beyond;
 void count_age(const struct call *c, const struct answer *a)
 {
     if (c->kind == TICK && a->number == 0u && has_ages(c->effect)) {
-        const double rate = of_bits(c->state.word[word_of(c->effect, 'r')]);
-        const uint64_t last = line_length(c->effect, rate, c->effect == DELAY ? of_bits(c->state.word[5]) : 0.0) - 1u;
+        const uint64_t last = length_at(c->effect, &c->state, 0) - 1u;
         ages[a->age == 1u ? AT_1 : a->age == last ? AT_END : BETWEEN]++;
         ages_beyond += a->age < 1u || a->age > last;
     }
@@ -71,7 +70,7 @@ enum { AT_LAST, AT_LENGTH, AT_TOP_BIT, NOT_SILENT, SILENT_AFTER, DROPPED, LEFT_W
 static const char *const other_names[OTHERS] = {
     "store halves at position L - 1",
     "halves refused for position L",
-    "halves refused for position 2^63",
+    "halves refused for position 2^31",
     "questions answered with no for the waiting read alone",
     "questions of such a line without one answered with yes",
     "waiting reads dropped by a retune or a reset",
@@ -82,13 +81,13 @@ static uint64_t others[OTHERS];
 static void count_position(const struct call *c, const struct answer *a)
 {
     struct state first = c->state;
-    const double rate = of_bits(c->state.word[word_of(TAPE, 'r')]);
-    const uint64_t length = rate_holds(rate) ? line_length(TAPE, rate, 12.0) : 0u;
     first.word[0] = 0u;
-    others[AT_LAST] += c->kind == STORE && a->number == 0u && c->state.word[0] == length - 1u;
+    if (c->kind == STORE && a->number == 0u) {
+        others[AT_LAST] += c->state.word[0] == length_at(TAPE, &c->state, 0) - 1u;
+    }
     if (plays_samples(c) && a->number == 4u && state_passes(TAPE, &first)) {
-        others[AT_LENGTH] += c->state.word[0] == length;
-        others[AT_TOP_BIT] += c->state.word[0] == UINT64_C(1) << 63;
+        others[AT_LENGTH] += c->state.word[0] == length_at(TAPE, &c->state, 0);
+        others[AT_TOP_BIT] += c->state.word[0] == UINT32_C(1) << 31;
     }
 }
 
@@ -107,7 +106,7 @@ void count_reached(const struct call *c, const struct answer *a)
     others[LEFT_WAITING] += c->kind == STORE && a->number == 6u && read_waits(TAPE, &a->state);
 }
 
-static void count(unsigned *passed, unsigned *failed, int good, const char *name)
+void count(unsigned *passed, unsigned *failed, int good, const char *name)
 {
     *passed += good != 0;
     *failed += good == 0;

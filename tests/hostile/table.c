@@ -13,11 +13,11 @@ const char *call_name(int effect, int kind)
     return effect == TAPE && kind == TICK ? "read" : names[kind];
 }
 
-/* The reverb: comb positions, left and right; stores, left and right; all-pass positions, left and right; predelay; rate. The
-   phaser: last inputs, left and right; last outputs, left and right; phase; rate. */
+/* The reverb: the positions of its lines; stores, left and right; rate. The phaser: last inputs, left and right; last outputs,
+   left and right; phase; rate. */
 const char *const state_words[EFFECTS] = {
-    "", "wdfrcml", "wpppr", "wpr", "wpr", "pr", "wwwwwwwwwwwwwwwwsssssssssssssssswwwwwwwwwr", "sssssssssssssssssssssssspr",
-    "wdfqkkkrc"};
+    "", "wdrcmfl", "wpppr", "wpr", "wpr", "pr", "wwwwwwwwwwwwwwwwwwwwwwwwwssssssssssssssssr", "sssssssssssssssssssssssspr",
+    "wdkkkrcfq"};
 
 unsigned words_of(int effect)
 {
@@ -27,6 +27,26 @@ unsigned words_of(int effect)
 unsigned word_of(int effect, char letter)
 {
     return (unsigned)(strchr(state_words[effect], letter) - state_words[effect]);
+}
+
+uint64_t value_of(int effect, const struct state *state, char letter)
+{
+    return state->word[word_of(effect, letter)];
+}
+
+double rate_of(int effect, const struct state *state)
+{
+    return of_bits(value_of(effect, state, 'r'));
+}
+
+double maximum_of(int effect, const struct state *state)
+{
+    return effect == DELAY ? of_bits(value_of(DELAY, state, 'm')) : 0.0;
+}
+
+int is_position(int effect, unsigned word)
+{
+    return state_words[effect][word] == 'w';
 }
 
 int is_flag(int effect, unsigned word)
@@ -41,7 +61,7 @@ int has_coefficient(int effect)
 
 int read_waits(int effect, const struct state *state)
 {
-    return effect == TAPE && state->word[word_of(TAPE, 'q')] != 0u;
+    return effect == TAPE && value_of(TAPE, state, 'q') != 0u;
 }
 
 int plays_samples(const struct call *c)
@@ -104,32 +124,26 @@ uint64_t needed(int effect, double rate, double maximum)
     return effect == REVERB ? 87136u : lines_of(effect) * line_length(effect, rate, maximum);
 }
 
-/* How long the line is whose position this word holds. */
-static uint64_t length_at(int effect, const struct state *state, unsigned word)
+/* At a rate that is accepted. A maximum that no state may have is held, so that there is a length. */
+uint64_t length_at(int effect, const struct state *state, unsigned position)
 {
-    const double rate = of_bits(state->word[word_of(effect, 'r')]);
-    unsigned line;
-    if (effect != REVERB) {
-        return line_length(effect, rate, effect == DELAY ? of_bits(state->word[5]) : 0.0);
-    }
-    for (line = 0; tank_word(line) != word; line++) {
-    }
-    return tank_length(line, rate);
+    const double rate = rate_of(effect, state);
+    return effect == REVERB ? tank_length(position, rate) : line_length(effect, rate, held_maximum(maximum_of(effect, state)));
 }
 
 /* "for the delay also coefficient as in 2, maximum 0.001 to 60, glide distance +0 while unprimed, else 1 to L - 1" */
 static int glide_passes(int effect, const struct state *state)
 {
-    const double distance = of_bits(state->word[1]);
-    const double rate = of_bits(state->word[word_of(effect, 'r')]);
-    const double maximum = effect == DELAY ? of_bits(state->word[5]) : 12.0;
-    if (!coefficient_holds(of_bits(state->word[word_of(effect, 'c')])) || !(maximum >= 0.001 && maximum <= 60.0)) {
+    const double distance = of_bits(value_of(effect, state, 'd'));
+    const double maximum = maximum_of(effect, state);
+    if (!coefficient_holds(of_bits(value_of(effect, state, 'c'))) ||
+        (effect == DELAY && !(maximum >= 0.001 && maximum <= 60.0))) {
         return 0;
     }
-    if (state->word[2] == 0u) {
+    if (value_of(effect, state, 'f') == 0u) {
         return same(distance, 0.0);
     }
-    return distance >= 1.0 && distance <= (double)(line_length(effect, rate, maximum) - 1u);
+    return distance >= 1.0 && distance <= (double)(line_length(effect, rate_of(effect, state), maximum) - 1u);
 }
 
 /* "Number 4 also names a waiting mix that is NaN or outside 0 to 1, or a kept number not +0 while none waits." */
@@ -145,13 +159,13 @@ static int kept_passes(const struct state *state)
 int state_passes(int effect, const struct state *state)
 {
     unsigned i;
-    if (!rate_holds(of_bits(state->word[word_of(effect, 'r')])) || (has_coefficient(effect) && !glide_passes(effect, state)) ||
+    if (!rate_holds(rate_of(effect, state)) || (has_coefficient(effect) && !glide_passes(effect, state)) ||
         (effect == TAPE && !kept_passes(state))) {
         return 0;
     }
     for (i = 0; i < words_of(effect); i++) {
         const double x = of_bits(state->word[i]);
-        if (state_words[effect][i] == 'w' && state->word[i] >= length_at(effect, state, i)) {
+        if (is_position(effect, i) && state->word[i] >= length_at(effect, state, i)) {
             return 0;
         }
         if (state_words[effect][i] == 'p' && !(x >= 0.0 && x < 1.0)) {
@@ -165,11 +179,8 @@ int state_passes(int effect, const struct state *state)
 static int memory_holds(const struct call *c)
 {
     const int anew = c->kind == START || c->kind == RETUNE;
-    const double rate = anew ? c->rate : of_bits(c->state.word[word_of(c->effect, 'r')]);
-    double maximum = 0.0;
-    if (c->effect == DELAY) {
-        maximum = c->kind == START ? held_maximum(c->maximum) : of_bits(c->state.word[5]);
-    }
+    const double rate = anew ? c->rate : rate_of(c->effect, &c->state);
+    const double maximum = c->kind == START ? held_maximum(c->maximum) : maximum_of(c->effect, &c->state);
     return c->places >= needed(c->effect, rate, maximum);
 }
 
@@ -185,7 +196,7 @@ static int controls_hold(const struct call *c)
 {
     unsigned i;
     for (i = 1; c->kind == TICK && i < ports_of(c->effect); i++) {
-        const int read = !(c->effect == DELAY && i == 1u && c->state.word[6] == 0u);
+        const int read = !(c->effect == DELAY && i == 1u && value_of(DELAY, &c->state, 'l') == 0u);
         if (read && (c->set >> i & 1u) != 0u && is_nan(c->ports[i])) {
             return 0;
         }
@@ -203,7 +214,7 @@ static int curves_hold(const struct call *c)
         return c->kind != STORE || (c->curves[0] >= -1.0 && c->curves[0] <= 1.0);
     }
     if (c->effect == DELAY) {
-        return c->state.word[6] != 0u || !is_nan(c->curves[0]);
+        return value_of(DELAY, &c->state, 'l') != 0u || !is_nan(c->curves[0]);
     }
     for (i = 0; i < curves_of(c->effect); i++) {
         const double low = i == 0u ? 0.0 : -1.0;

@@ -31,36 +31,29 @@ uint64_t tank_length(unsigned line, double rate)
     return length < most ? length : most;
 }
 
-/* Comb positions come first in the state, then sixteen stores, then the other positions. */
-unsigned tank_word(unsigned line)
-{
-    return line < 16u ? line : line + 16u;
-}
-
 /* The place of a line's position. */
 static uint64_t place_of(const struct call *c, unsigned line)
 {
-    return tank_start(line) + c->state.word[tank_word(line)];
+    return tank_start(line) + c->state.word[line];
 }
 
 /* One write of a line, and its position one on. */
 static void write_line(struct ticked *t, const struct call *c, unsigned line, double value)
 {
-    const uint64_t pos = c->state.word[tank_word(line)];
     t->place[t->writes] = place_of(c, line);
     t->value[t->writes] = value;
     t->writes++;
-    t->state.word[tank_word(line)] = (pos + 1u) % tank_length(line, of_bits(c->state.word[41]));
+    t->state.word[line] = (c->state.word[line] + 1u) % length_at(REVERB, &c->state, line);
 }
 
 /* "it writes the audio first, and a delay of 0 passes the audio itself" */
 static double predelayed(struct ticked *t, const struct call *c, double audio)
 {
     const double control = clamped(port(c, 4, 0.0), 0.0, 1.0);
-    const uint64_t whole = (uint64_t)(control * 0.1 * of_bits(c->state.word[41]));
+    const uint64_t whole = (uint64_t)(control * 0.1 * rate_of(REVERB, &c->state));
     const uint64_t back = whole < 9599u ? whole : 9599u;
     write_line(t, c, 24, audio);
-    return back == 0u ? audio : c->memory[tank_start(24) + (c->state.word[40] + 9600u - back) % 9600u];
+    return back == 0u ? audio : c->memory[tank_start(24) + (c->state.word[24] + 9600u - back) % 9600u];
 }
 
 /* A side's combs: "answer the place; store = answer x (1 - damping) + store x damping; write input + store x feedback" */
@@ -68,12 +61,13 @@ static double combed(struct ticked *t, const struct call *c, unsigned first, dou
 {
     const double feedback = 0.28 + clamped(port(c, 1, 0.5), 0.0, 1.0) * 0.7;
     const double damping = clamped(port(c, 2, 0.5), 0.0, 1.0) * 0.4;
+    const unsigned stores = word_of(REVERB, 's');
     double sum = 0.0;
     unsigned i;
     for (i = first; i < first + 8u; i++) {
         const double answer = c->memory[place_of(c, i)];
-        const double store = answer * (1.0 - damping) + of_bits(c->state.word[16u + i]) * damping;
-        t->state.word[16u + i] = bits(store);
+        const double store = answer * (1.0 - damping) + of_bits(c->state.word[stores + i]) * damping;
+        t->state.word[stores + i] = bits(store);
         write_line(t, c, i, input + store * feedback);
         sum = sum + answer;
     }

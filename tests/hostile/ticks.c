@@ -3,6 +3,7 @@
 #include "hostile.h"
 
 #include <math.h>
+#include <string.h>
 
 unsigned samples_of(int effect)
 {
@@ -94,20 +95,20 @@ static double linear_ms(const struct call *c, double maximum)
     return clamped(port(c, 1, 0.5), 0.0, maximum) * 1000.0;
 }
 
-/* Target, glide and read of both delays. The rate is this word of the state, and the coefficient is the next. */
-static struct heard read_delay(struct ticked *t, const struct call *c, unsigned rate_word, double maximum, double ms,
-                               double most_feedback)
+/* Target, glide and read of both delays. */
+static struct heard read_delay(struct ticked *t, const struct call *c, double maximum, double ms, double most_feedback)
 {
-    const double rate = of_bits(c->state.word[rate_word]);
+    const double rate = rate_of(c->effect, &c->state);
     const uint64_t length = line_length(c->effect, rate, maximum);
     const double target = clamped(ms * rate / 1000.0, 1.0, (double)(length - 1u));
-    const double glide = target + (of_bits(c->state.word[1]) - target) * of_bits(c->state.word[rate_word + 1u]);
-    const double distance = c->state.word[2] != 0u ? glide : target;
+    const double last = of_bits(value_of(c->effect, &c->state, 'd'));
+    const double glide = target + (last - target) * of_bits(value_of(c->effect, &c->state, 'c'));
+    const double distance = value_of(c->effect, &c->state, 'f') != 0u ? glide : target;
     struct heard h = {length, input_rule(port(c, 0, 0.0)), 0.0, clamped(port(c, 3, 0.5), 0.0, 1.0), 0.0};
     h.read = read_line(t, c->memory, length, c->state.word[0], distance);
     h.sum = h.audio + h.read * clamped(port(c, 2, 0.0), 0.0, most_feedback);
-    t->state.word[1] = bits(distance);
-    t->state.word[2] = 1u;
+    t->state.word[word_of(c->effect, 'd')] = bits(distance);
+    t->state.word[word_of(c->effect, 'f')] = 1u;
     return h;
 }
 
@@ -119,9 +120,9 @@ static void store_delay(struct ticked *t, const struct call *c, const struct hea
 
 static void delay_tick(struct ticked *t, const struct call *c)
 {
-    const double maximum = of_bits(c->state.word[5]);
-    const double ms = c->state.word[6] != 0u ? linear_ms(c, maximum) : c->curves[0];
-    const struct heard h = read_delay(t, c, 3, maximum, ms, 0.99);
+    const double maximum = maximum_of(DELAY, &c->state);
+    const double ms = value_of(DELAY, &c->state, 'l') != 0u ? linear_ms(c, maximum) : c->curves[0];
+    const struct heard h = read_delay(t, c, maximum, ms, 0.99);
     store_delay(t, c, &h, h.sum);
 }
 
@@ -129,11 +130,12 @@ static void delay_tick(struct ticked *t, const struct call *c)
    time". "The read half checks the controls, moves the glide, writes no place, and keeps audio, read and mix in the state" */
 static void tape_read_half(struct ticked *t, const struct call *c)
 {
-    const struct heard h = read_delay(t, c, 7, 12.0, linear_ms(c, 12.0), 1.5);
-    t->state.word[3] = 1u;
-    t->state.word[4] = bits(h.audio);
-    t->state.word[5] = bits(h.read);
-    t->state.word[6] = bits(h.mix);
+    const struct heard h = read_delay(t, c, 12.0, linear_ms(c, 12.0), 1.5);
+    uint64_t *kept = &t->state.word[word_of(TAPE, 'k')];
+    kept[0] = bits(h.audio);
+    kept[1] = bits(h.read);
+    kept[2] = bits(h.mix);
+    t->state.word[word_of(TAPE, 'q')] = 1u;
     t->out[0] = h.sum;
 }
 
@@ -141,11 +143,12 @@ static void tape_read_half(struct ticked *t, const struct call *c)
    output" */
 static void tape_store_half(struct ticked *t, const struct call *c)
 {
-    const uint64_t *kept = &c->state.word[4];
-    const struct heard h = {line_length(TAPE, of_bits(c->state.word[7]), 12.0), of_bits(kept[0]), of_bits(kept[1]),
-                            of_bits(kept[2]), 0.0};
+    const unsigned first = word_of(TAPE, 'k');
+    const uint64_t *kept = &c->state.word[first];
+    const struct heard h = {length_at(TAPE, &c->state, 0), of_bits(kept[0]), of_bits(kept[1]), of_bits(kept[2]), 0.0};
     store_delay(t, c, &h, c->curves[0] * 5.0);
-    t->state.word[3] = t->state.word[4] = t->state.word[5] = t->state.word[6] = 0u;
+    memset(&t->state.word[first], 0, 3u * sizeof *kept);
+    t->state.word[word_of(TAPE, 'q')] = 0u;
 }
 
 static void tape_half(struct ticked *t, const struct call *c)
@@ -160,7 +163,7 @@ static void tape_half(struct ticked *t, const struct call *c)
 /* Three voices read the one line; then the audio is stored in it. */
 static void chorus_tick(struct ticked *t, const struct call *c)
 {
-    const double rate = of_bits(c->state.word[4]);
+    const double rate = rate_of(CHORUS, &c->state);
     const uint64_t length = line_length(CHORUS, rate, 0.0);
     const double audio = input_rule(port(c, 0, 0.0));
     const double depth = clamped(port(c, 1, 0.5), 0.0, 1.0);
@@ -180,7 +183,7 @@ static void chorus_tick(struct ticked *t, const struct call *c)
 
 static void flanger_tick(struct ticked *t, const struct call *c)
 {
-    const double rate = of_bits(c->state.word[2]);
+    const double rate = rate_of(FLANGER, &c->state);
     const uint64_t length = line_length(FLANGER, rate, 0.0);
     const double audio = input_rule(port(c, 0, 0.0));
     const double depth = clamped(port(c, 1, 0.5), 0.0, 1.0);
@@ -199,7 +202,7 @@ static void flanger_tick(struct ticked *t, const struct call *c)
 
 static void vibrato_tick(struct ticked *t, const struct call *c)
 {
-    const double rate = of_bits(c->state.word[2]);
+    const double rate = rate_of(VIBRATO, &c->state);
     const uint64_t length = line_length(VIBRATO, rate, 0.0);
     const double audio = port(c, 0, 0.0);
     const double depth = clamped(port(c, 1, 0.5), 0.0, 1.0);
@@ -216,7 +219,7 @@ static void tremolo_tick(struct ticked *t, const struct call *c)
     const double triangle = 1.0 - 4.0 * fabs(of_bits(c->state.word[0]) - 0.5);
     const double swing = c->curves[1] * (1.0 - shape) + triangle * shape;
     t->out[0] = port(c, 0, 0.0) * (1.0 - depth * 0.5 * (1.0 - swing));
-    advance(t, 0, c->curves[0] / of_bits(c->state.word[1]));
+    advance(t, 0, c->curves[0] / rate_of(TREMOLO, &c->state));
 }
 
 /* "two chains of six all-passes, feedback from the last active stage": the words of its last inputs and outputs begin here. */
@@ -243,7 +246,7 @@ static void phaser_tick(struct ticked *t, const struct call *c)
     t->out[1] = chain(t, c, 0, 12, audio, c->curves[1]);
     t->out[2] = chain(t, c, 6, 18, audio, c->curves[2]);
     t->out[0] = t->out[1];
-    advance(t, 24, c->curves[0] / of_bits(c->state.word[25]));
+    advance(t, 24, c->curves[0] / rate_of(PHASER, &c->state));
 }
 
 struct ticked tick_by_the_paper(const struct call *c)

@@ -158,7 +158,7 @@ static void refuse_state(const struct unit *u, struct effect_call *c, struct eff
     double *const sample_rates[EFFECTS_END] = {
         0, &s->delay.sample_rate, &s->chorus.sample_rate, &s->flanger.sample_rate, &s->vibrato.sample_rate,
         &s->tremolo.sample_rate, &s->reverb.sample_rate, &s->phaser.sample_rate, &s->tape_delay.sample_rate};
-    uint64_t *const positions[EFFECTS_END] = {
+    uint32_t *const positions[EFFECTS_END] = {
         0, &s->delay.write_pos, &s->chorus.write_pos, &s->flanger.write_pos, &s->vibrato.write_pos,
         0, line_pos(&s->reverb, (unsigned)below(LINES)), 0, &s->tape_delay.write_pos};
     double *const turns[EFFECTS_END] = {
@@ -169,7 +169,7 @@ static void refuse_state(const struct unit *u, struct effect_call *c, struct eff
     if (u->effect == ROOM_TAPE_DELAY && one_in(2)) {
         refuse_kept(&s->tape_delay);
     } else if (positions[u->effect] != 0 && one_in(2)) {
-        *positions[u->effect] = needed(u, u->rate);
+        *positions[u->effect] = (uint32_t)needed(u, u->rate);
     } else if (turns[u->effect] != 0 && one_in(2)) {
         *turns[u->effect] = phase;
     } else {

@@ -67,7 +67,7 @@ struct effect_call plain_tick(const struct unit *u);
 
 /* tape.c: the tape delay. A whole tick of it is both halves, with what the header's formula makes of the sum. */
 int waits(const struct unit *u); /* whether a read of the unit waits */
-void hand_tape(const struct unit *u, room_tape_delay *s, uint64_t position);
+void hand_tape(const struct unit *u, room_tape_delay *s, uint32_t position);
 uint32_t whole_tick(struct unit *u, const struct effect_call *c, double out[3], uint32_t *age); /* of any effect */
 void tape_not_silent(void);
 

@@ -18,7 +18,7 @@ static double any_zero(void)
 }
 
 /* A state of zeros that passes the state test, in which a read may wait. */
-void hand_tape(const struct unit *u, room_tape_delay *s, uint64_t position)
+void hand_tape(const struct unit *u, room_tape_delay *s, uint32_t position)
 {
     const double last = (double)(needed(u, u->rate) - 1u);
     const uint32_t any_flag = 1u + (uint32_t)below(UINT32_MAX);

@@ -137,9 +137,9 @@ void lay_zeros(struct unit *u)
     }
 }
 
-static uint64_t any_position(uint64_t length)
+static uint32_t any_position(uint64_t length)
 {
-    return one_in(3) ? 0u : one_in(2) ? length - 1u : below(length);
+    return (uint32_t)(one_in(3) ? 0u : one_in(2) ? length - 1u : below(length));
 }
 
 double *any_number(struct unit *u)

@@ -39,12 +39,12 @@ static int broken(int way)
 static const double zeros[8];
 
 /* 1: the question reads the tank alone. 2: of the stores it reads the left ones alone. */
-uint32_t __wrap_room_raw_reverb_silent(const uint64_t *comb_l, const uint64_t *comb_r, const double *store_l,
-                                       const double *store_r, const uint64_t *pass_l, const uint64_t *pass_r,
-                                       uint64_t predelay_pos, double rate, const double *memory, uint64_t places, uint32_t *out)
+uint32_t __wrap_room_raw_reverb_silent(const uint32_t *comb_l, const uint32_t *comb_r, const uint32_t *pass_l,
+                                       const uint32_t *pass_r, uint32_t predelay_pos, const double *store_l,
+                                       const double *store_r, double rate, const double *memory, uint64_t places, uint32_t *out)
 {
-    return __real_room_raw_reverb_silent(comb_l, comb_r, broken(1) ? zeros : store_l, broken(1) || broken(2) ? zeros : store_r,
-                                         pass_l, pass_r, predelay_pos, rate, memory, places, out);
+    return __real_room_raw_reverb_silent(comb_l, comb_r, pass_l, pass_r, predelay_pos, broken(1) ? zeros : store_l,
+                                         broken(1) || broken(2) ? zeros : store_r, rate, memory, places, out);
 }
 
 /* 3: the question reads the last outputs alone. */
@@ -55,7 +55,7 @@ uint32_t __wrap_room_raw_phaser_silent(const double *x1_l, const double *x1_r, c
 }
 
 /* 4: the first spare place counts. */
-uint32_t __wrap_room_raw_vibrato_silent(uint64_t pos, double phase, double rate, const double *memory, uint64_t places,
+uint32_t __wrap_room_raw_vibrato_silent(uint32_t pos, double phase, double rate, const double *memory, uint64_t places,
                                         uint32_t *out)
 {
     const uint32_t number = __real_room_raw_vibrato_silent(pos, phase, rate, memory, places, out);
@@ -67,7 +67,7 @@ uint32_t __wrap_room_raw_vibrato_silent(uint64_t pos, double phase, double rate,
 }
 
 /* 5: -0 counts as a sound. */
-uint32_t __wrap_room_raw_chorus_silent(uint64_t pos, const double *phases, double rate, const double *memory, uint64_t places,
+uint32_t __wrap_room_raw_chorus_silent(uint32_t pos, const double *phases, double rate, const double *memory, uint64_t places,
                                        uint32_t *out)
 {
     const uint32_t number = __real_room_raw_chorus_silent(pos, phases, rate, memory, places, out);
@@ -78,23 +78,23 @@ uint32_t __wrap_room_raw_chorus_silent(uint64_t pos, const double *phases, doubl
 }
 
 /* 6: the question is always answered with yes. */
-uint32_t __wrap_room_raw_delay_silent(uint64_t pos, double distance, uint32_t primed, double rate, double coefficient,
-                                      double maximum, uint32_t linear, const double *memory, uint64_t places, uint32_t *out)
+uint32_t __wrap_room_raw_delay_silent(uint32_t pos, double distance, double rate, double coefficient, double maximum,
+                                      uint32_t primed, uint32_t linear, const double *memory, uint64_t places, uint32_t *out)
 {
     const uint32_t number =
-        __real_room_raw_delay_silent(pos, distance, primed, rate, coefficient, maximum, linear, memory, places, out);
+        __real_room_raw_delay_silent(pos, distance, rate, coefficient, maximum, primed, linear, memory, places, out);
     *out = broken(6) && number == 0u ? 1u : *out;
     return number;
 }
 
 /* 7: an audio of -0 is stored as the smallest sound. 8: infinite milliseconds come out as no number. */
-uint32_t __wrap_room_raw_delay_tick(uint64_t *pos, double *distance, uint32_t *primed, double rate, double coefficient,
-                                    double maximum, uint32_t linear, double *memory, uint64_t places, uint32_t set,
+uint32_t __wrap_room_raw_delay_tick(uint32_t *pos, double *distance, double rate, double coefficient, double maximum,
+                                    uint32_t *primed, uint32_t linear, double *memory, uint64_t places, uint32_t set,
                                     double audio, double time, double feedback, double mix, double milliseconds, double *out,
                                     uint32_t *age)
 {
-    const uint64_t at = *pos;
-    const uint32_t number = __real_room_raw_delay_tick(pos, distance, primed, rate, coefficient, maximum, linear, memory,
+    const uint32_t at = *pos;
+    const uint32_t number = __real_room_raw_delay_tick(pos, distance, rate, coefficient, maximum, primed, linear, memory,
                                                        places, set, audio, time, feedback, mix, milliseconds, out, age);
     if (broken(7) && number == 0u && (set & 1u) != 0u && audio == 0.0 && signbit(audio)) {
         memory[at] = 0x1p-1074;
@@ -106,7 +106,7 @@ uint32_t __wrap_room_raw_delay_tick(uint64_t *pos, double *distance, uint32_t *p
 }
 
 /* 9: samples of -0 come out as +0. */
-uint32_t __wrap_room_raw_chorus_tick(uint64_t *pos, double *phases, double rate, double *memory, uint64_t places, uint32_t set,
+uint32_t __wrap_room_raw_chorus_tick(uint32_t *pos, double *phases, double rate, double *memory, uint64_t places, uint32_t set,
                                      double audio, double depth, double mix, double frequency, double sine0, double sine1,
                                      double sine2, double *out, uint32_t *age)
 {
@@ -120,7 +120,7 @@ uint32_t __wrap_room_raw_chorus_tick(uint64_t *pos, double *phases, double rate,
 }
 
 /* 10: a retune leaves a sound in the first place. */
-uint32_t __wrap_room_raw_chorus_retune(double new_rate, double *memory, uint64_t places, uint64_t *pos, double *phases,
+uint32_t __wrap_room_raw_chorus_retune(double new_rate, double *memory, uint64_t places, uint32_t *pos, double *phases,
                                        double *rate)
 {
     const uint32_t number = __real_room_raw_chorus_retune(new_rate, memory, places, pos, phases, rate);
@@ -131,7 +131,7 @@ uint32_t __wrap_room_raw_chorus_retune(double new_rate, double *memory, uint64_t
 }
 
 /* 11: no input rule. */
-uint32_t __wrap_room_raw_flanger_tick(uint64_t *pos, double *phase, double rate, double *memory, uint64_t places, uint32_t set,
+uint32_t __wrap_room_raw_flanger_tick(uint32_t *pos, double *phase, double rate, double *memory, uint64_t places, uint32_t set,
                                       double audio, double depth, double feedback, double mix, double frequency, double sine0,
                                       double sine1, double *out, uint32_t *age)
 {
@@ -144,7 +144,7 @@ uint32_t __wrap_room_raw_flanger_tick(uint64_t *pos, double *phase, double rate,
 }
 
 /* 12: a reset leaves a sound in the last place in use. */
-uint32_t __wrap_room_raw_flanger_reset(double *memory, uint64_t places, uint64_t *pos, double *phase, double rate)
+uint32_t __wrap_room_raw_flanger_reset(double *memory, uint64_t places, uint32_t *pos, double *phase, double rate)
 {
     const uint32_t number = __real_room_raw_flanger_reset(memory, places, pos, phase, rate);
     if (broken(12) && number == 0u) {
@@ -154,7 +154,7 @@ uint32_t __wrap_room_raw_flanger_reset(double *memory, uint64_t places, uint64_t
 }
 
 /* 13: the input rule where there is none. 17: a refused tick leaves the age that was there. */
-uint32_t __wrap_room_raw_vibrato_tick(uint64_t *pos, double *phase, double rate, double *memory, uint64_t places, uint32_t set,
+uint32_t __wrap_room_raw_vibrato_tick(uint32_t *pos, double *phase, double rate, double *memory, uint64_t places, uint32_t set,
                                       double audio, double depth, double mix, double frequency, double sine, double *out,
                                       uint32_t *age)
 {
@@ -178,12 +178,12 @@ uint32_t __wrap_room_raw_tremolo_tick(double *phase, double rate, uint32_t set, 
 }
 
 /* 15: a tick that is refused for its controls moves a position. 16: a tick leaves a sound in a store. */
-uint32_t __wrap_room_raw_reverb_tick(uint64_t *comb_l, uint64_t *comb_r, double *store_l, double *store_r, uint64_t *pass_l,
-                                     uint64_t *pass_r, uint64_t *predelay_pos, double rate, double *memory, uint64_t places,
-                                     uint32_t set, double audio, double size, double damping, double mix, double predelay,
-                                     double *out)
+uint32_t __wrap_room_raw_reverb_tick(uint32_t *comb_l, uint32_t *comb_r, uint32_t *pass_l, uint32_t *pass_r,
+                                     uint32_t *predelay_pos, double *store_l, double *store_r, double rate, double *memory,
+                                     uint64_t places, uint32_t set, double audio, double size, double damping, double mix,
+                                     double predelay, double *out)
 {
-    const uint32_t number = __real_room_raw_reverb_tick(comb_l, comb_r, store_l, store_r, pass_l, pass_r, predelay_pos, rate,
+    const uint32_t number = __real_room_raw_reverb_tick(comb_l, comb_r, pass_l, pass_r, predelay_pos, store_l, store_r, rate,
                                                         memory, places, set, audio, size, damping, mix, predelay, out);
     if (broken(15) && number == 5u) {
         *predelay_pos = (*predelay_pos + 1u) % 9600u;
@@ -195,41 +195,41 @@ uint32_t __wrap_room_raw_reverb_tick(uint64_t *comb_l, uint64_t *comb_r, double 
 }
 
 /* 18: the question reads the line alone, and not whether a read waits. */
-uint32_t __wrap_room_raw_tape_delay_silent(uint64_t pos, double distance, uint32_t primed, uint32_t waiting, double kept_audio,
-                                           double kept_read, double kept_mix, double rate, double coefficient,
+uint32_t __wrap_room_raw_tape_delay_silent(uint32_t pos, double distance, double kept_audio, double kept_read, double kept_mix,
+                                           double rate, double coefficient, uint32_t primed, uint32_t waiting,
                                            const double *memory, uint64_t places, uint32_t *out)
 {
     const int fits = kept_mix >= 0.0 && kept_mix <= 1.0;
     if (broken(18) && waiting != 0u && fits) {
-        return __real_room_raw_tape_delay_silent(pos, distance, primed, 0, 0.0, 0.0, 0.0, rate, coefficient, memory, places,
+        return __real_room_raw_tape_delay_silent(pos, distance, 0.0, 0.0, 0.0, rate, coefficient, primed, 0, memory, places,
                                                  out);
     }
-    return __real_room_raw_tape_delay_silent(pos, distance, primed, waiting, kept_audio, kept_read, kept_mix, rate, coefficient,
+    return __real_room_raw_tape_delay_silent(pos, distance, kept_audio, kept_read, kept_mix, rate, coefficient, primed, waiting,
                                              memory, places, out);
 }
 
 /* 19: a reset leaves a read waiting. */
-uint32_t __wrap_room_raw_tape_delay_reset(double *memory, uint64_t places, uint64_t *pos, double *distance, uint32_t *primed,
-                                          uint32_t *waiting, double *kept_audio, double *kept_read, double *kept_mix,
-                                          double rate, double coefficient)
+uint32_t __wrap_room_raw_tape_delay_reset(double *memory, uint64_t places, uint32_t *pos, double *distance, double *kept_audio,
+                                          double *kept_read, double *kept_mix, double rate, double coefficient,
+                                          uint32_t *primed, uint32_t *waiting)
 {
     const uint32_t before = *waiting;
-    const uint32_t number = __real_room_raw_tape_delay_reset(memory, places, pos, distance, primed, waiting, kept_audio,
-                                                             kept_read, kept_mix, rate, coefficient);
+    const uint32_t number = __real_room_raw_tape_delay_reset(memory, places, pos, distance, kept_audio, kept_read, kept_mix,
+                                                             rate, coefficient, primed, waiting);
     *waiting = broken(19) && number == 0u ? before : *waiting;
     return number;
 }
 
 /* 20: no input rule. 21: what was read is kept as a sound. */
-uint32_t __wrap_room_raw_tape_delay_read_half(uint64_t pos, double *distance, uint32_t *primed, uint32_t *waiting,
-                                              double *kept_audio, double *kept_read, double *kept_mix, double rate,
-                                              double coefficient, const double *memory, uint64_t places, uint32_t set,
+uint32_t __wrap_room_raw_tape_delay_read_half(uint32_t pos, double *distance, double *kept_audio, double *kept_read,
+                                              double *kept_mix, double rate, double coefficient, uint32_t *primed,
+                                              uint32_t *waiting, const double *memory, uint64_t places, uint32_t set,
                                               double audio, double time, double feedback, double mix, double *sum,
                                               uint32_t *age)
 {
-    const uint32_t number = __real_room_raw_tape_delay_read_half(pos, distance, primed, waiting, kept_audio, kept_read,
-                                                                 kept_mix, rate, coefficient, memory, places, set, audio, time,
-                                                                 feedback, mix, sum, age);
+    const uint32_t number = __real_room_raw_tape_delay_read_half(pos, distance, kept_audio, kept_read, kept_mix, rate,
+                                                                 coefficient, primed, waiting, memory, places, set, audio,
+                                                                 time, feedback, mix, sum, age);
     if (broken(20) && number == 0u && (set & 1u) != 0u && !isfinite(audio)) {
         *sum = audio;
     }
@@ -240,15 +240,15 @@ uint32_t __wrap_room_raw_tape_delay_read_half(uint64_t pos, double *distance, ui
 }
 
 /* 22: a store half that is refused drops the read. 23: the mix that was kept stays. 24: -0 is stored as the smallest sound. */
-uint32_t __wrap_room_raw_tape_delay_store_half(uint64_t *pos, double distance, uint32_t primed, uint32_t *waiting,
-                                               double *kept_audio, double *kept_read, double *kept_mix, double rate,
-                                               double coefficient, double *memory, uint64_t places, double saturated,
+uint32_t __wrap_room_raw_tape_delay_store_half(uint32_t *pos, double distance, double *kept_audio, double *kept_read,
+                                               double *kept_mix, double rate, double coefficient, uint32_t primed,
+                                               uint32_t *waiting, double *memory, uint64_t places, double saturated,
                                                double *out)
 {
-    const uint64_t at = *pos;
+    const uint32_t at = *pos;
     const double mix = *kept_mix;
-    const uint32_t number = __real_room_raw_tape_delay_store_half(pos, distance, primed, waiting, kept_audio, kept_read,
-                                                                  kept_mix, rate, coefficient, memory, places, saturated, out);
+    const uint32_t number = __real_room_raw_tape_delay_store_half(pos, distance, kept_audio, kept_read, kept_mix, rate,
+                                                                  coefficient, primed, waiting, memory, places, saturated, out);
     if (broken(22) && number == 6u) {
         *waiting = 0;
         *kept_audio = *kept_read = *kept_mix = 0.0;
