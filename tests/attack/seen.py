@@ -179,7 +179,7 @@ fn common_calls() -> u64 {
         for j in 0..40 {
             h = float(float(h, common::blend(x, fraction(j), special(j))), common::advance_phase(x, special(j)));
             if j < i {
-                h = mix(h, common::next_place(i, j));
+                h = mix(h, common::next_place(i as u32, j as u32) as u64);
             }
             let r = effect::check_rate((i != 0).then_some(i), j as usize);
             h = cleared(cleared(h, effect::check_memory(i, j as usize)), r);
@@ -360,10 +360,10 @@ fn settings_calls() -> u64 {
 
 
 REVERB = """
-fn words(h: u64, a: &[u64]) -> u64 {
+fn words(h: u64, a: &[u32]) -> u64 {
     let mut sum = h;
     for x in a {
-        sum = mix(sum, *x);
+        sum = mix(sum, *x as u64);
     }
     sum
 }
@@ -386,11 +386,11 @@ fn reverb_left(h: u64, s: Reverb) -> u64 {
     let e = s.comb_filter_state_l;
     let f = s.comb_filter_state_r;
     let positions = words(words(words(words(h, &a), &b), &c), &d);
-    float(mix(places(places(positions, &e), &f), s.predelay_pos), s.sample_rate)
+    float(mix(places(places(positions, &e), &f), s.predelay_pos as u64), s.sample_rate)
 }
 
 // a state with one of its positions, its stores or its rate put to another value
-fn reverb_with(s: Reverb, i: u64, p: u64, x: f64) -> Reverb {
+fn reverb_with(s: Reverb, i: u64, p: u32, x: f64) -> Reverb {
     let mut t = s;
     let j = (i % 8) as usize;
     let q = (i % 4) as usize;
@@ -485,7 +485,7 @@ fn reverb_calls() -> u64 {
         h = reverb_left(mix(answered(h, a), t.age as u64), s);
     }
     h = tank(h, mem);
-    let at: [u64; 6] = [0, 50, 202, 300, 5000, 1099511627776];
+    let at: [u32; 6] = [0, 50, 202, 300, 5000, 4294967295];
     for i in 0..42 {
         for v in 0..6 {
             h = reverb_each(h, reverb_with(s, i, at[v], special(v as u64 * 7 + i)), mem, v as u64 * 9 + i + 1);
@@ -616,8 +616,8 @@ fn tape_calls() -> u64 {
 def field(name, i):
     """Two lines of code for a field: what it adds to the sum, and how it is put to another value."""
     kind = "mix" if name == "write_pos" else "flag" if name in ("linear_time", "delay_primed", "waiting") else "float"
-    value = {"mix": "n * 11", "flag": "n % 2 == 0", "float": "x"}[kind]
-    return f"    sum = {kind}(sum, s.{name});", f"    if i == {i} {{\n        t.{name} = {value};\n    }}"
+    value = {"mix": "(n * 11) as u32", "flag": "n % 2 == 0", "float": "x"}[kind]
+    return f"    sum = {kind}(sum, s.{name}{' as u64' if kind == 'mix' else ''});", f"    if i == {i} {{\n        t.{name} = {value};\n    }}"
 
 
 def effect(name, kind, fields, start, retune, n, tick):
