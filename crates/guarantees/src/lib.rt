@@ -14,7 +14,7 @@ ghost use Rattle.guarantees.specs.Ages.{Ages};
 ghost use Rattle.guarantees.specs.Tapes.{Tapes};
 ghost use Rattle.guarantees.specs.Positions.{Positions};
 ghost use Rattle.std.specs.Prelude.{◌≡◌, ◌<◌, ◌+◌, [], ◌∷◌};
-ghost use Rattle.effect.specs.Narrow.{AllBelow, new_width};
+ghost use Rattle.effect.specs.Narrow.{AllBelow, old_width, new_width};
 ghost use Rattle.tremolo.specs.Tremolo as tremolo_page;
 ghost use Rattle.vibrato.specs.Vibrato as vibrato_page;
 ghost use Rattle.chorus.specs.Chorus as chorus_page;
@@ -106,6 +106,7 @@ pub fn positions_held(
         ∷ (reverb.predelay_pos ∷ []) ∷ []) }
     ensures of_tape_delay { tape.write_pos < new_width }
     ensures of_32_bits { new_width ≡ u32.MAX + 1 }
+    ensures of_64_bits { old_width ≡ u64.MAX + 1 }
 {}
 
 // The page by which each effect's start, retune, reset and question go is its own.
