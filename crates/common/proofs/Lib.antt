@@ -1,6 +1,7 @@
 pub mod Finite
 pub mod Fill
 pub mod Zeros
+pub mod Nonzeros
 pub mod ZeroBlends
 pub mod Tables
 pub mod Slices

@@ -4,17 +4,16 @@ use Prim.Native.Nat.{ℕ, ◌+◌, ◌-◌, ◌≤◌, ◌<◌}
 use native.Mathlib.Nat.{zero-add}
 use native.Mathlib.Omega.{arith}
 use mathlib.Core.Path.{◌≡◌, refl, ap, ◌∙◌}
-use mathlib.Core.Bool.{Bool, true, false, not, cond}
+use mathlib.Core.Bool.{true}
 use mathlib.Core.List.{List}
 use lib.Dec.{T}
 use lib.ListN.{length, get_or}
 use lib.Ieee.{Float, nan, binary64, sub, le, lt}
-use Rattle.std.specs.Int.{from_bool}
-use Rattle.float64.specs.Number.{float_of, is_zero, whole_part, fraction_part, in_range}
+use Rattle.float64.specs.Number.{float_of, whole_part, fraction_part, in_range}
 use Rattle.float64.proofs.Ranges.{range-in}
 use Rattle.float64.proofs.Parts.{Parts, parts-of, whole-ends}
 use Rattle.common.specs.Signal.{blended}
-use Rattle.common.specs.Line.{place, line_at, read_at}
+use Rattle.common.specs.Line.{place, line_at, read_at, nonzero}
 use Rattle.common.specs.Reads.{age_at}
 use Rattle.common.proofs.Ring.{place-again}
 
@@ -49,11 +48,7 @@ read_is line w x d p q n y s r l e h k m b =
     k ∙ ap (λ (i : ℕ). place (length line) i 1) h ∙ place-again (length line) w d l (omega (arith, e, low)) (omega (arith, e, high)) in
     rw (b, before, h, m, e) (simp zero-add)
 
--- the age, from the whole part d, n the whole part as a float, and whether their difference is 0
-pub age_is : (x : Float) (d : ℕ) (n : Float) {k : ℕ} → d ≡ whole_part x → n ≡ float_of d → k ≡ from_bool (not (is_zero (sub binary64 x n))) → d + k ≡ age_at x
+-- the age, from the whole part d, n the whole part as a float, and whether their difference is none of the zeros
+pub age_is : (x : Float) (d : ℕ) (n : Float) {k : ℕ} → d ≡ whole_part x → n ≡ float_of d → k ≡ nonzero (sub binary64 x n) → d + k ≡ age_at x
 unfolding age_at
-age_is x d n e m h = rw (h, m, e) (go (is_zero (fraction_part x)))
-  where
-    go : (b : Bool) → whole_part x + from_bool (not b) ≡ whole_part x + cond b 0 1
-    go true = refl
-    go false = refl
+age_is x d n e m h = rw (h, m, e) refl

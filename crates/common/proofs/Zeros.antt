@@ -25,18 +25,10 @@ fold-zeros b (x ∷ l) = fold-zeros (b && is_zero x) l ∙ and_assoc b (is_zero 
 pub all-by-fold : (l : List Float) → fold (λ (z : Bool) (x : Float). z && is_zero x) true l ≡ all_zero l
 all-by-fold l = fold-zeros true l
 
--- no places are zeros
-pub no-places : (l : List Float) → length l ≡ 0 → all_zero l ≡ true
-unfolding all_zero
-no-places [] h = refl
-no-places (x ∷ l) h = absurd (omega arith)
-
 pub zeros-append : (a b : List Float) → all_zero (a ++ b) ≡ all_zero a && all_zero b
 unfolding all_zero
 zeros-append [] b = refl
 zeros-append (x ∷ a) b = ap (λ (c : Bool). is_zero x && c) (zeros-append a b) ∙ sym (and_assoc (is_zero x) (all_zero a) (all_zero b))
-
-pub ruleset part_cases = (no-places, zeros-append)
 
 -- the first a + b places: the first a, and the b after them
 pub zeros-split : (a b : ℕ) (l : List Float) → all_zero (take (a + b) l) ≡ all_zero (take a l) && all_zero (take b (drop a l))

@@ -1,6 +1,6 @@
 -- A line of L places in lent memory, from place o on, with its write position w: where its samples lie, how it is read, and what a clearing leaves.
 -- Definitions only. Assumes nothing.
-use Rattle.std.specs.Prelude.{ℕ, zero, suc, ◌+◌, ◌-◌, ◌%◌, Bool, true, ◌&&◌, List, [], ◌∷◌, length, get_or, replicate, ◌==◌, Float}
+use Rattle.std.specs.Prelude.{ℕ, zero, suc, ◌+◌, ◌-◌, ◌%◌, min, Bool, true, ◌&&◌, cond, List, [], ◌∷◌, length, get_or, replicate, ◌==◌, Float}
 use Rattle.std.specs.Float.{nan, binary64}
 use Rattle.std.specs.Float.Ieee.{mul, div}
 use Rattle.float64.specs.Number.{plus_zero, float_of, is_zero, whole_part, fraction_part, in_range}
@@ -47,6 +47,20 @@ newest_first o L w m = table (λ i. line_at o L w m (i + 1)) L
 unfoldable pub all_zero : List Float → Bool
 all_zero [] = true
 all_zero (x ∷ xs) = is_zero x && all_zero xs
+
+-- 1 for a float that is neither +0 nor −0, as a NaN is
+abbrev pub nonzero : Float → ℕ
+nonzero x = cond (is_zero x) 0 1
+
+-- how many of them there are
+unfoldable pub nonzeros : List Float → ℕ
+nonzeros [] = 0
+nonzeros (x ∷ xs) = nonzero x + nonzeros xs
+
+-- Of a count of such places among so many: what it comes to where some are gained and some lost at once. Where the net change would take it below 0 or above all, it stays
+-- at that end.
+abbrev pub recounted : ℕ → ℕ → ℕ → ℕ → ℕ
+recounted all count gained lost = min all (count + gained - lost)
 
 -- the list has n entries, as an array of n floats has, and each is +0 or −0
 abbrev pub are_zeros : ℕ → List Float → Bool

@@ -3,7 +3,7 @@ use Rattle.std.specs.Prelude.{ℕ, ◌+◌, max, cond, List, [], ◌∷◌, ◌=
 use Rattle.std.specs.Float.{binary64}
 use Rattle.std.specs.Float.Ieee.{sub, mul}
 use Rattle.float64.specs.Number.{plus_zero, float_of, is_zero, whole_part, fraction_part}
-use Rattle.common.specs.Line.{line_at, read_at}
+use Rattle.common.specs.Line.{line_at, read_at, nonzero}
 
 -- a read of a line: the place where the line begins, how many places it has, its write position, counted from its first place, and the distance read at
 pub record Read : Type 0 where
@@ -28,7 +28,7 @@ weighed r m d = mul binary64 (line_at r.start r.size r.position m d) (weight_at 
 
 -- its age: the whole part of the distance, plus one where the fraction is not 0. It is that of the oldest sample that it weighs above 0
 unfoldable pub age_at : Float → ℕ
-age_at distance = whole_part distance + cond (is_zero (fraction_part distance)) 0 1
+age_at distance = whole_part distance + nonzero (fraction_part distance)
 
 -- the largest age of some reads, 0 where there is none
 abbrev pub largest_age : List Read → ℕ

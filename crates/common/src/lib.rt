@@ -1,18 +1,16 @@
 // What the effects share: a number for each side, the input rule, dry/wet, phases, and lines in lent memory.
 #![tactic(auto)]
 
-ghost use Rattle.std.specs.Prelude.{◌≡◌, true, ◌&&◌, ◌-◌, ◌≤◌, ◌<◌, length};
+ghost use Rattle.std.specs.Prelude.{◌≡◌, true, ◌&&◌, ◌+◌, ◌-◌, ◌≤◌, ◌<◌, length, get_or, set};
+ghost use Rattle.std.specs.Float.{nan};
 ghost use Rattle.std.specs.Bool.{then_some};
 ghost use Rattle.float64.specs.Number.{float_of, in_range, rate_fits, clamp_of, at_least, at_most};
 ghost use Rattle.port.specs.Answer.{number_of};
 ghost use Rattle.common.specs.Signal.{sanitized, blended, advanced, cause_number};
-ghost use Rattle.common.specs.Line.{swept_length, sweep_fits, zeros, place, next_place, line_at, read_at, all_zero};
+ghost use Rattle.common.specs.Line.{swept_length, sweep_fits, zeros, place, next_place, line_at, read_at, all_zero, nonzero, recounted};
 ghost use Rattle.common.specs.Reads.{age_at};
 
 use port::Refusal;
-
-// How many places `all_zero` reads between two tests.
-const PART: usize = 512;
 
 // A number of each side.
 #[derive(Clone, Copy)]
@@ -176,7 +174,7 @@ impl<'a> Line<'a> {
         let q = place_before(n, p);
         Heard {
             sample: blend(line[p], line[q], f),
-            age: whole as u32 + u32::from(f != 0.0),
+            age: whole as u32 + nonzero(f),
         }
     }
 
@@ -206,22 +204,38 @@ pub fn clear(mem: &mut [f64])
     }
 }
 
-// Whether every place of a part is +0 or -0. It reads them all, with no exit on the way.
-fn part_zero(part: &[f64]) -> bool
-    ensures { result ≡ all_zero part.now }
+// 1 for a float that is neither +0 nor -0, as a NaN is; else 0.
+#[tactic(auto, unfolding(float64::proofs::Literals::of_bits))]
+pub fn nonzero(x: f64) -> u32
+    ensures { result ≡ nonzero x }
 {
-    part.iter().fold(true, |zero, x| zero & (*x == 0.0))
+    u32::from(x != 0.0)
 }
 
-// Whether every place is +0 or -0: part by part, so that it stops soon after a place that is not.
-#[tactic(auto, using(crate::proofs::Zeros::part_cases))]
-pub fn all_zero(places: &[f64]) -> bool
-    ensures { result ≡ all_zero places.now }
+// Of `count` such places among `all`: what it comes to where some are gained and some lost at once. The net change stops at both ends.
+pub fn recount(all: u32, count: u32, gained: u32, lost: u32) -> u32
+    requires { count + gained ≤ u32.MAX }
+    ensures { result ≡ recounted all count gained lost }
 {
-    for part in places.chunks(PART) {
-        if !part_zero(part) {
-            return false;
-        }
-    }
-    true
+    (count + gained).saturating_sub(lost).min(all)
+}
+
+// A store in a line all of whose places are in use, and the count after it.
+pub fn store(places: &mut [f64], w: usize, value: f64, count: u32) -> u32
+    requires inside { w < length places.old }
+    requires most { count ≤ length places.old }
+    requires short { length places.old < u32.MAX }
+    ensures count { result ≡ recounted (length places.old) count (nonzero value) (nonzero (get_or places.old w nan)) }
+    ensures stored { places.new ≡ set places.old w value }
+{
+    let lost = nonzero(places[w]);
+    places[w] = value;
+    recount(places.len() as u32, count, nonzero(value), lost)
+}
+
+// Whether every one of some numbers is +0 or -0. It reads them all, with no exit on the way.
+pub fn all_zero(numbers: &[f64]) -> bool
+    ensures { result ≡ all_zero numbers.now }
+{
+    numbers.iter().fold(true, |zero, x| zero & (*x == 0.0))
 }

@@ -1,5 +1,5 @@
 -- `common::Line::read`: what its calls return, put together. Assumes nothing.
-use lib.Ieee.{eq, ne, of_bits}
+use lib.Ieee.{of_bits}
 use Rattle.common.proofs.Reading.{read_is, age_is}
 use Rattle.common.proofs.Line.read.Goals as goal
 
@@ -10,5 +10,5 @@ returns-clause-sample c =
     c.place_back-p.ensures.value c.place_before-q.ensures.value c.from.ensures c.blend.ensures
 
 pub returns-clause-age : goal.returns-clause-age
-unfolding eq ne of_bits
-returns-clause-age c = age_is c.args.distance _ _ c.whole_part_small-whole.ensures c.from.ensures c.from-2.ensures
+unfolding of_bits
+returns-clause-age c = age_is c.args.distance _ _ c.whole_part_small-whole.ensures c.from.ensures c.nonzero.ensures
