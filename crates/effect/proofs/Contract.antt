@@ -14,7 +14,7 @@ use Rattle.port.specs.declared.Refusal.{Refusal}
 use Rattle.port.specs.Answer.{Reply, done, silent, refused, number_of, outcome_reply}
 use Rattle.common.specs.Line.{zeros}
 use Rattle.effect.specs.Effect.{Effect}
-use Rattle.effect.specs.Run.{tick, ask, CallOf, Device, if_none, first, memory_number, start_number, number_now, number_in, is_silent, changed, says}
+use Rattle.effect.specs.Run.{tick, ask, CallOf, Device, if_none, first, memory_number, start_number, number_now, number_in, counted_silent, changed, says}
 use Rattle.effect.specs.Contract.{Does, Starts}
 use Rattle.effect.proofs.Table.{if_none-some, first_some, first-assoc}
 use Rattle.effect.proofs.Outcomes.{outcome-reply}
@@ -59,7 +59,7 @@ module _ (E : Effect) (c : CallOf E) (s : E.State) (m : List Float) where
 
 -- the question, by what its tests came to: b is what was found where they passed
 pub asks : (E : Effect) (s : E.State) (m : List Float) (k : ℕ) {b : Bool} {a : Reply} → k ≡ number_in E ask (length m) s
-    → (number_in E ask (length m) s ≡ 0 → b ≡ is_silent E (record { state = s; memory = m }))
+    → (number_in E ask (length m) s ≡ 0 → b ≡ counted_silent E s)
     → a ≡ if_none k (silent b) (refused k)
     → Does E ask s m s m a
 asks E s m zero e found r = accepts E ask s m (sym e) refl refl (rw r (ap silent (found (sym e))))

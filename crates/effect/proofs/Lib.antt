@@ -16,6 +16,8 @@ pub mod Demand3
 pub mod Covers
 pub mod EachTick
 pub mod PlacesKeep
+pub mod CountLaws
+pub mod Counts
 pub mod SilentLaws
 pub mod StaysSilent
 pub mod HearsBack

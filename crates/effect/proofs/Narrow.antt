@@ -1,11 +1,11 @@
 -- An effect that supplies its state's fields, and whose state test keeps positions below 2^32, answers alike in both widths. Assumes what it supplies.
-use Rattle.std.proofs.Common.{◌≡◌, ℕ, suc, ◌+◌, ◌%◌, ◌<◌, ◌≤◌, Float, Bool, true, false, List, [], ◌∷◌, length, get_or, map, refl, sym, ap, ◌∙◌, subst, mod-eq_of_lt, arith}
+use Rattle.std.proofs.Common.{◌≡◌, ℕ, suc, ◌+◌, ◌%◌, ◌<◌, ◌≤◌, Float, true, false, List, [], ◌∷◌, length, get_or, map, refl, sym, ap, ◌∙◌, subst, mod-eq_of_lt, arith}
 use native.Mathlib.Nat.{add-mod_right}
 use Rattle.effect.specs.Effect.{Effect}
-use Rattle.effect.specs.Run.{CallOf, Device, device_of, number_at, step, start, start_number, reply, after, replies, final}
-use Rattle.effect.specs.Narrow.{Fields, AreFields, Alike, AllAlike, count, EachBelow, AllBelow, old_width, new_width, OfWidth, narrow, beyond, SameFields, Narrow}
+use Rattle.effect.specs.Run.{CallOf, Device, device_of, number_at, step, start, start_number, after, final}
+use Rattle.effect.specs.Narrow.{Fields, AreFields, Alike, AllAlike, how_many, EachBelow, AllBelow, old_width, new_width, OfWidth, narrow, beyond, SameFields, Narrow}
 use Rattle.effect.proofs.Laws.{Laws}
-use Rattle.effect.proofs.Table.{accepted, settings-accepted}
+use Rattle.effect.proofs.Table.{false_where, accepted, settings-accepted}
 use Rattle.effect.proofs.EachTick.{if_none-cases, after-keep, all-meet}
 use Rattle.effect.proofs.Runs.{changed-fits, run_in}
 
@@ -37,7 +37,7 @@ all-further : (n m : ℕ) (arrays : List (List ℕ)) → n + n ≤ m → AllBelo
 all-further n m [] h b = tt
 all-further n m (a ∷ rest) h b = (further n m a h b.0, all-further n m rest h b.1)
 
-not-below : (n : ℕ) (arrays : List (List ℕ)) → 0 < count arrays → ¬ AllBelow n (map (map (λ w. w + n)) arrays)
+not-below : (n : ℕ) (arrays : List (List ℕ)) → 0 < how_many arrays → ¬ AllBelow n (map (map (λ w. w + n)) arrays)
 not-below n [] some b = omega (arith, some)
 not-below n ([] ∷ rest) some b = not-below n rest (omega (arith, some)) b.1
 not-below n ((w ∷ ws) ∷ rest) some b = omega (arith, b.0.0)
@@ -59,10 +59,6 @@ same-array e i = ap (λ arrays. get_or arrays i []) e
 pub same-entry : {A : Type 0} (d : A) {x y : List (List A)} → x ≡ y → (i j : ℕ) → get_or (get_or x i []) j d ≡ get_or (get_or y i []) j d
 same-entry d e i j = ap (λ array. get_or array j d) (same-array e i)
 
-false_where : {P : Type 0} (b : Bool) → (b ≡ true → P) → ¬ P → b ≡ false
-false_where true p n = absurd (n (p refl))
-false_where false p n = refl
-
 module _ (E : Effect) (F : Fields E.State) where
   -- What an effect shows: that these are its state's fields, and that 32 bits hold the positions of a state that passes its test, and of the one that a refused start
   -- gives.
@@ -78,6 +74,7 @@ module _ (E : Effect) (F : Fields E.State) where
     narrow-same s b =
         record {
           positions = sym (own.fields.mapped _ s ∙ all-below-mod new_width (F.positions s) b);
+          count = sym (own.fields.count_stays _ s);
           floats = sym (own.fields.floats_stay _ s);
           flags = sym (own.fields.flags_stay _ s);
         }
@@ -103,6 +100,7 @@ module _ (E : Effect) (F : Fields E.State) where
           positions =
               own.fields.mapped _ (beyond E F s) ∙ ap (map (map (λ w. w % new_width))) (own.fields.mapped _ s) ∙ all-turned new_width (F.positions s)
               ∙ all-below-mod new_width (F.positions s) b;
+          count = own.fields.count_stays _ (beyond E F s) ∙ own.fields.count_stays _ s;
           floats = own.fields.floats_stay _ (beyond E F s) ∙ own.fields.floats_stay _ s;
           flags = own.fields.flags_stay _ (beyond E F s) ∙ own.fields.flags_stay _ s;
         }
@@ -110,7 +108,7 @@ module _ (E : Effect) (F : Fields E.State) where
     beyond-old : (s : E.State) → OfWidth E F new_width s → OfWidth E F old_width (beyond E F s)
     beyond-old s b = rw (own.fields.mapped (λ w. w + new_width) s) (all-further new_width old_width (F.positions s) (omega arith) b)
 
-    beyond-refused : (s : E.State) → 0 < count (F.positions s) → E.state_fits (beyond E F s) ≡ false
+    beyond-refused : (s : E.State) → 0 < how_many (F.positions s) → E.state_fits (beyond E F s) ≡ false
     beyond-refused s some = refused (beyond E F s) (rw (own.fields.mapped (λ w. w + new_width) s) (not-below new_width (F.positions s) some))
 
     -- ---- calls

@@ -1,5 +1,5 @@
 -- Parts of a memory in order: which places are theirs, when they hold zeros, and what a zero put anywhere leaves of these. Assumes nothing.
-use Rattle.std.proofs.Common.{◌≡◌, ℕ, ◌+◌, ◌-◌, ◌^◌, ◌≤◌, ◌<◌, Bool, true, ◌&&◌, List, [], ◌∷◌, ◌++◌, length, get_or, set, take, drop, refl, sym, ap, ◌∙◌, arith, length-take, length-drop, append-nil}
+use Rattle.std.proofs.Common.{◌≡◌, ℕ, ◌+◌, ◌-◌, ◌^◌, ◌≤◌, ◌<◌, Bool, true, ◌&&◌, List, [], ◌∷◌, ◌++◌, length, get_or, set, take, drop, refl, sym, ap, ◌∙◌, arith, length-take, length-drop, length-append, append-nil}
 use mathlib.Core.Bool.{and_assoc}
 use lib.Seq.{get_or-take, get_or-drop, length-take-le}
 use lib.Ieee.{Float, nan, binary64}
@@ -7,12 +7,13 @@ use Rattle.float64.specs.Number.{float_of, is_zero}
 use Rattle.float64.proofs.Interval.{In}
 use Rattle.float64.proofs.Zeros.{Zero}
 use Rattle.float64.proofs.Tests.{both, both-true}
-use Rattle.common.specs.Line.{zeros, place, line_at, read_at, all_zero}
+use Rattle.common.specs.Line.{zeros, place, line_at, read_at, all_zero, nonzero, nonzeros}
 use Rattle.common.proofs.Zeros.{zeros-append, zero-at, all-zero-by, cleared-part, zero-put-part}
 use Rattle.common.proofs.Ring.{place-lt}
 use Rattle.common.proofs.ZeroBlends.{read-zero}
 use Rattle.effect.specs.Effect.{Write, laid, EachWritten}
-use Rattle.effect.specs.Parts.{Part, part, first_places, held_in, InPart, here, further, InOrder}
+use Rattle.common.proofs.Nonzeros.{nonzeros-append, put-before, put-behind, put-nonzeros}
+use Rattle.effect.specs.Parts.{Part, part, first_places, sizes, held_in, InPart, here, further, InOrder}
 use Rattle.effect.proofs.Laws.{Within, Below}
 
 -- ---- which places
@@ -26,6 +27,11 @@ pub below : (o n : ℕ) (qs : List Part) {p : ℕ} → InOrder o n qs → InPart
 below o n [] h u = elim u [ ]
 below o n (q ∷ qs) h (here a b) = omega (arith, ends-by (q.start + q.size) n qs h.1)
 below o n (q ∷ qs) h (further u) = below (q.start + q.size) n qs h.1 u
+
+pub least-place : (o n : ℕ) (qs : List Part) {p : ℕ} → InOrder o n qs → InPart p qs → o ≤ p
+least-place o n [] h u = elim u [ ]
+least-place o n (q ∷ qs) h (here a b) = omega (arith, h.0)
+least-place o n (q ∷ qs) h (further u) = omega (arith, h.0, least-place (q.start + q.size) n qs h.1 u)
 
 pub earlier : (o o' n : ℕ) (qs : List Part) → o ≤ o' → InOrder o' n qs → InOrder o n qs
 earlier o o' n [] l h = omega (arith, h)
@@ -116,6 +122,39 @@ pub zeros-laid : (qs : List Part) (ws : List Write) (m : List Float) → EachWri
     → all_zero (held_in qs (laid ws m)) ≡ true
 zeros-laid qs [] m z h = h
 zeros-laid qs (w ∷ ws) m z h = zeros-laid qs ws (set m w.place w.value) z.1 (put qs m w.place w.value z.0 h)
+
+-- ---- how many of them are none of the zeros
+
+-- they hold as many floats as they have places
+pub held-length : (o n : ℕ) (qs : List Part) (m : List Float) → InOrder o n qs → n ≤ length m → length (held_in qs m) ≡ sizes qs
+unfolding held_in
+held-length o n [] m h l = refl
+held-length o n (q ∷ qs) m h l =
+    let part = take q.size (drop q.start m) in
+    let e = ends-by (q.start + q.size) n qs h.1 in
+    omega (arith, length-append part (held_in qs m), length-take q.size (drop q.start m), length-drop q.start m, held-length (q.start + q.size) n qs m h.1 l)
+
+-- what is put before all of them leaves them
+put-before-all : (o n : ℕ) (qs : List Part) (m : List Float) (p : ℕ) (x : Float) → InOrder o n qs → p < o → held_in qs (set m p x) ≡ held_in qs m
+unfolding held_in
+put-before-all o n [] m p x h l = refl
+put-before-all o n (q ∷ qs) m p x h l = λ i.
+    put-before q.start q.size m p x (omega (arith, h.0)) i ++ put-before-all (q.start + q.size) n qs m p x h.1 (omega (arith, h.0)) i
+
+-- x put in one of their places, which is in no other of them
+pub put-in : (o n : ℕ) (qs : List Part) (m : List Float) {p : ℕ} (x : Float) → InOrder o n qs → n ≤ length m → InPart p qs
+    → nonzeros (held_in qs (set m p x)) + nonzero (get_or m p nan) ≡ nonzeros (held_in qs m) + nonzero x
+unfolding held_in
+put-in o n [] m x h l u = elim u [ ]
+put-in o n (q ∷ qs) m {p} x h l (here a b) =
+    let part = λ (d : List Float). take q.size (drop q.start d) in
+    let now = put-nonzeros q.start q.size m p x a b (omega (arith, ends-by (q.start + q.size) n qs h.1)) in
+    let rest = ap nonzeros (put-before-all (q.start + q.size) n qs m p x h.1 b) in
+    omega (arith, nonzeros-append (part (set m p x)) (held_in qs (set m p x)), nonzeros-append (part m) (held_in qs m), now, rest)
+put-in o n (q ∷ qs) m {p} x h l (further u) =
+    let part = λ (d : List Float). take q.size (drop q.start d) in
+    let now = ap nonzeros (put-behind q.start q.size m p x (least-place (q.start + q.size) n qs h.1 u)) in
+    omega (arith, nonzeros-append (part (set m p x)) (held_in qs (set m p x)), nonzeros-append (part m) (held_in qs m), now, put-in (q.start + q.size) n qs m x h.1 l u)
 
 -- ---- a line of L places from place o on, all of them in the parts
 

@@ -47,6 +47,11 @@ pub none_5 : (applies : Bool) → ◌≡◌ {A = ℕ} (cond applies 5 0) 0 → a
 none_5 true e = absurd (omega arith)
 none_5 false e = refl
 
+-- a test that passes only where P holds fails where P does not
+pub false_where : {P : Type 0} (b : Bool) → (b ≡ true → P) → ¬ P → b ≡ false
+false_where true p n = absurd (n (p refl))
+false_where false p n = refl
+
 -- ---- cause 3
 
 pub memory-enough : {needed n : ℕ} → needed ≤ n → ◌≡◌ {A = ℕ} 0 (memory_number needed n)

@@ -1,8 +1,10 @@
 -- What an effect is: its states, its rows of the table of refusals, and what each accepted call does. Each effect is one value of `Effect`.
 -- Definitions only. Assumes nothing.
-use Rattle.std.specs.Prelude.{ℕ, ◌≡◌, ◌≢◌, ◌⊎◌, Bool, List, [], ◌∷◌, set, Float}
+use Rattle.std.specs.Prelude.{ℕ, ◌+◌, ◌≡◌, ◌≢◌, ◌⊎◌, Bool, List, [], ◌∷◌, get_or, set, Float}
+use Rattle.std.specs.Float.{nan}
+use Rattle.common.specs.Line.{nonzero, recounted}
 use Rattle.common.specs.Reads.{Read}
-use Rattle.effect.specs.Parts.{Part, InPart}
+use Rattle.effect.specs.Parts.{Part, sizes, InPart}
 
 -- ---- memory
 
@@ -34,6 +36,20 @@ EachWrite P (w ∷ ws) = P w × EachWrite P ws
 -- every value that is written has it
 abbrev pub EachWritten : (Float → Type 0) → List Write → Type 0
 EachWritten P ws = EachWrite (λ w. P w.value) ws
+
+-- ---- what writes change of the count of places that are neither +0 nor −0: those that they make so, and those of the places written that were so before, in the memory m
+
+abbrev pub gained : List Write → ℕ
+gained [] = 0
+gained (w ∷ ws) = nonzero w.value + gained ws
+
+abbrev pub lost : List Write → List Float → ℕ
+lost [] m = 0
+lost (w ∷ ws) m = nonzero (get_or m w.place nan) + lost ws m
+
+-- the count after all of them, of the places of some parts
+abbrev pub recount : List Part → List Write → List Float → ℕ → ℕ
+recount qs ws m count = recounted (sizes qs) count (gained ws) (lost ws m)
 
 -- ---- the effect
 
@@ -79,6 +95,8 @@ pub record Effect : Type 1 where
   -- what the state itself keeps of the sound is +0 or −0: the reverb's damping stores, the numbers of the phaser's chains; of the tape delay that no read waits;
   -- true where it keeps nothing
   pub quiet : State → Bool
+  -- the count that the state keeps of the places in use that are neither +0 nor −0; 0 of tremolo and phaser, which are lent none
+  pub count : State → ℕ
 
 -- What an effect's page gives: the fields of `Effect` behind its types, over states S, settings K, and what a start (A), a retune (R) and a tick (T) are handed.
 -- It is a record of its own since code can say of it, and not of an `Effect`, that the states are a type of the code's.
@@ -101,6 +119,7 @@ pub record Page (S K A R T : Type 0) : Type 0 where
   pub reads : T → S → List Read
   pub input : T → Float
   pub quiet : S → Bool
+  pub count : S → ℕ
 
 abbrev pub effect_of : {S K A R T : Type 0} → Page S K A R T → Effect
 effect_of {S} {K} {A} {R} {T} p =
@@ -128,7 +147,12 @@ effect_of {S} {K} {A} {R} {T} p =
       reads = p.reads;
       input = p.input;
       quiet = p.quiet;
+      count = p.count;
     }
+
+-- how many places are in use
+abbrev pub used_places : (E : Effect) → E.Settings → ℕ
+used_places E k = sizes (E.parts k)
 
 -- the place p is in use
 abbrev pub InUse : (E : Effect) → E.Settings → ℕ → Type 0

@@ -6,7 +6,7 @@ use Rattle.float64.specs.Number.{plus_zero}
 use Rattle.port.specs.Answer.{reply_age}
 use Rattle.common.specs.Line.{next_place}
 use Rattle.common.specs.Reads.{Read, heard, weight_at}
-use Rattle.effect.specs.Effect.{Effect, Named}
+use Rattle.effect.specs.Effect.{Effect, Named, lost}
 use Rattle.effect.specs.Run.{tick, Device, number_at, reply}
 
 -- P holds of each of the reads
@@ -29,12 +29,14 @@ EachWith R (r ∷ rs) (q ∷ qs) = R r q × EachWith R rs qs
 abbrev pub OneOn : Read → Read → Type 0
 OneOn r q = (q.start ≡ r.start) × ((q.size ≡ r.size) × (q.position ≡ next_place r.size r.position))
 
--- A tick makes so many reads of lines of L places. They are all reads that it makes: where they hear the same in two memories, the memories are the same to it.
+-- A tick makes so many reads of lines of L places. They are all reads that it makes for what it writes and plays: where they hear the same in two memories, the memories are
+-- the same to it, but for the count, for which it reads the places that it writes.
 pub record ReadsLines (E : Effect) (count : E.Tick → ℕ) (L : E.Settings → ℕ) : Type 0 where
   pub many : (t : E.Tick) (s : E.State) → length (E.reads t s) ≡ count t
   pub lines : (t : E.Tick) (s : E.State) → EachRead (λ r. r.size ≡ L (E.settings s)) (E.reads t s)
   pub reads-all : (t : E.Tick) (s : E.State) (m n : List Float) → EachRead (λ r. heard r m ≡ heard r n) (E.reads t s)
-      → (E.next t s m ≡ E.next t s n) × ((E.writes t s m ≡ E.writes t s n) × (E.samples t s m ≡ E.samples t s n))
+      → (E.writes t s m ≡ E.writes t s n)
+      × ((E.samples t s m ≡ E.samples t s n) × (lost (E.writes t s m) m ≡ lost (E.writes t s n) n → E.next t s m ≡ E.next t s n))
 
 -- Each read is from the position at which the same tick stores, and a tick moves that on by one: so what lies d places back was stored d ticks ago, of the ticks
 -- that were accepted since the last clearing, and is the +0 of the clearing where they were fewer.

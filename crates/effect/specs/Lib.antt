@@ -11,6 +11,7 @@ pub mod Later
 pub mod Demand3
 pub mod Covers
 pub mod EachTick
+pub mod Counts
 pub mod StaysSilent
 pub mod HearsBack
 pub mod Narrow

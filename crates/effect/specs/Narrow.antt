@@ -7,7 +7,7 @@ use Rattle.effect.specs.Run.{CallOf, Device, device_of, start, step, reply, afte
 
 -- ---- the fields of a state
 
--- Positions, floats and flags, each in the order of the fields. Positions and floats are given array by array, fields that are one number together in an array of
+-- Positions, floats and flags, each in the order of the fields; the count is the effect's `count`. Positions and floats are given array by array, fields that are one number together in an array of
 -- their own, so that no number is taken for one of another field.
 pub record Fields (S : Type 0) : Type 0 where
   pub positions : S → List (List ℕ)
@@ -17,9 +17,9 @@ pub record Fields (S : Type 0) : Type 0 where
   pub map_positions : (ℕ → ℕ) → S → S
 
 -- how many numbers the arrays have
-abbrev pub count : List (List ℕ) → ℕ
-count [] = 0
-count (a ∷ rest) = length a + count rest
+abbrev pub how_many : List (List ℕ) → ℕ
+how_many [] = 0
+how_many (a ∷ rest) = length a + how_many rest
 
 -- each of an array is below n, and each of all arrays
 abbrev pub EachBelow : ℕ → List ℕ → Type 0
@@ -53,6 +53,7 @@ module _ (E : Effect) (F : Fields E.State) where
   -- s and t have the same in every field, positions as numbers, whatever their widths
   pub record SameFields (s t : E.State) : Type 0 where
     pub positions : F.positions s ≡ F.positions t
+    pub count : E.count s ≡ E.count t
     pub floats : F.floats s ≡ F.floats t
     pub flags : F.flags s ≡ F.flags t
 
@@ -72,9 +73,10 @@ module _ (E : Effect) (F : Fields E.State) where
   pub record AreFields (n : ℕ) : Type 0 where
     -- two states with the same fields are one
     pub whole : (s t : E.State) → SameFields s t → s ≡ t
-    pub counted : (s : E.State) → E.state_fits s ≡ true → count (F.positions s) ≡ n
+    pub counted : (s : E.State) → E.state_fits s ≡ true → how_many (F.positions s) ≡ n
     -- a function that is mapped over the positions changes them alone
     pub mapped : (f : ℕ → ℕ) (s : E.State) → F.positions (F.map_positions f s) ≡ map (map f) (F.positions s)
+    pub count_stays : (f : ℕ → ℕ) (s : E.State) → E.count (F.map_positions f s) ≡ E.count s
     pub floats_stay : (f : ℕ → ℕ) (s : E.State) → F.floats (F.map_positions f s) ≡ F.floats s
     pub flags_stay : (f : ℕ → ℕ) (s : E.State) → F.flags (F.map_positions f s) ≡ F.flags s
 

@@ -13,6 +13,11 @@ part start size = record { start = start; size = size }
 abbrev pub first_places : ℕ → List Part
 first_places n = part 0 n ∷ []
 
+-- how many places they have
+abbrev pub sizes : List Part → ℕ
+sizes [] = 0
+sizes (q ∷ qs) = q.size + sizes qs
+
 -- what they hold, in order
 unfoldable pub held_in : List Part → List Float → List Float
 held_in [] m = []

@@ -1,6 +1,6 @@
 -- The calls of an effect, the order of refusals, what each call leaves and answers, and lists of calls: each gets the state last returned and the
 -- same memory. Definitions only. Assumes nothing.
-use Rattle.std.specs.Prelude.{ℕ, zero, suc, ◌≡◌, Bool, ◌&&◌, cond, List, [], ◌∷◌, ltb, length, Float}
+use Rattle.std.specs.Prelude.{ℕ, zero, suc, ◌≡◌, Bool, ◌&&◌, cond, List, [], ◌∷◌, ltb, ◌==◌, length, Float}
 use Rattle.port.specs.Answer.{Reply, played, done, silent, refused}
 use Rattle.common.specs.Line.{zeros, all_zero}
 use Rattle.common.specs.Reads.{largest_age}
@@ -43,7 +43,7 @@ module _ (E : Effect) where
   abbrev pub DeviceOf : Type 0
   DeviceOf = Device E.State
 
-  -- ---- the table: start 1, 2, 3; retune 4, 1, 2, 3; reset and silent 4, 3; tick 4, 7, 3, 5, 6. The first that applies is given; 0 is none
+  -- ---- the table: start 1, 2, 3; retune 4, 1, 2, 3; reset 4, 3; silent 4; tick 4, 7, 3, 5, 6. The first that applies is given; 0 is none
 
   abbrev pub start_number : E.Start → ℕ → ℕ
   start_number a n = first (E.settings_number (E.start_settings a)) (memory_number (E.places (E.start_settings a)) n)
@@ -53,7 +53,7 @@ module _ (E : Effect) where
   number_for (tick t) n k = first (memory_number (E.places k) n) (E.tick_number t k)
   number_for (retune r) n k = first (E.settings_number (E.retune_settings r k)) (memory_number (E.places (E.retune_settings r k)) n)
   number_for reset n k = memory_number (E.places k) n
-  number_for ask n k = memory_number (E.places k) n
+  number_for ask n k = 0
 
   -- cause 7, of ticks alone
   abbrev pub turn_of : CallOf → E.State → ℕ
@@ -73,8 +73,12 @@ module _ (E : Effect) where
   abbrev pub number_at : CallOf → DeviceOf → ℕ
   number_at c h = number_in c (length h.memory) h.state
 
-  -- ---- silent: what the state keeps of the sound is quiet, and every place in use is +0 or −0
+  -- ---- silent: what the state keeps of the sound is quiet, and the count is 0
 
+  abbrev pub counted_silent : E.State → Bool
+  counted_silent s = E.quiet s && (E.count s == 0)
+
+  -- the full reading, which no call makes: quiet, and every place in use is +0 or −0. What the count has to do with it: `Counts`
   abbrev pub is_silent : DeviceOf → Bool
   is_silent h = E.quiet h.state && all_zero (held_in (E.parts (E.settings h.state)) h.memory)
 
@@ -94,7 +98,7 @@ module _ (E : Effect) where
   says (tick t) h = played (E.samples t h.state h.memory) (largest_age (E.reads t h.state))
   says (retune r) h = done
   says reset h = done
-  says ask h = silent (is_silent h)
+  says ask h = silent (counted_silent h.state)
 
   -- ---- any call: accepted, or refused, which leaves every place and field and answers the number. A refused start gives the blank state
 

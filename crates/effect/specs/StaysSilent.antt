@@ -1,6 +1,7 @@
--- What a lamp that shows "silent" is for: a silent unit that is given zero audio answers only zeros and stays silent. For every unit, in a run or handed in.
--- A unit whose tick comes in two calls waits between the halves, and is not silent then: of such an effect a condition on the state stays, that it is calm.
--- Definitions only. Assumes nothing.
+-- What a lamp that shows "silent" is for: a silent unit that is given zero audio answers only zeros and stays silent. Silent is the full reading, quiet and every place
+-- in use a zero, and so the rule is of every unit, in a run or handed in. The lamp asks, and the question is answered by the count, which tells the full reading of every
+-- run: so the lamp's own rule is of runs. A unit whose tick comes in two calls waits between the halves, and is not silent then: of such an effect a condition on the
+-- state stays, that it is calm. Definitions only. Assumes nothing.
 use Rattle.std.specs.Prelude.{ℕ, ◌≡◌, ◌≤◌, ◌↔◌, Bool, true, ◌&&◌, List, [], ◌∷◌, length, get_or, Float}
 use Rattle.std.specs.Float.{nan}
 use Rattle.float64.specs.Number.{is_zero}
@@ -8,8 +9,9 @@ use Rattle.port.specs.Answer.{Reply, played, done, silent, refused, reply_sample
 use Rattle.common.specs.Line.{all_zero}
 use Rattle.effect.specs.Parts.{held_in}
 use Rattle.effect.specs.Effect.{Effect, InUse}
-use Rattle.effect.specs.Run.{tick, retune, reset, ask, CallOf, Device, start_number, number_at, is_silent, start, step, reply, after, replies}
+use Rattle.effect.specs.Run.{tick, retune, reset, ask, CallOf, Device, start_number, number_at, is_silent, start, step, reply, after, replies, Run, final}
 use Rattle.effect.specs.EachTick.{EachTick}
+use Rattle.effect.specs.Counts.{TrueCount}
 
 -- nothing sounds in the reply: its samples are +0 or −0, whatever its age, and if it answers the question, it says silent
 abbrev pub soundless : Reply → Bool
@@ -69,10 +71,14 @@ pub record StaysSilent (E : Effect) : Type 0 where
   pub answers : WhenSilent E (AnswersZeros E)
   -- and leaves the unit silent
   pub stays : WhenSilent E (λ t h. is_silent E (step E (tick t) h) ≡ true)
-  -- So it is along every list of calls whose accepted ticks have zero audio, with questions, refused calls, retunes and resets anywhere among them: nothing
-  -- sounds, every question that is answered is answered "silent", and the unit is silent in the end.
+  -- So it is along every list of calls whose accepted ticks have zero audio, with questions, refused calls, retunes and resets anywhere among them: every sample that is
+  -- answered is a zero, and the unit is silent in the end.
   pub goes-on : (cs : List (CallOf E)) (h : Device E.State) → EachTick E (ZeroAudio E) cs h → is_silent E h ≡ true
-      → (all_soundless (replies E cs h) ≡ true) × (is_silent E (after E cs h) ≡ true)
+      → (all_play_zeros (replies E cs h) ≡ true) × (is_silent E (after E cs h) ≡ true)
+  -- The lamp's rule, of every run: where the question is answered "silent", nothing sounds along such calls, every question among them that is answered is answered
+  -- "silent", and so is one after them.
+  pub on_runs : (x : Run E) → reply E ask (final E x) ≡ silent true → (cs : List (CallOf E)) → EachTick E (ZeroAudio E) cs (final E x)
+      → (all_soundless (replies E cs (final E x)) ≡ true) × (reply E ask (after E cs (final E x)) ≡ silent true)
 
 -- The same of an effect whose units may wait for the second half of a tick.
 pub record StaysCalm (E : Effect) (calm : E.State → Bool) : Type 0 where
@@ -83,8 +89,13 @@ pub record StaysCalm (E : Effect) (calm : E.State → Bool) : Type 0 where
   pub answers : WhenCalm E calm (AnswersZeros E)
   -- and leaves the unit calm
   pub stays : WhenCalm E calm (λ t h. is_calm E calm (step E (tick t) h) ≡ true)
-  -- a calm unit that is asked says silent just where its state is quiet
-  pub asks : (h : Device E.State) → number_at E ask h ≡ 0 → is_calm E calm h ≡ true → reply E ask h ≡ silent (E.quiet h.state)
+  -- a calm unit with a true count that is asked says silent just where its state is quiet
+  pub asks : (h : Device E.State) → number_at E ask h ≡ 0 → TrueCount E h → is_calm E calm h ≡ true → reply E ask h ≡ silent (E.quiet h.state)
   -- So it is along every list of such calls: every sample that is answered is a zero, and the unit is calm in the end.
   pub goes-on : (cs : List (CallOf E)) (h : Device E.State) → EachTick E (ZeroAudio E) cs h → is_calm E calm h ≡ true
       → (all_play_zeros (replies E cs h) ≡ true) × (is_calm E calm (after E cs h) ≡ true)
+  -- The lamp's rule, of every run: where the question is answered "silent", every sample that such calls are answered is a zero, and one more question is answered
+  -- "silent" just where the state is quiet then.
+  pub on_runs : (x : Run E) → reply E ask (final E x) ≡ silent true → (cs : List (CallOf E)) → EachTick E (ZeroAudio E) cs (final E x)
+      → (all_play_zeros (replies E cs (final E x)) ≡ true)
+      × (reply E ask (after E cs (final E x)) ≡ silent (E.quiet (after E cs (final E x)).state))

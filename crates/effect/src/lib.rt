@@ -6,15 +6,14 @@ ghost use Rattle.std.specs.Prelude.{◌≡◌, cond, length, Ok};
 ghost use Rattle.std.specs.Result.{result_and};
 ghost use Rattle.port.specs.declared.Answer.TheVariants.{Refused};
 ghost use Rattle.port.specs.Answer.{number_of, answer_reply, reply_age};
-ghost use Rattle.common.specs.Line.{zeros, all_zero};
+ghost use Rattle.common.specs.Line.{zeros};
 ghost use Rattle.effect.specs.Run.{if_none, memory_number};
-ghost use Rattle.effect.specs.Parts.{first_places, held_in};
 ghost use Rattle.effect.specs.Needed.{rate_number};
 
 mod unit;
 
 use port::{Answer, Refusal};
-pub use unit::{InMemory, InOnePart, Unit, WithoutMemory};
+pub use unit::{InMemory, Unit, WithoutMemory};
 
 // What a start, a retune or a reset returns: the state beside its outcome. No `Result` of the state: a refused start leaves one too, which C writes.
 #[derive(Clone, Copy)]
@@ -90,13 +89,4 @@ pub fn clear<T: Copy>(tested: Result<T, Refusal>, mem: &mut [f64])
     if tested.is_ok() {
         common::clear(mem);
     }
-}
-
-// Whether the first `used` places are +0 or -0.
-#[tactic(auto, using(std::proofs::lemmas::List::take_min, crate::proofs::Parts::first_zeros))]
-pub fn first_places_zero(used: u64, mem: &[f64]) -> bool
-    ensures { result ≡ all_zero (held_in (first_places used) mem.now) }
-{
-    let end = (used as usize).min(mem.len());
-    common::all_zero(&mem[..end])
 }

@@ -1,13 +1,12 @@
 // The calls of an effect that are no tick: start, retune, reset and "silent?". They are alike but for the effect's own tests and states, which it gives.
-ghost use Rattle.std.specs.Prelude.{◌≡◌, [], true, IfOk};
+ghost use Rattle.std.specs.Prelude.{◌≡◌, List, [], true, Float, IfOk};
 ghost use Rattle.std.specs.Bool.{then_some};
 ghost use Rattle.port.specs.Answer.{number_of, outcome_reply, silence_reply};
-ghost use Rattle.effect.specs.Parts.{first_places};
 ghost use Rattle.effect.specs.Effect.{Page, effect_of};
 ghost use Rattle.effect.specs.Run.{retune, reset, ask, start_number, number_for, number_in};
 ghost use Rattle.effect.specs.Contract.{Does, Starts};
 
-use crate::{Cleared, check_memory, check_state, clear, first_places_zero};
+use crate::{Cleared, check_memory, check_state, clear};
 use port::Refusal;
 
 // What an effect gives: its page, the states that a start and a reset leave, and its own tests, a few lines each. A trait below, of the six effects that are handed a
@@ -43,7 +42,23 @@ pub trait Unit: Copy {
     fn fitting_places(self) -> Option<u64>
         ensures { result ≡ then_some (page.state_fits self) (page.places (page.settings self)) };
 
-    // The same, where the memory passes its test too: causes 4 and 3.
+    // Whether what the state keeps of the sound is +0 or -0.
+    fn quiet(self) -> bool
+        ensures { result ≡ page.quiet self };
+
+    // How many places in use are neither +0 nor -0, as the state counts them.
+    fn count(self) -> u32
+        ensures { result ≡ page.count self };
+
+    // Silent? Whether the state is quiet and counts none. It takes no memory: of a unit of a run the count is true, and a state that was handed in is not counted anew.
+    fn silent(self) -> Result<bool, Refusal>
+        ensures { (m : List Float) → Does (effect_of page) ask self m self m (silence_reply result) }
+    {
+        self.fitting_places().ok_or(Refusal::State)?;
+        Ok(self.quiet() && self.count() == 0)
+    }
+
+    // The places needed, where state and memory pass their tests: causes 4 and 3.
     fn checked(self, places: usize) -> Result<u64, Refusal>
         ensures number { number_of result ≡ number_in (effect_of page) reset places self }
         ensures needed { IfOk result (λ n. n ≡ page.places (page.settings self)) }
@@ -97,32 +112,8 @@ pub trait InMemory: Unit {
     }
 }
 
-// An effect whose places in use are the first of its memory, as many as it needs.
-pub trait InOnePart: Unit {
-    // Whether the state keeps nothing of the sound.
-    fn quiet(self) -> bool
-        ensures { result ≡ Self.page.quiet self };
-
-    // Silent? Whether that is so, and every place in use is +0 or -0.
-    fn silent(self, mem: &[f64]) -> Result<bool, Refusal>
-        ensures { Does (effect_of Self.page) ask self mem.now self mem.now (silence_reply result) }
-    {
-        let used = self.checked(mem.len())?;
-        if !self.quiet() {
-            return Ok(false);
-        }
-        Ok(first_places_zero(used, mem))
-    }
-
-    ghost one_part: { (s : Self) → Self.page.parts (Self.page.settings s) ≡ first_places (Self.page.places (Self.page.settings s)) };
-}
-
 // An effect that is lent no memory.
 pub trait WithoutMemory: Unit {
-    // Whether what the state keeps of the sound is +0 or -0.
-    fn quiet(self) -> bool
-        ensures { result ≡ Self.page.quiet self };
-
     // Start: a state with what it is handed.
     fn new(handed: Self::Start) -> Cleared<Self>
         ensures { Starts (effect_of Self.page) handed [] result.state [] (outcome_reply result.outcome) }
@@ -138,15 +129,4 @@ pub trait WithoutMemory: Unit {
         let tested = self.checked(0);
         Cleared::settled(tested, self.restarted(), self)
     }
-
-    // Silent? Whether the state is quiet.
-    #[tactic(auto, unfolding(common::specs::Line::all_zero, crate::specs::Parts::held_in))]
-    fn silent(self) -> Result<bool, Refusal>
-        ensures { Does (effect_of Self.page) ask self [] self [] (silence_reply result) }
-    {
-        self.checked(0)?;
-        Ok(self.quiet())
-    }
-
-    ghost no_part: { (s : Self) → Self.page.parts (Self.page.settings s) ≡ [] };
 }
