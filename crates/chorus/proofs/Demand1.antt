@@ -1,4 +1,5 @@
 -- Demand 1 (docs/DEMANDS.md) for the chorus, by the laws of its parts. Assumes nothing.
+use Prim.Native.Nat.{ℕ, ◌≤◌}
 use native.Mathlib.Omega.{arith}
 use mathlib.Core.Path.{◌≡◌, refl}
 use mathlib.Core.Bool.{true, false}
@@ -14,16 +15,12 @@ use Rattle.effect.proofs.Laws.{Laws, Below}
 use Rattle.effect.specs.Demand1.{Demand1}
 use Rattle.effect.proofs.Demand1.{demand-1}
 use Rattle.chorus.specs.declared.Chorus.{Chorus}
-use Rattle.chorus.specs.Chorus.{Tick, Phases, chorus, state_fits, line_length, phases_of, phase_at, start_phases, cleared, blank, tick_number, factor, next_phases, next, writes}
+use Rattle.chorus.specs.Chorus.{Tick, Phases, chorus, fits_with, state_fits, line_length, phases_of, phase_at, start_phases, cleared, fresh, retuned, blank, tick_number, factor, next_phases, next_counted, writes}
 use Rattle.chorus.proofs.Laws.{factor-0, factor-1, factor-2, fits-parts, fit, length-fits, tick-fits}
 
--- ---- the laws
+-- ---- phases
 
-blank-refused : state_fits blank ≡ false
-unfolding state_fits in_range le of_int Ieee.fits
-blank-refused = refl
-
--- three phases that pass the test, and the state that a clearing leaves with them
+-- three phases that pass the test
 record PhasesFit (p : Phases) : Type 0 where
   phase0 : phase_fits (phase_at 0 p) ≡ true
   phase1 : phase_fits (phase_at 1 p) ≡ true
@@ -32,10 +29,6 @@ record PhasesFit (p : Phases) : Type 0 where
 start-phases : PhasesFit start_phases
 unfolding in_unit le lt of_int round Ieee.fits
 start-phases = record { phase0 = refl; phase1 = refl; phase2 = refl }
-
-cleared-fits : (p : Phases) (rate : Float) → rate_fits rate ≡ true → PhasesFit p → state_fits (cleared p rate) ≡ true
-cleared-fits p rate h f =
-    fit (cleared p rate) (record { rate = h; inside = omega (arith, (length-fits rate h).0); phase0 = f.phase0; phase1 = f.phase1; phase2 = f.phase2 })
 
 -- the factors of the voices lie from 0 to 1.1
 low : In binary64 plus_zero (fraction 11 10) (factor 0)
@@ -50,38 +43,67 @@ high : In binary64 plus_zero (fraction 11 10) (factor 2)
 unfolding le round Ieee.fits
 high = rw factor-2 (widen plus_zero (fraction 11 10) tt (point (fraction 11 10) tt))
 
-next_fits : (t : Tick) (s : Chorus) → state_fits s ≡ true → tick_number t ≡ 0 → state_fits (next t s) ≡ true
-unfolding next next_phases
-next_fits t s e n =
-    let f = fits-parts s e in
-    let h = (tick-fits t n).frequency in
-    let rate = s.sample_rate in
-    fit (next t s)
-    (record {
-      rate = f.rate;
-      inside = next-lt (line_length rate) s.write_pos f.inside;
-      phase0 = detuned-stays (phase_at 0 (phases_of s)) t.frequency rate f.phase0 h f.rate low;
-      phase1 = detuned-stays (phase_at 1 (phases_of s)) t.frequency rate f.phase1 h f.rate middle;
-      phase2 = detuned-stays (phase_at 2 (phases_of s)) t.frequency rate f.phase2 h f.rate high;
-    })
+-- ---- states that pass the test and the one that does not, where so many places are in use at a rate
+
+module _ (used : Float → ℕ) where
+  abbrev Passes : Chorus → Type 0
+  Passes s = fits_with (used s.sample_rate) s ≡ true
+
+  pub blank-refused : fits_with (used plus_zero) blank ≡ false
+  unfolding fits_with in_range le of_int Ieee.fits
+  blank-refused = refl
+
+  -- a clearing leaves one that passes, with phases that do
+  cleared-fits : (p : Phases) (rate : Float) → rate_fits rate ≡ true → PhasesFit p → Passes (cleared p rate)
+  cleared-fits p rate h f =
+      fit (cleared p rate) (record { rate = h; inside = omega (arith, (length-fits rate h).0); most = omega arith; phase0 = f.phase0; phase1 = f.phase1; phase2 = f.phase2 })
+
+  pub start_fits : (rate : Float) → rate_fits rate ≡ true → Passes (fresh rate)
+  start_fits rate h = cleared-fits start_phases rate h start-phases
+
+  pub reset-fits : (s : Chorus) → Passes s → Passes (fresh s.sample_rate)
+  reset-fits s e = start_fits s.sample_rate (fits-parts s e).rate
+
+  pub retuned-fits : (rate : Float) (s : Chorus) → rate_fits rate ≡ true → Passes s → Passes (retuned rate s)
+  retuned-fits rate s h e =
+      let f = fits-parts s e in
+      cleared-fits (phases_of s) rate h (record { phase0 = f.phase0; phase1 = f.phase1; phase2 = f.phase2 })
+
+  -- and so does a tick, which leaves the count c
+  pub next_fits : {c : ℕ} (t : Tick) (s : Chorus) → c ≤ used s.sample_rate → Passes s → tick_number t ≡ 0 → Passes (next_counted c t s)
+  unfolding next_counted next_phases
+  next_fits {c} t s most e n =
+      let f = fits-parts s e in
+      let h = (tick-fits t n).frequency in
+      let rate = s.sample_rate in
+      fit (next_counted c t s)
+      (record {
+        rate = f.rate;
+        inside = next-lt (line_length rate) s.write_pos f.inside;
+        most = most;
+        phase0 = detuned-stays (phase_at 0 (phases_of s)) t.frequency rate f.phase0 h f.rate low;
+        phase1 = detuned-stays (phase_at 1 (phases_of s)) t.frequency rate f.phase1 h f.rate middle;
+        phase2 = detuned-stays (phase_at 2 (phases_of s)) t.frequency rate f.phase2 h f.rate high;
+      })
+
+-- ---- the laws
 
 inside : (t : Tick) (s : Chorus) → state_fits s ≡ true → Below (line_length s.sample_rate) (writes t s)
 unfolding writes
 inside t s e = let f = (fits-parts s e).inside in (omega arith, tt)
 
 pub laws : Laws chorus
-unfolding next
+unfolding next_counted
 laws =
     record {
-      blank-refused = blank-refused;
+      blank-refused = blank-refused line_length;
       fresh-settings = λ k. refl;
       retuned-settings = λ k s. refl;
       next-settings = λ t s m. refl;
-      start_fits = λ k e. cleared-fits start_phases k (none_1 (rate_fits k) e) start-phases;
-      reset-fits = λ s f. cleared-fits start_phases s.sample_rate (fits-parts s f).rate start-phases;
-      retuned-fits = λ k s e f. let g = fits-parts s f in
-          cleared-fits (phases_of s) k (none_1 (rate_fits k) e) (record { phase0 = g.phase0; phase1 = g.phase1; phase2 = g.phase2 });
-      next_fits = λ t s m e r n. next_fits t s e n;
+      start_fits = λ k e. start_fits line_length k (none_1 (rate_fits k) e);
+      reset-fits = reset-fits line_length;
+      retuned-fits = λ k s e f. retuned-fits line_length k s (none_1 (rate_fits k) e) f;
+      next_fits = λ t s m e r n. next_fits line_length t s (omega arith) e n;
       in_order = λ k. first_in_order (line_length k);
       inside = λ t s m e. within_first (line_length s.sample_rate) (writes t s) (inside t s e);
     }

@@ -7,7 +7,7 @@ use mathlib.Core.Bool.{true}
 use mathlib.Core.List.{List}
 use lib.Ieee.{Float, is_nan, round}
 use lib.Ieee as Ieee
-use Rattle.float64.specs.Number.{half, is_number, sine_fits}
+use Rattle.float64.specs.Number.{half, is_number, rate_fits, sine_fits}
 use Rattle.float64.proofs.Parts.{parts-of}
 use Rattle.common.specs.Line.{newest_first}
 use Rattle.common.proofs.Ring.{read_line, read-line}
@@ -18,7 +18,7 @@ use Rattle.effect.specs.Demand3.{Demand3}
 use Rattle.effect.proofs.LineLaws.{LineLaws}
 use Rattle.effect.proofs.Demand3.{demand-3}
 use Rattle.chorus.specs.declared.Chorus.{Chorus}
-use Rattle.chorus.specs.Chorus.{Tick, chorus, lines, state_fits, line_length, tick_number, depth, input, mix, distance, voice, mixed, samples_from, next_phases, next, writes}
+use Rattle.chorus.specs.Chorus.{Tick, chorus, lines, line_length, tick_number, depth, input, mix, distance, voice, mixed, samples_from, next_phases, writes, next_counted}
 use Rattle.chorus.proofs.Laws.{fits-parts, length-fits, tick-fits, distance-in, voices_age, voices-age}
 use Rattle.chorus.proofs.Demand1.{laws}
 
@@ -29,14 +29,13 @@ abbrev pub heard : Tick → Float → Float → List Float → Float
 heard t rate sine l = read_line l (distance rate (depth t) sine)
 
 -- its line begins at place o
-voice-heard : (t : Tick) (s : Chorus) (m l : List Float) → state_fits s ≡ true → tick_number t ≡ 0 → (o : ℕ) (sine : Float) → sine_fits sine ≡ true
+voice-heard : (t : Tick) (s : Chorus) (m l : List Float) → rate_fits s.sample_rate ≡ true → tick_number t ≡ 0 → (o : ℕ) (sine : Float) → sine_fits sine ≡ true
     → newest_first o (line_length s.sample_rate) s.write_pos m ≡ l
     → voice o sine t s m ≡ heard t s.sample_rate sine l
 unfolding voice is_number Ieee.fits is_nan round
-voice-heard t s m l e n o sine k g =
+voice-heard t s m l h n o sine k g =
     let rate = s.sample_rate in
     let L = line_length rate in
-    let h = (fits-parts s e).rate in
     let some = length-fits rate h in
     let d = parts-of (L - 1) (omega arith) (distance-in rate (depth t) sine h (control-in t.depth half (tick-fits t n).depth refl) k) in
     read-line o L s.write_pos m (distance rate (depth t) sine) d.at_least (omega (arith, d.at-most)) ∙ ap (λ (q : List Float). read_line q (distance rate (depth t) sine)) g
@@ -46,13 +45,13 @@ abbrev pub heard_all : Tick → Float → List Float → List Float
 heard_all t rate l = mixed (input t) (mix t) (heard t rate t.sine0 l) (heard t rate t.sine1 l) (heard t rate t.sine2 l)
 
 -- wherever the lines begin
-pub plays : (begin : ℕ → ℕ) (t : Tick) (s : Chorus) (m l : List Float) → state_fits s ≡ true → tick_number t ≡ 0
+pub plays : (begin : ℕ → ℕ) (t : Tick) (s : Chorus) (m l : List Float) → rate_fits s.sample_rate ≡ true → tick_number t ≡ 0
     → ((i : ℕ) → i < 3 → newest_first (begin i) (line_length s.sample_rate) s.write_pos m ≡ l)
     → samples_from begin t s m ≡ heard_all t s.sample_rate l
 unfolding samples_from
-plays begin t s m l e n g =
+plays begin t s m l h n g =
     let f = tick-fits t n in
-    let heard-from = voice-heard t s m l e n in
+    let heard-from = voice-heard t s m l h n in
     λ j. mixed
     (input t)
     (mix t)
@@ -65,7 +64,7 @@ pub from-0 : (s : Chorus) (m : List Float) → newest_first 0 (line_length s.sam
 from-0 s m = let L = line_length s.sample_rate in ap (λ (o : ℕ). newest_first o L s.write_pos m) (sym (zero-mul L))
 
 pub line-laws : LineLaws chorus lines
-unfolding next writes
+unfolding next_counted writes
 line-laws =
     record {
       in_turn = λ t s. refl;
@@ -77,7 +76,7 @@ line-laws =
       advanced = λ t rate p. next_phases t.frequency rate p;
       next-phase = λ t s m. refl;
       played = λ t rate p l. heard_all t rate l;
-      plays = λ t s m l e r n g. plays (λ i. 0) t s m l e n (λ i h. from-0 s m ∙ g 0 (omega arith));
+      plays = λ t s m l e r n g. plays (λ i. 0) t s m l (fits-parts s e).rate n (λ i h. from-0 s m ∙ g 0 (omega arith));
       age = voices_age;
       ages = voices-age (λ i. 0);
     }

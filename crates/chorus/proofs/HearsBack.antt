@@ -5,19 +5,22 @@ use lib.Ieee as Ieee
 use Rattle.float64.specs.Number.{half, is_number}
 use Rattle.common.proofs.Sweep.{control-in}
 use Rattle.effect.specs.HearsBack.{StoresWhereItReads, HearsTicks}
+use Rattle.effect.proofs.Counts.{recount-same}
 use Rattle.effect.proofs.HearsBack.{ReadLaws, hears-back}
-use Rattle.chorus.specs.Chorus.{chorus, line_length, input, depth, mix, voice, mixed, samples_from, reads_from, next, writes}
+use Rattle.chorus.specs.Chorus.{chorus, line_length, parts, input, depth, mix, voice, mixed, samples_from, reads_from, next_counted, writes}
 use Rattle.chorus.proofs.Laws.{fits-parts, length-fits, tick-fits, distance-in}
 
 read-laws : ReadLaws chorus (λ t. 3) line_length
-unfolding next writes samples_from reads_from voice is_number Ieee.fits is_nan round
+unfolding next_counted writes samples_from reads_from voice is_number Ieee.fits is_nan round
 read-laws =
     record {
       reads =
           record {
             many = λ t s. refl;
             lines = λ t s. (refl, (refl, (refl, tt)));
-            reads-all = λ t s m n e. (refl, (refl, λ i. mixed (input t) (mix t) (e.0 i) (e.1.0 i) (e.1.1.0 i)));
+            reads-all = λ t s m n e.
+                let c = s.nonzero_places in
+                (refl, ((λ i. mixed (input t) (mix t) (e.0 i) (e.1.0 i) (e.1.1.0 i)), λ l i. next_counted (recount-same (parts s.sample_rate) (writes t s) m n c l i) t s));
           };
       short = λ s e. omega (arith, length-fits s.sample_rate (fits-parts s e).rate);
       distances = λ t s e n.
@@ -28,7 +31,7 @@ read-laws =
 
 -- each of its reads is from the position at which the tick stores
 stored : StoresWhereItReads chorus
-unfolding next writes reads_from
+unfolding next_counted writes reads_from
 stored =
     record {
       stores = λ t s m. (inl (omega arith), (inl (omega arith), (inl (omega arith), tt)));

@@ -7,11 +7,11 @@ use Rattle.std.specs.Prelude.{max}
 use mathlib.Core.Bool.{true, false, ◌&&◌, ◌||◌}
 use mathlib.Core.List.{List, [], ◌∷◌, ◌++◌}
 use lib.IntN.{negsuc}
-use lib.Dec.{ltb}
-use lib.ListN.{length, take, drop, set}
-use lib.Ieee.{Float, fin, binary64, add, sub, mul, div, neg, is_nan, le, lt, of_int, round}
+use lib.Dec.{ltb, leb}
+use lib.ListN.{length, get_or, take, drop, set}
+use lib.Ieee.{Float, fin, nan, binary64, add, sub, mul, div, neg, is_nan, le, lt, of_int, round}
 use lib.Ieee as Ieee
-use borrow.Author.Tests.{ltb-true, lt-ltb}
+use borrow.Author.Tests.{ltb-true, lt-ltb, leb-true, le-leb}
 use Rattle.std.proofs.lemmas.List.{take-append-drop}
 use Rattle.float64.specs.Number.{plus_zero, float_of, fraction, half, is_number, in_range, rate_fits, phase_fits, frequency_fits, sine_fits, clamp_of}
 use Rattle.float64.proofs.Tests.{both}
@@ -24,13 +24,14 @@ use Rattle.port.specs.Port.{value_or, is_nan_set}
 use Rattle.port.specs.Answer.{Reply, played}
 use Rattle.port.proofs.Laws.{nan_is}
 use Rattle.common.specs.Signal.{sanitized, cause_number}
-use Rattle.common.specs.Line.{next_place, line_at, read_at}
+use Rattle.common.specs.Line.{next_place, line_at, read_at, nonzero, recounted}
 use Rattle.common.specs.Reads.{age_at, largest_age}
 use Rattle.common.proofs.Ages.{oldest-three}
 use Rattle.common.proofs.Slices.{front-set}
 use Rattle.common.proofs.Ring.{front-line}
 use Rattle.common.proofs.Sweep.{neither, no-cause, control-in}
 use Rattle.effect.specs.Effect.{laid}
+use Rattle.effect.proofs.Counts.{one-recount, recount-front}
 use Rattle.effect.specs.Lines.{in_each}
 use Rattle.effect.specs.Run.{tick, reset, number_in}
 use Rattle.effect.specs.Contract.{Does}
@@ -38,7 +39,7 @@ use Rattle.effect.proofs.Table.{accepted, tick-accepted}
 use Rattle.effect.proofs.Contract.{accepts}
 use Rattle.effect.proofs.Rows.{tick_row, unit, first-long, first-does}
 use Rattle.chorus.specs.declared.Chorus.{Chorus}
-use Rattle.chorus.specs.Chorus.{Tick, tick_of, chorus, line_length, Phases, phases_of, phase_at, factor, stepped, next_phases, phases_fit, state_fits, tick_number, input, depth, mix, distance_in, distance, voice_read, voice, mixed, next, writes}
+use Rattle.chorus.specs.Chorus.{Tick, tick_of, chorus, line_length, parts, Phases, phases_of, phase_at, factor, stepped, next_phases, state_of, phases_fit, fits_with, tick_number, input, depth, mix, distance_in, distance, voice_read, voice, mixed, writes, next_counted, next}
 use Rattle.chorus.specs.Chorus as page
 
 -- ---- the line's length
@@ -88,31 +89,42 @@ pub phases_by : (frequency rate : Float) (p : Phases)
 unfolding next_phases
 phases_by frequency rate p = rw (factor-0, factor-1, factor-2)
 
--- ---- the state test
+-- ---- the state test, where so many places are in use
 
-pub record Fits (s : Chorus) : Type 0 where
+pub record Fits (used : ℕ) (s : Chorus) : Type 0 where
   pub rate : rate_fits s.sample_rate ≡ true
   pub inside : s.write_pos < line_length s.sample_rate
+  pub most : s.nonzero_places ≤ used
   pub phase0 : phase_fits (phase_at 0 (phases_of s)) ≡ true
   pub phase1 : phase_fits (phase_at 1 (phases_of s)) ≡ true
   pub phase2 : phase_fits (phase_at 2 (phases_of s)) ≡ true
 
-module _ (s : Chorus) where
-  pub fits-parts : state_fits s ≡ true → Fits s
-  unfolding state_fits
+module _ {used : ℕ} (s : Chorus) where
+  pub fits-parts : fits_with used s ≡ true → Fits used s
+  unfolding fits_with
   fits-parts e =
-      let w = ltb s.write_pos (line_length s.sample_rate) in
+      let L = line_length s.sample_rate in
+      let w = ltb s.write_pos L in
+      let m = leb s.nonzero_places used in
       let p = phases_of s in
       let others = phase_fits (phase_at 1 p) && phase_fits (phase_at 2 p) in
-      let a = both (rate_fits s.sample_rate) (w && phases_fit p) e in
-      let b = both w (phases_fit p) a.1 in
-      let c = both (phase_fits (phase_at 0 p)) others b.1 in
-      let d = both (phase_fits (phase_at 1 p)) (phase_fits (phase_at 2 p)) c.1 in
-      record { rate = a.0; inside = ltb-true s.write_pos (line_length s.sample_rate) b.0; phase0 = c.0; phase1 = d.0; phase2 = d.1 }
+      let a = both (rate_fits s.sample_rate) (w && (m && phases_fit p)) e in
+      let b = both w (m && phases_fit p) a.1 in
+      let c = both m (phases_fit p) b.1 in
+      let d = both (phase_fits (phase_at 0 p)) others c.1 in
+      let f = both (phase_fits (phase_at 1 p)) (phase_fits (phase_at 2 p)) d.1 in
+      record {
+        rate = a.0;
+        inside = ltb-true s.write_pos L b.0;
+        most = leb-true s.nonzero_places used c.0;
+        phase0 = d.0;
+        phase1 = f.0;
+        phase2 = f.1;
+      }
 
-  pub fit : Fits s → state_fits s ≡ true
-  unfolding state_fits
-  fit f = rw (f.rate, lt-ltb s.write_pos (line_length s.sample_rate) f.inside, f.phase0, f.phase1, f.phase2)
+  pub fit : Fits used s → fits_with used s ≡ true
+  unfolding fits_with
+  fit f = rw (f.rate, lt-ltb s.write_pos (line_length s.sample_rate) f.inside, le-leb s.nonzero_places used f.most, f.phase0, f.phase1, f.phase2)
 
 -- ---- causes 5 and 6
 
@@ -189,6 +201,7 @@ pub record Ready (t : Tick) (s : Chorus) (m : List Float) : Type 0 where
   pub inside : s.write_pos < length m
   pub some : 2 ≤ length m
   pub short : length m ≤ 16777217
+  pub most : s.nonzero_places ≤ length m
   pub depth : in_range (depth t) plus_zero (float_of 1) ≡ true
 
 pub ready : {t : Tick} {s : Chorus} {m : List Float} → length m ≡ line_length s.sample_rate → number_in chorus (tick t) (length m) s ≡ 0 → Ready t s m
@@ -205,6 +218,7 @@ ready {t} {s} {m} e k =
       inside = omega (arith, e, f.inside);
       some = omega (arith, e, long.0);
       short = omega (arith, e, long.1);
+      most = omega (arith, e, f.most);
       depth = in-range (control-in t.depth half curves.depth refl);
     }
 
@@ -219,16 +233,19 @@ module _ (t : Tick) (s : Chorus) (m : List Float) (e : length m ≡ line_length 
   pub age-is : {d : Float} {a : ℕ} (sine : Float) → d ≡ depth t → a ≡ age_at (distance_in (length m) s.sample_rate d sine) → a ≡ age_at (distance s.sample_rate (depth t) sine)
   age-is sine g r = r ∙ (λ i. age_at (distance_in (e i) s.sample_rate (g i) sine))
 
-  pub next-is : {r : Chorus} → r.write_pos ≡ next_place (length m) s.write_pos → phases_of r ≡ next_phases t.frequency s.sample_rate (phases_of s)
-      → r.sample_rate ≡ s.sample_rate
-      → r ≡ next t s
-  unfolding next
-  next-is p q k = λ i.
-      record {
-        write_pos = (p ∙ ap (λ (z : ℕ). next_place z s.write_pos) e) i;
-        lfo_phases = q i;
-        sample_rate = k i;
-      }
+  pub next-is : {x : Float} {w c : ℕ} {p : Phases} → x ≡ input t → w ≡ next_place (length m) s.write_pos
+      → c ≡ recounted (length m) s.nonzero_places (nonzero x) (nonzero (get_or m s.write_pos nan))
+      → p ≡ next_phases t.frequency s.sample_rate (phases_of s)
+      → state_of w c p s.sample_rate ≡ next t s m
+  unfolding next_counted writes
+  next-is audio w c p =
+      let L = line_length s.sample_rate in
+      let first : s.write_pos ≡ 0 * L + s.write_pos = omega arith in
+      let count =
+      c
+      ∙ (λ i. recounted (e i) s.nonzero_places (nonzero (audio i)) (nonzero (get_or m (first i) nan)))
+      ∙ one-recount L (record { place = 0 * L + s.write_pos; value = input t }) m s.nonzero_places in
+      λ i. state_of ((w ∙ ap (λ (z : ℕ). next_place z s.write_pos) e) i) (count i) (p i) s.sample_rate
 
   pub stored_is : {x : Float} → x ≡ input t → set m s.write_pos x ≡ laid (writes t s) m
   unfolding writes
@@ -246,7 +263,7 @@ module _ (t : Tick) (s : Chorus) (m : List Float) (e : length m ≡ line_length 
 module _ (t : Tick) (s : Chorus) (m : List Float) {n : ℕ} (e : n ≡ line_length s.sample_rate) (passed : 0 ≡ number_in chorus reset (length m) s) where
   pub line-does : {s' : Chorus} {l : List Float} {a : Reply} → 0 ≡ tick_number t → Does chorus (tick t) s (take n m) s' l a
       → Does chorus (tick t) s m s' (l ++ drop n m) a
-  unfolding next writes page.samples_from voice
+  unfolding next_counted writes page.samples_from voice
   line-does g does =
       let rate = s.sample_rate in
       let L = line_length rate in
@@ -254,7 +271,9 @@ module _ (t : Tick) (s : Chorus) (m : List Float) {n : ℕ} (e : n ≡ line_leng
       let inside = (fits-parts s (unit chorus s m e passed).state_fits).inside in
       let heard = front-line 0 L w m n (omega (arith, e)) inside in
       let far = distance rate (depth t) in
-      first-does chorus s m e passed t g does refl
+      let counted = recount-front n (parts rate) (writes t s) m s.nonzero_places (omega (arith, e, inside), tt) in
+      first-does chorus s m e passed t g does
+      (λ i. next_counted (counted i) t s)
       (front-set (take n m) (drop n m) (0 * L + w) (input t) (omega (arith, e, inside, first-long chorus s m e passed)) (take-append-drop n m))
       (λ i. mixed (input t) (mix t) (read_at (heard i) (far t.sine0)) (read_at (heard i) (far t.sine1)) (read_at (heard i) (far t.sine2)))
 
@@ -273,14 +292,14 @@ module _ (t : Tick) {x d b : Float} (audio : x ≡ value_or t.audio plus_zero) (
   pub set_does : {s : Chorus} {m : List Float} {s' : Chorus} {m' : List Float} {a : Reply} → 0 ≡ number_in chorus reset (length m) s → 0 ≡ tick_number all_set
       → Does chorus (tick all_set) s m s' m' a
       → Does chorus (tick t) s m s' m' a
-  unfolding next writes page.samples_from page.reads_from voice
+  unfolding next_counted writes page.samples_from page.reads_from voice
   set_does {s} {m} passed none does =
       let k = sym (tick_row chorus all_set s m passed none) in
       let rate = s.sample_rate in
       let L = line_length rate in
       let w = s.write_pos in
       accepts chorus (tick t) s m (sym (tick_row chorus t s m passed (none ∙ set_number)))
-      (rw k at does.state)
+      ((rw k at does.state) ∙ (λ i. next (tick_of (Set (audio i)) t.depth t.mix t.frequency (t.sine0 ∷ t.sine1 ∷ t.sine2 ∷ [])) s m))
       ((rw k at does.memory) ∙ (λ i. laid (in_each 1 0 L w (sanitized (audio i))) m))
       ((rw k at does.answer)
       ∙ (λ i. played

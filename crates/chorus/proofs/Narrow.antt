@@ -12,9 +12,10 @@ own =
     record {
       fields =
           record {
-            whole = λ s t e i. state_of (same-entry 0 e.positions 0 0 i) (same-array e.floats 0 i) (same-entry nan e.floats 1 0 i);
+            whole = λ s t e i. state_of (same-entry 0 e.positions 0 0 i) (e.count i) (same-array e.floats 0 i) (same-entry nan e.floats 1 0 i);
             counted = λ s f. refl;
             mapped = λ f s. refl;
+            count_stays = λ f s. refl;
             floats_stay = λ f s. refl;
             flags_stay = λ f s. refl;
           };

@@ -17,6 +17,7 @@ use Rattle.chorus.specs.declared.Chorus.{Chorus}
 use Rattle.chorus.specs.Chorus.{Tick, chorus, line_length, input, depth, distance, voice, mixed, samples_from, samples, writes}
 use Rattle.chorus.proofs.Laws.{fits-parts, length-fits, tick-fits, distance-in}
 use Rattle.chorus.proofs.Demand1.{laws}
+use Rattle.chorus.proofs.Counts.{own}
 
 -- ---- voices that read zeros, mixed
 
@@ -61,4 +62,4 @@ module _ (t : Tick) (s : Chorus) (m : List Float) (u : SilentTick chorus chorus.
 
 pub shown : StaysSilent chorus
 unfolding writes
-shown = stays-silent chorus laws (keeps-nothing chorus (λ s. refl) answers (λ t s m u. (u.audio, tt)))
+shown = stays-silent chorus laws own (keeps-nothing chorus (λ s. refl) answers (λ t s m u. (u.audio, tt)))

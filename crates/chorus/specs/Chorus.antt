@@ -1,5 +1,5 @@
 -- The chorus: one line that stores the audio, read by three voices, each at its own swept distance. Definitions only. Assumes nothing.
-use Rattle.std.specs.Prelude.{ℕ, ◌-◌, Bool, true, ◌&&◌, ◌||◌, cond, List, [], ◌∷◌, get_or, ltb, Float}
+use Rattle.std.specs.Prelude.{ℕ, ◌-◌, Bool, true, ◌&&◌, ◌||◌, cond, List, [], ◌∷◌, get_or, ltb, leb, Float}
 use Rattle.std.specs.Float.{nan, binary64}
 use Rattle.std.specs.Float.Ieee.{add, sub, mul, div}
 use Rattle.float64.specs.Number.{plus_zero, float_of, fraction, half, rate_fits, phase_fits, frequency_fits, sine_fits, clamp_of}
@@ -8,8 +8,8 @@ use Rattle.port.specs.Port.{value_or, is_nan_set}
 use Rattle.common.specs.Signal.{sanitized, blended, advanced, cause_number}
 use Rattle.common.specs.Line.{swept_length, next_place}
 use Rattle.common.specs.Reads.{Read, heard}
-use Rattle.effect.specs.Parts.{first_places}
-use Rattle.effect.specs.Effect.{Effect, Page, effect_of, Write}
+use Rattle.effect.specs.Parts.{Part, first_places}
+use Rattle.effect.specs.Effect.{Effect, Page, effect_of, Write, recount}
 use Rattle.effect.specs.Narrow.{Fields}
 use Rattle.effect.specs.Lines.{Lines, in_each}
 use Rattle.chorus.specs.declared.Chorus.{Chorus}
@@ -40,6 +40,10 @@ tick_of audio depth mix frequency sines =
 -- L: the whole part of rate × 32 / 1000, plus 10; 32 is 25 (MAX_MOD_DELAY_MS) and 7 (BASE_DELAY_MS)
 unfoldable pub line_length : Float → ℕ
 line_length rate = swept_length (float_of 32) rate
+
+-- the whole line is in use
+abbrev pub parts : Float → List Part
+parts rate = first_places (line_length rate)
 
 -- ---- the phases of the three voices, in order, as the state's array has them
 
@@ -73,11 +77,11 @@ next_phases frequency rate p =
 
 -- ---- states
 
-abbrev pub state_of : ℕ → Phases → Float → Chorus
-state_of pos p rate = record { write_pos = pos; lfo_phases = p; sample_rate = rate }
+abbrev pub state_of : ℕ → ℕ → Phases → Float → Chorus
+state_of pos count p rate = record { write_pos = pos; nonzero_places = count; lfo_phases = p; sample_rate = rate }
 
 abbrev pub cleared : Phases → Float → Chorus
-cleared p rate = state_of 0 p rate
+cleared p rate = state_of 0 0 p rate
 
 -- after a start and a reset
 abbrev pub fresh : Float → Chorus
@@ -94,9 +98,14 @@ blank = cleared zero_phases plus_zero
 abbrev pub phases_fit : Phases → Bool
 phases_fit p = phase_fits (phase_at 0 p) && (phase_fits (phase_at 1 p) && phase_fits (phase_at 2 p))
 
--- the state test, cause 4
-unfoldable pub state_fits : Chorus → Bool
-state_fits s = rate_fits s.sample_rate && (ltb s.write_pos (line_length s.sample_rate) && phases_fit (phases_of s))
+-- the state test, cause 4, where so many places are in use
+unfoldable pub fits_with : ℕ → Chorus → Bool
+fits_with used s =
+    let rate = s.sample_rate in
+    rate_fits rate && (ltb s.write_pos (line_length rate) && (leb s.nonzero_places used && phases_fit (phases_of s)))
+
+abbrev pub state_fits : Chorus → Bool
+state_fits s = fits_with (line_length s.sample_rate) s
 
 -- causes 5 and 6
 unfoldable pub tick_number : Tick → ℕ
@@ -161,14 +170,19 @@ samples t s m = samples_from (λ i. 0) t s m
 abbrev pub reads : Tick → Chorus → List Read
 reads t s = reads_from (λ i. 0) t s
 
-unfoldable pub next : Tick → Chorus → Chorus
-next t s =
-    let rate = s.sample_rate in
-    state_of (next_place (line_length rate) s.write_pos) (next_phases t.frequency rate (phases_of s)) rate
-
 -- the audio goes into the line at the position
 unfoldable pub writes : Tick → Chorus → List Write
 writes t s = in_each 1 0 (line_length s.sample_rate) s.write_pos (input t)
+
+-- the position moves on by one place, each voice's phase by its factor of the frequency, and the count is c
+unfoldable pub next_counted : ℕ → Tick → Chorus → Chorus
+next_counted c t s =
+    let rate = s.sample_rate in
+    state_of (next_place (line_length rate) s.write_pos) c (next_phases t.frequency rate (phases_of s)) rate
+
+-- the count goes by what the store changes
+abbrev pub next : Tick → Chorus → List Float → Chorus
+next t s m = next_counted (recount (parts s.sample_rate) (writes t s) m s.nonzero_places) t s
 
 -- ---- the effect
 
@@ -181,18 +195,19 @@ page =
       retune_settings = λ rate old. rate;
       settings_number = λ rate. cond (rate_fits rate) 0 1;
       places = line_length;
-      parts = λ rate. first_places (line_length rate);
+      parts = parts;
       turn_number = λ t s. 0;
       tick_number = λ t rate. tick_number t;
       blank = blank;
       fresh = fresh;
       retuned = retuned;
-      next = λ t s m. next t s;
+      next = next;
       writes = λ t s m. writes t s;
       samples = samples;
       reads = reads;
       input = input;
       quiet = λ s. true;
+      count = λ s. s.nonzero_places;
     }
 
 abbrev pub chorus : Effect
@@ -206,7 +221,7 @@ fields =
       positions = λ s. (s.write_pos ∷ []) ∷ [];
       floats = λ s. s.lfo_phases ∷ (s.sample_rate ∷ []) ∷ [];
       flags = λ s. [];
-      map_positions = λ f s. state_of (f s.write_pos) s.lfo_phases s.sample_rate;
+      map_positions = λ f s. state_of (f s.write_pos) s.nonzero_places s.lfo_phases s.sample_rate;
     }
 
 -- ---- its line, for the recent pasts

@@ -1,7 +1,7 @@
 // The chorus: one line in lent memory, read by three voices. The state goes in and out by value.
 #![tactic(auto)]
 
-ghost use Rattle.std.specs.Prelude.{ℕ, ◌≡◌, true, length, Float, refl};
+ghost use Rattle.std.specs.Prelude.{ℕ, ◌≡◌, true, length, Float};
 ghost use Rattle.std.specs.Bool.{then_some};
 ghost use Rattle.float64.specs.Number.{float_of, in_range, rate_fits, sine_fits};
 ghost use Rattle.port.specs.declared.Port.TheVariants.{Set};
@@ -14,12 +14,14 @@ ghost use Rattle.effect.specs.Needed.{places_if_accepted};
 ghost use Rattle.chorus.specs.Chorus.{Tick, page, chorus, tick_of, line_length, phases_of, next_phases, cleared, fresh, distance_in, mixed};
 
 use common::{Heard, Line};
-use effect::{InMemory, InOnePart, Ticked, Unit};
+use effect::{InMemory, Ticked, Unit};
 use port::{Answer, Port, Refusal};
 
 #[derive(Clone, Copy)]
 pub struct Chorus {
     pub write_pos: u32,
+    // How many places of the line are neither +0 nor -0.
+    pub nonzero_places: u32,
     pub lfo_phases: [f64; 3],
     pub sample_rate: f64,
 }
@@ -51,13 +53,23 @@ impl Unit for Chorus {
         effect::check_rate(Chorus::line_length(rate), places)
     }
 
-    #[tactic(auto, unfolding(crate::specs::Chorus::state_fits))]
+    #[tactic(auto, unfolding(crate::specs::Chorus::fits_with))]
     fn fitting_places(self) -> Option<u64> {
         let n = Chorus::line_length(self.sample_rate)?;
         let phases = self.lfo_phases;
         let fits = u64::from(self.write_pos) < n
-            && phases.iter().all(|phase| float64::phase_fits(*phase));
+            && (u64::from(self.nonzero_places) <= n
+                && phases.iter().all(|phase| float64::phase_fits(*phase)));
         fits.then_some(n)
+    }
+
+    // Its state keeps nothing of the sound.
+    fn quiet(self) -> bool {
+        true
+    }
+
+    fn count(self) -> u32 {
+        self.nonzero_places
     }
 }
 
@@ -70,15 +82,6 @@ impl InMemory for Chorus {
     fn retune_refusal(self, rate: f64, places: usize) -> Result<(), Refusal> {
         Chorus::start_refusal(rate, places)
     }
-}
-
-impl InOnePart for Chorus {
-    // Its state keeps nothing of the sound.
-    fn quiet(self) -> bool {
-        true
-    }
-
-    ghost one_part = { λ s. refl };
 }
 
 impl Chorus {
@@ -106,12 +109,13 @@ impl Chorus {
         Chorus::line_length(rate)
     }
 
-    // Position 0, with the phases and the rate.
+    // Position 0, with the phases and the rate, in zeros.
     fn cleared(lfo_phases: [f64; 3], rate: f64) -> Chorus
         ensures { result ≡ cleared lfo_phases rate }
     {
         Chorus {
             write_pos: 0,
+            nonzero_places: 0,
             lfo_phases,
             sample_rate: rate,
         }
@@ -206,12 +210,14 @@ impl Chorus {
         let d0 = Chorus::voice(line, rate, depth, sines[0]);
         let d1 = Chorus::voice(line, rate, depth, sines[1]);
         let d2 = Chorus::voice(line, rate, depth, sines[2]);
+        let write_pos = line.next_place();
+        let nonzero_places = common::store(places, w, input, self.nonzero_places);
         let state = Chorus {
-            write_pos: line.next_place(),
+            write_pos,
+            nonzero_places,
             lfo_phases,
             sample_rate: rate,
         };
-        places[w] = input;
         Ticked {
             state,
             answer: Chorus::mixed(input, mix, d0.sample, d1.sample, d2.sample),

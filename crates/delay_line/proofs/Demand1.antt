@@ -15,7 +15,7 @@ use Rattle.effect.proofs.Demand1.{demand-1}
 use Rattle.delay_line.specs.declared.DelayLine.{DelayLine}
 use Rattle.delay_line.specs.declared.Settings.{Settings}
 use Rattle.delay_line.specs.Halves.{maximum_fits, glide_fits, reader_fits, size}
-use Rattle.delay_line.specs.DelayLine.{Tick, delay_line, state_fits, settings, reader, settings_number, cleared, blank, tick_number, delay_samples, next, writes, places}
+use Rattle.delay_line.specs.DelayLine.{Tick, delay_line, state_fits, settings, reader, settings_number, cleared, blank, tick_number, delay_samples, next_counted, next, writes, places}
 use Rattle.delay_line.proofs.ReaderLaws.{fits-parts, fit, length-low, glide-left}
 use Rattle.delay_line.proofs.Laws.{held_fits, tick-fits, delay-number}
 
@@ -29,7 +29,8 @@ blank-refused = refl
 cleared-fits : (k : Settings) → rate_fits k.rate ≡ true → coefficient_fits k.coefficient ≡ true → maximum_fits k.maximum ≡ true → state_fits (cleared k) ≡ true
 unfolding glide_fits is_plus_zero Ieee.fits to_bits
 cleared-fits k r c m =
-    fit (reader (cleared k)) (record { rate = r; maximum = m; inside = omega (arith, length-low k.rate k.maximum (rw (r, m))); coefficient = c; glide = refl })
+    fit (reader (cleared k))
+    (record { rate = r; maximum = m; inside = omega (arith, length-low k.rate k.maximum (rw (r, m))); most = omega arith; coefficient = c; glide = refl })
 
 -- the row of settings that are accepted
 row : (rate coefficient : Float) → settings_number rate coefficient ≡ 0 → (rate_fits rate ≡ true) × (coefficient_fits coefficient ≡ true)
@@ -37,7 +38,7 @@ unfolding settings_number
 row rate coefficient e = none-1-2 (rate_fits rate) (coefficient_fits coefficient) e
 
 next_fits : (t : Tick) (s : DelayLine) (m : List Float) → state_fits s ≡ true → tick_number t s.linear_time ≡ 0 → state_fits (next t s m) ≡ true
-unfolding next
+unfolding next_counted
 next_fits t s m e n =
     let f = fits-parts (reader s) e in
     fit (reader (next t s m))
@@ -45,6 +46,7 @@ next_fits t s m e n =
       rate = f.rate;
       maximum = f.maximum;
       inside = next-lt (size (reader s)) s.write_pos f.inside;
+      most = omega arith;
       coefficient = f.coefficient;
       glide = glide-left (reader s) (delay_samples t s) f (delay-number t s f (tick-fits t s.linear_time n));
     })
@@ -54,7 +56,7 @@ unfolding writes
 inside t s m e = ((fits-parts (reader s) e).inside, tt)
 
 pub laws : Laws delay_line
-unfolding next
+unfolding next_counted
 laws =
     record {
       blank-refused = blank-refused;

@@ -27,10 +27,10 @@ use Rattle.effect.proofs.Table.{accepted, tick-accepted}
 use Rattle.effect.proofs.Rows.{unit, first-long}
 use Rattle.delay_line.specs.declared.DelayLine.{DelayLine}
 use Rattle.delay_line.specs.declared.halves.HalfRead.{HalfRead}
-use Rattle.delay_line.specs.Halves.{maximum_fits, size, linear_ms, samples_of, reads_at, half_read, half_stored}
-use Rattle.delay_line.specs.DelayLine.{Tick, delay_line, ceiling, tick_of, settings, reader, held_maximum, settings_number, state_fits, tick_number, delay_ms, delay_samples, half_of, next_state, next, writes}
+use Rattle.delay_line.specs.Halves.{maximum_fits, size, linear_ms, samples_of, reads_at, half_read, count_after, heard_of, half_stored}
+use Rattle.delay_line.specs.DelayLine.{Tick, delay_line, ceiling, tick_of, settings, reader, held_maximum, settings_number, state_fits, tick_number, delay_ms, delay_samples, half_of, next_state, next_counted, next, writes}
 use Rattle.delay_line.specs.DelayLine as page
-use Rattle.delay_line.proofs.ReaderLaws.{Fits, fits-parts, linear-number, samples-number, reads_in, front-half, front-stored}
+use Rattle.delay_line.proofs.ReaderLaws.{Fits, fits-parts, linear-number, samples-number, reads_in, front-half, front-stored, front-count}
 
 -- ---- the maximum
 
@@ -149,18 +149,27 @@ module _ (t : Tick) (s : DelayLine) (m : List Float) {n : ℕ} (e : n ≡ size (
   whole : length (take n m) ≡ size (reader s)
   whole = first-long delay_line s m e passed ∙ e
 
-  pub next-is : {r : DelayLine} → r ≡ next_state here (half_stored (length (take n m)) s.write_pos here.kept) s → r ≡ next t s m
-  unfolding next
-  next-is g = g ∙ (λ i. next_state (half-is i) (half_stored (whole i) s.write_pos (half-is i).kept) s)
+  -- and the count after it
+  abbrev count : ℕ
+  count = count_after (length (take n m)) s.write_pos here.sum (take n m) s.nonzero_places
+
+  count-is : count ≡ count_after (size (reader s)) s.write_pos (half_of t s m).sum m s.nonzero_places
+  count-is =
+      front-count (reader s) n m e inside here.sum s.nonzero_places (first-long delay_line s m e passed)
+      ∙ (λ i. count_after (size (reader s)) s.write_pos (half-is i).sum m s.nonzero_places)
+
+  pub next-is : {r : DelayLine} → r ≡ next_state here (half_stored (length (take n m)) s.write_pos count here.kept) s → r ≡ next t s m
+  unfolding next_counted writes
+  next-is g = g ∙ (λ i. next_state (half-is i) (half_stored (whole i) s.write_pos (count-is i) (half-is i).kept) s)
 
   pub stored_is : {l : List Float} → l ≡ set (take n m) s.write_pos here.sum → l ++ drop n m ≡ laid (writes t s m) m
   unfolding writes
   stored_is g = front-stored (reader s) n m e inside _ (first-long delay_line s m e passed) g ∙ (λ i. set m s.write_pos (half-is i).sum)
 
-  pub played-is : {q : Reply} → q ≡ played ((half_stored (length (take n m)) s.write_pos here.kept).sample ∷ []) here.age
+  pub played-is : {q : Reply} → q ≡ played (heard_of here.kept ∷ []) here.age
       → q ≡ played (page.samples t s m) (largest_age (page.reads t s))
   unfolding page.samples
   played-is g =
       g
-      ∙ (λ i. played ((half_stored (whole i) s.write_pos (half-is i).kept).sample ∷ []) (half-is i).age)
+      ∙ (λ i. played (heard_of (half-is i).kept ∷ []) (half-is i).age)
       ∙ ap (played (page.samples t s m)) (sym (oldest-one (page.read t s)))

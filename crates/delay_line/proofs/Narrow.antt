@@ -13,10 +13,11 @@ own =
       fields =
           record {
             whole = λ s t e i.
-                state_of (same-entry 0 e.positions 0 0 i) (same-entry nan e.floats 0 0 i) (ap (λ l. get_or l 0 false) e.flags i)
+                state_of (same-entry 0 e.positions 0 0 i) (e.count i) (same-entry nan e.floats 0 0 i) (ap (λ l. get_or l 0 false) e.flags i)
                 (handing (same-entry nan e.floats 0 1 i) (same-entry nan e.floats 0 2 i) (same-entry nan e.floats 0 3 i) (ap (λ l. get_or l 1 false) e.flags i));
             counted = λ s f. refl;
             mapped = λ f s. refl;
+            count_stays = λ f s. refl;
             floats_stay = λ f s. refl;
             flags_stay = λ f s. refl;
           };

@@ -4,12 +4,12 @@ use native.Mathlib.Omega.{arith}
 use mathlib.Core.Path.{◌≡◌, refl, ap, ◌∙◌}
 use mathlib.Core.Bool.{true, ◌&&◌}
 use mathlib.Core.List.{List, ◌++◌}
-use lib.Dec.{T, ltb}
+use lib.Dec.{T, ltb, leb}
 use lib.ListN.{length, take, drop, set}
 use lib.Ieee.{Float, binary64, mul, le, lt, of_int, round, is_nan}
 use lib.Ieee as Ieee
 use lib.Ieee.Positive.{positive, between}
-use borrow.Author.Tests.{ltb-true, lt-ltb}
+use borrow.Author.Tests.{ltb-true, lt-ltb, leb-true, le-leb}
 use Rattle.float64.specs.Number.{plus_zero, float_of, fraction, is_number, in_range, rate_fits, coefficient_fits, clamp_of}
 use Rattle.std.proofs.lemmas.Bool.{cond_both, and_parts}
 use Rattle.std.proofs.lemmas.List.{take-append-drop}
@@ -27,8 +27,9 @@ use Rattle.common.proofs.Ring.{front-line}
 use Rattle.common.proofs.Slices.{front-set}
 use Rattle.effect.specs.Parts.{first_places, held_in}
 use Rattle.effect.proofs.Parts.{first-read}
+use Rattle.effect.proofs.Counts.{recount-front}
 use Rattle.delay_line.specs.declared.halves.Reader.{Reader}
-use Rattle.delay_line.specs.Halves.{maximum_fits, line_length, size, glide_fits, reader_fits, linear_ms, samples_of, glided, reads_at, delayed_by, kept_of, sum_of, half_read}
+use Rattle.delay_line.specs.Halves.{maximum_fits, line_length, size, glide_fits, reader_fits, linear_ms, samples_of, glided, reads_at, delayed_by, kept_of, sum_of, half_read, stores, count_after}
 
 -- ---- the length of the line
 
@@ -66,6 +67,7 @@ pub record Fits (r : Reader) : Type 0 where
   pub rate : rate_fits r.sample_rate ≡ true
   pub maximum : maximum_fits r.max_delay_secs ≡ true
   pub inside : r.write_pos < size r
+  pub most : r.nonzero_places ≤ size r
   pub coefficient : coefficient_fits r.delay_smooth_coef ≡ true
   pub glide : glide_fits r.delay_primed r.smoothed_delay (size r) ≡ true
 
@@ -73,18 +75,21 @@ module _ (r : Reader) where
   pub fits-parts : reader_fits r ≡ true → Fits r
   unfolding reader_fits
   fits-parts e =
-      let w = ltb r.write_pos (size r) in
+      let L = size r in
+      let w = ltb r.write_pos L in
+      let n = leb r.nonzero_places L in
       let c = coefficient_fits r.delay_smooth_coef in
-      let g = glide_fits r.delay_primed r.smoothed_delay (size r) in
-      let a = and_parts (rate_fits r.sample_rate && maximum_fits r.max_delay_secs) (w && (c && g)) e in
+      let g = glide_fits r.delay_primed r.smoothed_delay L in
+      let a = and_parts (rate_fits r.sample_rate && maximum_fits r.max_delay_secs) (w && (n && (c && g))) e in
       let k = and_parts (rate_fits r.sample_rate) (maximum_fits r.max_delay_secs) a.0 in
-      let b = and_parts w (c && g) a.1 in
-      let d = and_parts c g b.1 in
-      record { rate = k.0; maximum = k.1; inside = ltb-true r.write_pos (size r) b.0; coefficient = d.0; glide = d.1 }
+      let b = and_parts w (n && (c && g)) a.1 in
+      let d = and_parts n (c && g) b.1 in
+      let h = and_parts c g d.1 in
+      record { rate = k.0; maximum = k.1; inside = ltb-true r.write_pos L b.0; most = leb-true r.nonzero_places L d.0; coefficient = h.0; glide = h.1 }
 
   pub fit : Fits r → reader_fits r ≡ true
   unfolding reader_fits
-  fit f = rw (f.rate, f.maximum, lt-ltb r.write_pos (size r) f.inside, f.coefficient, f.glide)
+  fit f = let L = size r in rw (f.rate, f.maximum, lt-ltb r.write_pos L f.inside, le-leb r.nonzero_places L f.most, f.coefficient, f.glide)
 
   pub size-fits : Fits r → (9 ≤ size r) × (size r ≤ 11520001)
   size-fits f =
@@ -136,6 +141,7 @@ glide-left r x f k = in-range (reads_in r f x k)
 -- the state and the line are what a read and a store ask for
 pub record Ready (r : Reader) (m : List Float) : Type 0 where
   pub inside : r.write_pos < length m
+  pub most : r.nonzero_places ≤ length m
   pub some : 2 ≤ length m
   pub short : length m ≤ 16777217
 
@@ -143,7 +149,7 @@ pub ready : {r : Reader} {m : List Float} → length m ≡ size r → reader_fit
 ready {r} e k =
     let f = fits-parts r k in
     let l = size-fits r f in
-    record { inside = omega (arith, e, f.inside); some = omega (arith, e, l.0); short = omega (arith, e, l.1) }
+    record { inside = omega (arith, e, f.inside); most = omega (arith, e, f.most); some = omega (arith, e, l.0); short = omega (arith, e, l.1) }
 
 -- What the halves do in the line they do in a memory that begins with it.
 module _ (r : Reader) (n : ℕ) (m : List Float) (e : n ≡ size r) (inside : r.write_pos < size r) where
@@ -162,6 +168,12 @@ module _ (r : Reader) (n : ℕ) (m : List Float) (e : n ≡ size r) (inside : r.
   pub front-stored : (x : Float) {l : List Float} → length (take n m) ≡ n → l ≡ set (take n m) r.write_pos x → l ++ drop n m ≡ set m r.write_pos x
   front-stored x long g =
       ap (λ (q : List Float). q ++ drop n m) g ∙ front-set (take n m) (drop n m) r.write_pos x (omega (arith, e, inside, long)) (take-append-drop n m)
+
+  -- the count after a store as well
+  pub front-count : (x : Float) (c : ℕ) → length (take n m) ≡ n → count_after (length (take n m)) r.write_pos x (take n m) c ≡ count_after (size r) r.write_pos x m c
+  front-count x c long =
+      (λ i. count_after ((long ∙ e) i) r.write_pos x (take n m) c)
+      ∙ recount-front n (first_places (size r)) (stores r.write_pos x) m c (omega (arith, e, inside), tt)
 
 -- a line of zeros is heard as a zero
 pub heard-zero : (r : Reader) (m : List Float) → Fits r → (x : Float) → is_number x ≡ true → size r ≤ length m

@@ -18,6 +18,7 @@ use Rattle.delay_line.specs.DelayLine.{Tick, delay_line, reader, input, delay_sa
 use Rattle.delay_line.proofs.ReaderLaws.{fits-parts, heard-zero}
 use Rattle.delay_line.proofs.Laws.{tick-fits, delay-number}
 use Rattle.delay_line.proofs.Demand1.{laws}
+use Rattle.delay_line.proofs.Counts.{own}
 
 module _ (t : Tick) (s : DelayLine) (m : List Float) (u : SilentTick delay_line delay_line.quiet t s m) where
   heard : Zero (delayed_by (reader s) (delay_samples t s) m)
@@ -34,4 +35,4 @@ module _ (t : Tick) (s : DelayLine) (m : List Float) (u : SilentTick delay_line 
   written = (fed-zero (input t) _ t.feedback _ _ u.audio heard (tick-fits t s.linear_time u.number).feedback tt tt, tt)
 
 pub shown : StaysSilent delay_line
-shown = stays-silent delay_line laws (keeps-nothing delay_line (λ s. refl) answers written)
+shown = stays-silent delay_line laws own (keeps-nothing delay_line (λ s. refl) answers written)

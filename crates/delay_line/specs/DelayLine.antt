@@ -6,8 +6,8 @@ use Rattle.port.specs.Port.{value_or, is_nan_set}
 use Rattle.port.specs.Answer.{Reply, played}
 use Rattle.common.specs.Signal.{sanitized, cause_number}
 use Rattle.common.specs.Reads.{Read}
-use Rattle.effect.specs.Parts.{first_places}
-use Rattle.effect.specs.Effect.{Effect, Page, effect_of, Write}
+use Rattle.effect.specs.Parts.{Part, first_places}
+use Rattle.effect.specs.Effect.{Effect, Page, effect_of, Write, recount}
 use Rattle.effect.specs.Narrow.{Fields}
 use Rattle.delay_line.specs.declared.DelayLine.{DelayLine}
 use Rattle.delay_line.specs.declared.Settings.{Settings}
@@ -15,7 +15,7 @@ use Rattle.delay_line.specs.declared.Retune.{Retune}
 use Rattle.delay_line.specs.declared.halves.Reader.{Reader}
 use Rattle.delay_line.specs.declared.halves.HalfRead.{HalfRead}
 use Rattle.delay_line.specs.declared.halves.HalfStored.{HalfStored}
-use Rattle.delay_line.specs.Halves.{line_length, size, reader_fits, linear_ms, samples_of, read_by, half_read, stores, half_stored}
+use Rattle.delay_line.specs.Halves.{line_length, size, reader_fits, linear_ms, samples_of, read_by, half_read, stores, count_after, heard_of, half_stored}
 
 -- what a retune is handed, in one; it keeps the maximum and the mode
 abbrev pub retuning : Float → Float → Retune
@@ -52,16 +52,24 @@ retune_settings r old = handing r.rate r.coefficient old.maximum old.linear
 unfoldable pub settings_number : Float → Float → ℕ
 settings_number rate coefficient = cond (rate_fits rate) (cond (coefficient_fits coefficient) 0 2) 1
 
+-- the places of the line, all of them in use
+abbrev pub places : Settings → ℕ
+places k = line_length k.rate k.maximum
+
+abbrev pub parts : Settings → List Part
+parts k = first_places (places k)
+
 -- ---- states
 
 abbrev pub settings : DelayLine → Settings
 settings s = handing s.sample_rate s.delay_smooth_coef s.max_delay_secs s.linear_time
 
--- a position, the distance last read at and whether there is one yet, and the settings
-abbrev pub state_of : ℕ → Float → Bool → Settings → DelayLine
-state_of pos distance primed k =
+-- a position, the count of the places that are neither +0 nor −0, the distance last read at and whether there is one yet, and the settings
+abbrev pub state_of : ℕ → ℕ → Float → Bool → Settings → DelayLine
+state_of pos count distance primed k =
     record {
       write_pos = pos;
+      nonzero_places = count;
       smoothed_delay = distance;
       sample_rate = k.rate;
       delay_smooth_coef = k.coefficient;
@@ -70,9 +78,9 @@ state_of pos distance primed k =
       linear_time = k.linear;
     }
 
--- after every clearing: position 0, the glide unprimed with distance +0
+-- after every clearing: position 0 in zeros, the glide unprimed with distance +0
 abbrev pub cleared : Settings → DelayLine
-cleared k = state_of 0 plus_zero false k
+cleared k = state_of 0 0 plus_zero false k
 
 -- what a refused start gives
 abbrev pub blank : DelayLine
@@ -83,6 +91,7 @@ abbrev pub reader : DelayLine → Reader
 reader s =
     record {
       write_pos = s.write_pos;
+      nonzero_places = s.nonzero_places;
       smoothed_delay = s.smoothed_delay;
       sample_rate = s.sample_rate;
       delay_smooth_coef = s.delay_smooth_coef;
@@ -124,35 +133,37 @@ abbrev pub half_of : Tick → DelayLine → List Float → HalfRead
 half_of t s m =
     half_read ceiling (reader s) (delay_samples t s) (value_or t.audio plus_zero) (value_or t.feedback plus_zero) (value_or t.mix half) m
 
-abbrev pub stored_of : Tick → DelayLine → List Float → HalfStored
-stored_of t s m = half_stored (size (reader s)) s.write_pos (half_of t s m).kept
-
--- the state after a tick that came to these halves
-abbrev pub next_state : HalfRead → HalfStored → DelayLine → DelayLine
-next_state read stored s = state_of stored.write_pos read.smoothed_delay true (settings s)
-
-unfoldable pub next : Tick → DelayLine → List Float → DelayLine
-next t s m = next_state (half_of t s m) (stored_of t s m) s
-
--- a tick of the line by itself, m, whose read half came to this: it leaves the state s' and the line m', and answers a
-pub record Advances (s : DelayLine) (read : HalfRead) (m : List Float) (s' : DelayLine) (m' : List Float) (a : Reply) : Type 0 where
-  pub state : s' ≡ next_state read (half_stored (length m) s.write_pos read.kept) s
-  pub memory : m' ≡ set m s.write_pos read.sum
-  pub answer : a ≡ played ((half_stored (length m) s.write_pos read.kept).sample ∷ []) read.age
-
 unfoldable pub writes : Tick → DelayLine → List Float → List Write
 writes t s m = stores s.write_pos (half_of t s m).sum
 
+-- the state after a tick that came to these halves
+abbrev pub next_state : HalfRead → HalfStored → DelayLine → DelayLine
+next_state read stored s = state_of stored.write_pos stored.nonzero_places read.smoothed_delay true (settings s)
+
+-- that of a tick after which the count is c
+unfoldable pub next_counted : ℕ → Tick → DelayLine → List Float → DelayLine
+next_counted c t s m =
+    let read = half_of t s m in
+    next_state read (half_stored (size (reader s)) s.write_pos c read.kept) s
+
+-- the count goes by what the store changes
+abbrev pub next : Tick → DelayLine → List Float → DelayLine
+next t s m = next_counted (recount (parts (settings s)) (writes t s m) m s.nonzero_places) t s m
+
+-- a tick of the line by itself, m, whose read half came to this: it leaves the state s' and the line m', and answers a
+pub record Advances (s : DelayLine) (read : HalfRead) (m : List Float) (s' : DelayLine) (m' : List Float) (a : Reply) : Type 0 where
+  pub state : let count = count_after (length m) s.write_pos read.sum m s.nonzero_places in
+      s' ≡ next_state read (half_stored (length m) s.write_pos count read.kept) s
+  pub memory : m' ≡ set m s.write_pos read.sum
+  pub answer : a ≡ played (heard_of read.kept ∷ []) read.age
+
 unfoldable pub samples : Tick → DelayLine → List Float → List Float
-samples t s m = (stored_of t s m).sample ∷ []
+samples t s m = heard_of (half_of t s m).kept ∷ []
 
 abbrev pub reads : Tick → DelayLine → List Read
 reads t s = read t s ∷ []
 
 -- ---- the effect
-
-abbrev pub places : Settings → ℕ
-places k = line_length k.rate k.maximum
 
 abbrev pub page : Page DelayLine Settings Settings Retune Tick
 page =
@@ -163,7 +174,7 @@ page =
       retune_settings = retune_settings;
       settings_number = λ k. settings_number k.rate k.coefficient;
       places = places;
-      parts = λ k. first_places (places k);
+      parts = parts;
       turn_number = λ t s. 0;
       tick_number = λ t k. tick_number t k.linear;
       blank = blank;
@@ -175,6 +186,7 @@ page =
       reads = reads;
       input = input;
       quiet = λ s. true;
+      count = λ s. s.nonzero_places;
     }
 
 abbrev pub delay_line : Effect
@@ -188,5 +200,5 @@ fields =
       positions = λ s. (s.write_pos ∷ []) ∷ [];
       floats = λ s. (s.smoothed_delay ∷ s.sample_rate ∷ s.delay_smooth_coef ∷ s.max_delay_secs ∷ []) ∷ [];
       flags = λ s. s.delay_primed ∷ s.linear_time ∷ [];
-      map_positions = λ f s. state_of (f s.write_pos) s.smoothed_delay s.delay_primed (settings s);
+      map_positions = λ f s. state_of (f s.write_pos) s.nonzero_places s.smoothed_delay s.delay_primed (settings s);
     }

@@ -1,22 +1,23 @@
 -- The tick of a delay in two halves, said once for the ordinary delay line and for the tape delay. The read half reads the line and gives the sum of the audio and
 -- of what is fed back, and the store half stores what is made of that sum, moves on and gives what is heard. The two effects differ in the maximum, in the time
 -- (the ordinary delay has a mode that is handed milliseconds), in how far the feedback goes, and in what is made of the sum. Definitions only. Assumes nothing.
-use Rattle.std.specs.Prelude.{ℕ, ◌+◌, ◌-◌, Bool, ◌&&◌, cond, List, [], ◌∷◌, ltb, Float}
+use Rattle.std.specs.Prelude.{ℕ, ◌+◌, ◌-◌, Bool, ◌&&◌, cond, List, [], ◌∷◌, ltb, leb, Float}
 use Rattle.std.specs.Float.{binary64}
 use Rattle.std.specs.Float.Ieee.{add, sub, mul, div}
 use Rattle.float64.specs.Number.{plus_zero, float_of, fraction, in_range, is_plus_zero, rate_fits, coefficient_fits, clamp_of, whole_part}
 use Rattle.common.specs.Signal.{sanitized, blended}
 use Rattle.common.specs.Line.{next_place}
 use Rattle.common.specs.Reads.{Read, heard, age_at}
-use Rattle.effect.specs.Effect.{Write}
+use Rattle.effect.specs.Parts.{first_places}
+use Rattle.effect.specs.Effect.{Write, recount}
 use Rattle.effect.specs.Run.{memory_number}
 use Rattle.delay_line.specs.declared.halves.Reader.{Reader}
 use Rattle.delay_line.specs.declared.halves.Kept.{Kept}
 use Rattle.delay_line.specs.declared.halves.HalfRead.{HalfRead}
 use Rattle.delay_line.specs.declared.halves.HalfStored.{HalfStored}
 
--- ---- the line, and who reads it: `Reader` has the position, the rate, the maximum in seconds, and the glide, which is the distance last read at, its coefficient
--- and whether there is a distance yet
+-- ---- the line, and who reads it: `Reader` has the position, the count of the places that are neither +0 nor −0, the rate, the maximum in seconds, and the glide, which is
+-- the distance last read at, its coefficient and whether there is a distance yet
 
 abbrev pub maximum_fits : Float → Bool
 maximum_fits x = in_range x (fraction 1 1000) (float_of 60)
@@ -37,9 +38,10 @@ size r = line_length r.sample_rate r.max_delay_secs
 unfoldable pub glide_fits : Bool → Float → ℕ → Bool
 glide_fits primed distance L = cond primed (in_range distance (float_of 1) (float_of (L - 1))) (is_plus_zero distance)
 
--- position, coefficient and glide fit a line of L places
+-- position, count, coefficient and glide fit a line of L places
 abbrev pub fits_in_line : Reader → ℕ → Bool
-fits_in_line r L = ltb r.write_pos L && (coefficient_fits r.delay_smooth_coef && glide_fits r.delay_primed r.smoothed_delay L)
+fits_in_line r L =
+    ltb r.write_pos L && (leb r.nonzero_places L && (coefficient_fits r.delay_smooth_coef && glide_fits r.delay_primed r.smoothed_delay L))
 
 -- what the state test asks of either effect
 unfoldable pub reader_fits : Reader → Bool
@@ -80,7 +82,7 @@ kept_of audio read mix = record { audio = sanitized audio; read = read; mix = cl
 abbrev pub sum_of : Float → Float → Kept → Float
 sum_of ceiling feedback kept = add binary64 kept.audio (mul binary64 kept.read (clamp_of feedback plus_zero ceiling))
 
--- Of a delay of so many samples, handed audio, feedback and mix. It writes no place and leaves the position.
+-- Of a delay of so many samples, handed audio, feedback and mix. It writes no place and leaves position and count.
 abbrev pub half_read : Float → Reader → Float → Float → Float → Float → List Float → HalfRead
 half_read ceiling r samples audio feedback mix m =
     let kept = kept_of audio (delayed_by r samples m) mix in
@@ -92,6 +94,14 @@ half_read ceiling r samples audio feedback mix m =
 abbrev pub stores : ℕ → Float → List Write
 stores w x = record { place = w; value = x } ∷ []
 
--- what it comes to in a line of L places: the position after it, and what is heard, by what the read half kept
-abbrev pub half_stored : ℕ → ℕ → Kept → HalfStored
-half_stored L w kept = record { write_pos = next_place L w; sample = blended kept.audio kept.read kept.mix }
+-- the count after it, of c before it, where the whole line of L places is in use
+abbrev pub count_after : ℕ → ℕ → Float → List Float → ℕ → ℕ
+count_after L w x m c = recount (first_places L) (stores w x) m c
+
+-- what is heard, by what the read half kept
+abbrev pub heard_of : Kept → Float
+heard_of kept = blended kept.audio kept.read kept.mix
+
+-- what it comes to in a line of L places: the position after it, the count after it, which is c, and what is heard
+abbrev pub half_stored : ℕ → ℕ → ℕ → Kept → HalfStored
+half_stored L w c kept = record { write_pos = next_place L w; nonzero_places = c; sample = heard_of kept }

@@ -3,16 +3,17 @@ ghost use Rattle.std.specs.Prelude.{◌≡◌, ◌≤◌, ◌<◌, true, ◌&&�
 ghost use Rattle.std.specs.Bool.{then_some};
 ghost use Rattle.float64.specs.Number.{is_number, rate_fits};
 ghost use Rattle.port.specs.Answer.{number_of};
-ghost use Rattle.delay_line.specs.Halves.{maximum_fits, line_length, settings_row, size, glide_fits, reader_fits, fits_in_line, linear_ms, samples_of, glided, half_read, half_stored};
+ghost use Rattle.delay_line.specs.Halves.{maximum_fits, line_length, settings_row, size, glide_fits, reader_fits, fits_in_line, linear_ms, samples_of, glided, half_read, count_after, half_stored};
 
 use crate::DelayLine;
 use common::Line;
 use port::Refusal;
 
-// What reads a line: its write position, the rate and the maximum that give its length, and the glide.
+// What reads a line: its write position, the count of its places that are neither +0 nor -0, the rate and the maximum that give its length, and the glide.
 #[derive(Clone, Copy)]
 pub struct Reader {
     pub write_pos: u32,
+    pub nonzero_places: u32,
     pub smoothed_delay: f64,
     pub sample_rate: f64,
     pub delay_smooth_coef: f64,
@@ -37,10 +38,11 @@ pub struct HalfRead {
     pub age: u32,
 }
 
-// What a store half comes to: the position after it, and what is heard.
+// What a store half comes to: the position and the count after it, and what is heard.
 #[derive(Clone, Copy)]
 pub struct HalfStored {
     pub write_pos: u32,
+    pub nonzero_places: u32,
     pub sample: f64,
 }
 
@@ -129,15 +131,15 @@ impl Reader {
         self.fits_in_line(n).then_some(n)
     }
 
-    // Whether position, coefficient and glide fit a line of n places.
+    // Whether position, count, coefficient and glide fit a line of n places.
     pub fn fits_in_line(self, n: u64) -> bool
         requires n_at_least { 1 ≤ n }
         requires n_bound { n ≤ 11520001 }
         ensures { result ≡ fits_in_line self n }
     {
         u64::from(self.write_pos) < n
-            && float64::coefficient_fits(self.delay_smooth_coef)
-            && self.glide_fits(n)
+            && (u64::from(self.nonzero_places) <= n
+                && (float64::coefficient_fits(self.delay_smooth_coef) && self.glide_fits(n)))
     }
 
     // The glide distance in a line of n places: +0 while unprimed, else 1 to n - 1.
@@ -204,18 +206,26 @@ impl Reader {
 }
 
 impl Kept {
-    // The store half: `value` at the position, which moves on.
-    pub fn store_half(self, places: &mut [f64], write_pos: u32, value: f64) -> HalfStored
+    // The store half: `value` at the position, which moves on, and the count, handed as it was before.
+    pub fn store_half(
+        self,
+        places: &mut [f64],
+        write_pos: u32,
+        value: f64,
+        count: u32,
+    ) -> HalfStored
         requires inside { write_pos < length places.old }
-        requires short { length places.old ≤ 4294967296 }
-        ensures result { result ≡ half_stored (length places.old) write_pos self }
+        requires most { count ≤ length places.old }
+        requires short { length places.old < u32.MAX }
+        ensures result { result ≡ half_stored (length places.old) write_pos (count_after (length places.old) write_pos value places.old count) self }
         ensures stored { places.new ≡ set places.old write_pos value }
     {
         let w = write_pos as usize;
         let next = common::next_place(places.len(), w);
-        places[w] = value;
+        let nonzero_places = common::store(places, w, value, count);
         HalfStored {
             write_pos: next,
+            nonzero_places,
             sample: common::blend(self.audio, self.read, self.mix),
         }
     }

@@ -1,7 +1,7 @@
 // The delay line: one line in lent memory, fed back into itself, read at a distance that glides to the delay time. The state goes in and out by value.
 #![tactic(auto)]
 
-ghost use Rattle.std.specs.Prelude.{◌≡◌, true, false, cond, [], ◌∷◌, length, set, refl};
+ghost use Rattle.std.specs.Prelude.{◌≡◌, true, false, cond, [], ◌∷◌, length, set};
 ghost use Rattle.float64.specs.Number.{plus_zero, is_number};
 ghost use Rattle.port.specs.declared.Port.TheVariants.{Set, Unset};
 ghost use Rattle.port.specs.Answer.{played, number_of, outcome_reply, answer_reply};
@@ -13,7 +13,7 @@ ghost use Rattle.delay_line.specs.DelayLine.{Tick, page, delay_line, ceiling, ha
 
 mod halves;
 
-use effect::{Cleared, InMemory, InOnePart, Ticked, Unit};
+use effect::{Cleared, InMemory, Ticked, Unit};
 pub use halves::{
     HalfRead, HalfStored, Kept, Reader, line_length, line_length_held, linear_ms, samples_of,
     settings_refusal,
@@ -23,6 +23,8 @@ use port::{Answer, Port, Refusal};
 #[derive(Clone, Copy)]
 pub struct DelayLine {
     pub write_pos: u32,
+    // How many places of the line are neither +0 nor -0.
+    pub nonzero_places: u32,
     pub smoothed_delay: f64,
     pub sample_rate: f64,
     pub delay_smooth_coef: f64,
@@ -85,12 +87,13 @@ impl Settings {
         }
     }
 
-    // Position 0 and the glide unprimed, with these settings.
+    // Position 0 in zeros and the glide unprimed, with these settings.
     fn cleared(self) -> DelayLine
         ensures { result ≡ cleared self }
     {
         DelayLine {
             write_pos: 0,
+            nonzero_places: 0,
             smoothed_delay: 0.0,
             sample_rate: self.rate,
             delay_smooth_coef: self.coefficient,
@@ -134,6 +137,15 @@ impl Unit for DelayLine {
     fn fitting_places(self) -> Option<u64> {
         self.reader().fitting_places()
     }
+
+    // Its state keeps nothing of the sound.
+    fn quiet(self) -> bool {
+        true
+    }
+
+    fn count(self) -> u32 {
+        self.nonzero_places
+    }
 }
 
 impl InMemory for DelayLine {
@@ -145,15 +157,6 @@ impl InMemory for DelayLine {
     fn retune_refusal(self, handed: Retune, places: usize) -> Result<(), Refusal> {
         self.settings().retuned(handed).refusal(places)
     }
-}
-
-impl InOnePart for DelayLine {
-    // Its state keeps nothing of the sound.
-    fn quiet(self) -> bool {
-        true
-    }
-
-    ghost one_part = { λ s. refl };
 }
 
 impl DelayLine {
@@ -222,6 +225,7 @@ impl DelayLine {
     {
         Reader {
             write_pos: self.write_pos,
+            nonzero_places: self.nonzero_places,
             smoothed_delay: self.smoothed_delay,
             sample_rate: self.sample_rate,
             delay_smooth_coef: self.delay_smooth_coef,
@@ -264,12 +268,13 @@ impl DelayLine {
         )
     }
 
-    // The state after a tick that moved to the position and read at the distance: no other effect keeps one.
-    fn next(self, write_pos: u32, distance: f64) -> DelayLine
-        ensures { result ≡ state_of write_pos distance true (settings self) }
+    // The state after a tick that stored and read at the distance: no other effect keeps one.
+    fn next(self, stored: HalfStored, distance: f64) -> DelayLine
+        ensures { result ≡ state_of stored.write_pos stored.nonzero_places distance true (settings self) }
     {
         DelayLine {
-            write_pos,
+            write_pos: stored.write_pos,
+            nonzero_places: stored.nonzero_places,
             smoothed_delay: distance,
             delay_primed: true,
             ..self
@@ -300,9 +305,11 @@ impl DelayLine {
             mix,
             DelayLine::MAX_FEEDBACK,
         );
-        let stored = half.kept.store_half(places, self.write_pos, half.sum);
+        let stored = half
+            .kept
+            .store_half(places, self.write_pos, half.sum, self.nonzero_places);
         Ticked {
-            state: self.next(stored.write_pos, half.smoothed_delay),
+            state: self.next(stored, half.smoothed_delay),
             answer: Answer::One(stored.sample),
             age: half.age,
         }

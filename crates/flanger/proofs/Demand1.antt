@@ -14,7 +14,7 @@ use Rattle.effect.proofs.Laws.{Laws, Below}
 use Rattle.effect.specs.Demand1.{Demand1}
 use Rattle.effect.proofs.Demand1.{demand-1}
 use Rattle.flanger.specs.declared.Flanger.{Flanger}
-use Rattle.flanger.specs.Flanger.{Tick, flanger, state_fits, line_length, places, cleared, blank, tick_number, next, writes}
+use Rattle.flanger.specs.Flanger.{Tick, flanger, state_fits, line_length, places, cleared, blank, tick_number, next_counted, next, writes}
 use Rattle.flanger.proofs.Laws.{fits-parts, fit, length_fits, tick-fits}
 
 -- ---- the laws
@@ -25,17 +25,18 @@ blank-refused = refl
 
 -- a clearing leaves a state that passes, with every phase that does
 cleared-fits : (phase rate : Float) → rate_fits rate ≡ true → phase_fits phase ≡ true → state_fits (cleared phase rate) ≡ true
-cleared-fits phase rate h p = fit (cleared phase rate) (record { rate = h; inside = omega (arith, (length_fits rate h).0); phase = p })
+cleared-fits phase rate h p = fit (cleared phase rate) (record { rate = h; inside = omega (arith, (length_fits rate h).0); most = omega arith; phase = p })
 
-next_fits : (t : Tick) (s : Flanger) → state_fits s ≡ true → tick_number t ≡ 0 → state_fits (next t s) ≡ true
-unfolding next
-next_fits t s e n =
+next_fits : (t : Tick) (s : Flanger) (m : List Float) → state_fits s ≡ true → tick_number t ≡ 0 → state_fits (next t s m) ≡ true
+unfolding next_counted
+next_fits t s m e n =
     let f = fits-parts s e in
     let rate = s.sample_rate in
-    fit (next t s)
+    fit (next t s m)
     (record {
       rate = f.rate;
       inside = next-lt (line_length rate) s.write_pos f.inside;
+      most = omega arith;
       phase = phase-stays s.lfo_phase t.frequency rate f.phase (tick-fits t n).frequency f.rate;
     })
 
@@ -44,7 +45,7 @@ unfolding writes
 inside t s m e = let f = (fits-parts s e).inside in (omega arith, (omega arith, tt))
 
 pub laws : Laws flanger
-unfolding next
+unfolding next_counted
 laws =
     record {
       blank-refused = blank-refused;
@@ -54,7 +55,7 @@ laws =
       start_fits = λ k e. cleared-fits plus_zero k (none_1 (rate_fits k) e) zero-phase;
       reset-fits = λ s f. cleared-fits plus_zero s.sample_rate (fits-parts s f).rate zero-phase;
       retuned-fits = λ k s e f. cleared-fits s.lfo_phase k (none_1 (rate_fits k) e) (fits-parts s f).phase;
-      next_fits = λ t s m e r n. next_fits t s e n;
+      next_fits = λ t s m e r n. next_fits t s m e n;
       in_order = λ k. first_in_order (places k);
       inside = λ t s m e. within_first (places s.sample_rate) (writes t s m) (inside t s m e);
     }

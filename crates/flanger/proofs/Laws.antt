@@ -5,8 +5,8 @@ use native.Mathlib.Omega.{arith}
 use mathlib.Core.Path.{◌≡◌, refl, sym, ap, ◌∙◌}
 use mathlib.Core.Bool.{true, false, ◌&&◌, ◌||◌}
 use mathlib.Core.List.{List, [], ◌∷◌, ◌++◌}
-use lib.ListN.{length, take, drop, set, length-set}
-use lib.Ieee.{Float, binary64, add, mul, div, neg, le, lt, of_int, is_nan, round}
+use lib.ListN.{length, get_or, take, drop, set, length-set}
+use lib.Ieee.{Float, nan, binary64, add, mul, div, neg, le, lt, of_int, is_nan, round}
 use lib.Ieee as Ieee
 use Rattle.std.proofs.lemmas.Bool.Decides.{nat_tests}
 use Rattle.std.proofs.lemmas.List.{take-append-drop}
@@ -20,20 +20,22 @@ use Rattle.port.specs.Port.{value_or, is_nan_set}
 use Rattle.port.proofs.Laws.{nan_is}
 use Rattle.port.specs.Answer.{Reply, played}
 use Rattle.common.specs.Signal.{blended, advanced, cause_number}
-use Rattle.common.specs.Line.{next_place, line_at, read_at}
+use Rattle.common.specs.Line.{next_place, line_at, read_at, nonzero, recounted}
 use Rattle.common.specs.Reads.{age_at, largest_age}
 use Rattle.common.proofs.Ages.{oldest-two}
 use Rattle.common.proofs.Slices.{part_length, front-set}
 use Rattle.common.proofs.Ring.{front-line}
 use Rattle.common.proofs.Sweep.{control-in, part-read}
-use Rattle.effect.specs.Effect.{laid}
+use Rattle.effect.specs.Effect.{Write, laid, recount}
+use Rattle.effect.proofs.Laws.{Below}
+use Rattle.effect.proofs.Counts.{two-recount, recount-front}
 use Rattle.effect.specs.Run.{tick, reset, number_in}
 use Rattle.effect.specs.Contract.{Does}
 use Rattle.effect.proofs.Table.{accepted, tick-accepted}
 use Rattle.effect.proofs.Contract.{accepts}
 use Rattle.effect.proofs.Rows.{tick_row, unit, first-long, first-does}
 use Rattle.flanger.specs.declared.Flanger.{Flanger}
-use Rattle.flanger.specs.Flanger.{Tick, tick_of, flanger, line_length, places, state_fits, tick_number, input, depth, feedback, mix, distance_in, distance, tap_read, tap, reads, fed, next, writes}
+use Rattle.flanger.specs.Flanger.{Tick, tick_of, flanger, line_length, places, parts, state_of, state_fits, tick_number, input, depth, feedback, mix, distance_in, distance, tap_read, tap, reads, fed, writes, next_counted, next}
 use Rattle.flanger.specs.Flanger as page
 
 -- ---- the length of a line
@@ -47,11 +49,12 @@ length_fits rate h = let l = length-10 rate h in (omega arith, omega arith)
 pub record Fits (s : Flanger) : Type 0 where
   pub rate : rate_fits s.sample_rate ≡ true
   pub inside : s.write_pos < line_length s.sample_rate
+  pub most : s.nonzero_places ≤ places s.sample_rate
   pub phase : phase_fits s.lfo_phase ≡ true
 
 pub fits-parts : (s : Flanger) → state_fits s ≡ true → Fits s
 unfolding state_fits
-fits-parts s e = record { rate = grind arith; inside = grind (arith, nat_tests); phase = grind arith }
+fits-parts s e = record { rate = grind arith; inside = grind (arith, nat_tests); most = grind (arith, nat_tests); phase = grind arith }
 
 pub fit : (s : Flanger) → Fits s → state_fits s ≡ true
 unfolding state_fits
@@ -107,6 +110,7 @@ held_to_line L rate depth sine h d k some short = in-range (distance-held rate d
 -- the left line is the first half, the right line the second; state and lines are what reads and stores ask for, and what the distances are
 -- worked out from is in range
 pub record Ready (t : Tick) (s : Flanger) (m : List Float) (n : ℕ) : Type 0 where
+  pub all : length m ≡ places s.sample_rate
   pub long : n ≡ line_length s.sample_rate
   pub room : n + n ≤ length m
   pub left : length (take n m) ≡ n
@@ -114,6 +118,7 @@ pub record Ready (t : Tick) (s : Flanger) (m : List Float) (n : ℕ) : Type 0 wh
   pub inside : s.write_pos < n
   pub some : 2 ≤ n
   pub short : n ≤ 16777217
+  pub most : s.nonzero_places ≤ length m
   pub rate : rate_fits s.sample_rate ≡ true
   pub depth : in_range (depth t) plus_zero (float_of 1) ≡ true
   pub sine0 : sine_fits t.sine0 ≡ true
@@ -131,6 +136,7 @@ ready {t} {s} {m} e k =
     let n = length m / 2 in
     let long : n ≡ line_length rate = omega (arith, e) in
     record {
+      all = e;
       long = long;
       room = omega (arith, e, long);
       left = part_length 0 n m n refl (omega arith);
@@ -138,6 +144,7 @@ ready {t} {s} {m} e k =
       inside = omega (arith, long, f.inside);
       some = omega (arith, long, places.0);
       short = omega (arith, long, places.1);
+      most = omega (arith, e, f.most);
       rate = f.rate;
       depth = in-range (control-in t.depth half curves.depth refl);
       sine0 = curves.sine0;
@@ -160,22 +167,36 @@ module _ (t : Tick) (s : Flanger) (m : List Float) {n : ℕ} (r : Ready t s m n)
         let start = b ∙ ap (λ (z : ℕ). i * z) r.long in
         y ∙ part-read k o n s.write_pos m x a h r.inside ∙ (λ j. read_at (line_at (start j) (r.long j) s.write_pos m) (f j))
 
-  pub next-is : {u : Flanger} → u.write_pos ≡ next_place (length (take n m)) s.write_pos
-      → u.lfo_phase ≡ advanced s.lfo_phase (div binary64 t.frequency s.sample_rate)
-      → u.sample_rate ≡ s.sample_rate
-      → u ≡ next t s
-  unfolding next
-  next-is w p k =
-      λ i. record { write_pos = (w ∙ ap (λ (z : ℕ). next_place z s.write_pos) (r.left ∙ r.long)) i; lfo_phase = p i; sample_rate = k i }
+  -- what a line is fed, from the audio, its read and the clamped feedback
+  pub fed-is : {x d f y : Float} → x ≡ input t → d ≡ y → f ≡ feedback t → add binary64 x (mul binary64 d f) ≡ fed t y
+  unfolding fed
+  fed-is audio read back = λ i. add binary64 (audio i) (mul binary64 (read i) (back i))
 
-  -- what is stored and played, from the audio, the two reads and the clamped controls
+  -- what is left, from what both lines are fed
+  module _ {x0 x1 : Float} (left : x0 ≡ fed t (tap 0 t.sine0 t s m)) (right : x1 ≡ fed t (tap 1 t.sine1 t s m)) where
+    pub stored_is : set (set m s.write_pos x0) (n + s.write_pos) x1 ≡ laid (writes t s m) m
+    unfolding writes
+    stored_is = λ i. set (set m s.write_pos (left i)) (r.long i + s.write_pos) (right i)
+
+    pub next-is : {v c : ℕ} {p : Float} → v ≡ next_place (length (take n m)) s.write_pos
+        → c
+        ≡ recounted (length m) s.nonzero_places (nonzero x0 + nonzero x1) (nonzero (get_or m s.write_pos nan) + nonzero (get_or m (n + s.write_pos) nan))
+        → p ≡ advanced s.lfo_phase (div binary64 t.frequency s.sample_rate)
+        → state_of v c p s.sample_rate ≡ next t s m
+    unfolding next_counted writes
+    next-is v c p =
+        let k = s.nonzero_places in
+        let w = s.write_pos in
+        let one : Write = record { place = w; value = fed t (tap 0 t.sine0 t s m) } in
+        let two : Write = record { place = line_length s.sample_rate + w; value = fed t (tap 1 t.sine1 t s m) } in
+        let count =
+        c
+        ∙ (λ i. recounted (r.all i) k (nonzero (left i) + nonzero (right i)) (nonzero (get_or m w nan) + nonzero (get_or m (r.long i + w) nan)))
+        ∙ two-recount (places s.sample_rate) one two m k in
+        λ i. state_of ((v ∙ ap (λ (z : ℕ). next_place z w) (r.left ∙ r.long)) i) (count i) (p i) s.sample_rate
+
+  -- what is played, from the audio, the two reads and the clamped mix
   module _ {x d0 d1 : Float} (audio : x ≡ input t) (left : d0 ≡ tap 0 t.sine0 t s m) (right : d1 ≡ tap 1 t.sine1 t s m) where
-    pub stored_is : {f : Float} → f ≡ feedback t
-        → set (set m s.write_pos (add binary64 x (mul binary64 d0 f))) (n + s.write_pos) (add binary64 x (mul binary64 d1 f)) ≡ laid (writes t s m) m
-    unfolding writes fed
-    stored_is f =
-        λ i. set (set m s.write_pos (add binary64 (audio i) (mul binary64 (left i) (f i)))) (r.long i + s.write_pos) (add binary64 (audio i) (mul binary64 (right i) (f i)))
-
     pub played-is : {b l r : Float} {a : ℕ} → b ≡ mix t → l ≡ blended x d0 b → r ≡ blended x d1 b → a ≡ largest_age (reads t s)
         → played (l ∷ l ∷ r ∷ []) a ≡ played (page.samples t s m) (largest_age (reads t s))
     unfolding page.samples
@@ -203,9 +224,19 @@ module _ (t : Tick) (s : Flanger) (m : List Float) {n : ℕ} (e : n ≡ places s
       let heard = front-line (i * L) L s.write_pos m n h inside in
       λ j. read_at (heard j) (distance s.sample_rate (depth t) sine)
 
+  -- so that both stores are alike
+  same-writes : writes t s (take n m) ≡ writes t s m
+  unfolding writes
+  same-writes =
+      let w = s.write_pos in
+      let L = line_length s.sample_rate in
+      let left = same-tap 0 t.sine0 (omega (arith, e)) in
+      let right = same-tap 1 t.sine1 (omega (arith, e)) in
+      λ i. record { place = w; value = fed t (left i) } ∷ record { place = L + w; value = fed t (right i) } ∷ []
+
   pub lines-do : {s' : Flanger} {l : List Float} {a : Reply} → 0 ≡ tick_number t → Does flanger (tick t) s (take n m) s' l a
       → Does flanger (tick t) s m s' (l ++ drop n m) a
-  unfolding next writes page.samples
+  unfolding next_counted writes page.samples
   lines-do g does =
       let L = line_length s.sample_rate in
       let w = s.write_pos in
@@ -217,8 +248,12 @@ module _ (t : Tick) (s : Flanger) (m : List Float) {n : ℕ} (e : n ≡ places s
       let x = fed t (tap 0 t.sine0 t s first) in
       let one = front-set first rest w x (omega (arith, e, inside, long)) (take-append-drop n m) in
       let two = front-set (set first w x) rest (L + w) (fed t (tap 1 t.sine1 t s first)) (omega (arith, e, inside, long, length-set first w x)) one in
-      first-does flanger s m e passed t g does refl
-      (two ∙ (λ i. set (set m w (fed t (left i))) (L + w) (fed t (right i))))
+      let below : Below n (writes t s first) = (omega (arith, e, inside), (omega (arith, e, inside), tt)) in
+      let qs = parts s.sample_rate in
+      let counted = recount-front n qs (writes t s first) m s.nonzero_places below ∙ (λ i. recount qs (same-writes i) m s.nonzero_places) in
+      first-does flanger s m e passed t g does
+      (λ i. next_counted (counted i) t s)
+      (two ∙ (λ i. laid (same-writes i) m))
       (λ i. blended (input t) (left i) (mix t) ∷ blended (input t) (left i) (mix t) ∷ blended (input t) (right i) (mix t) ∷ [])
 
 -- ---- ports: a tick is the one with all ports set to the values that it takes from them
@@ -241,7 +276,7 @@ module _ (t : Tick) where
       → 0 ≡ tick_number filled
       → Does flanger (tick filled) s m s' m' a
       → Does flanger (tick t) s m s' m' a
-  unfolding next writes fed page.samples tap
+  unfolding next_counted writes fed page.samples tap
   filled_does {s} {m} u e does =
       let k = sym (tick_row flanger filled s m u e) in
       accepts flanger (tick t) s m (sym (tick_row flanger t s m u (e ∙ filled_number))) (rw k at does.state) (rw k at does.memory) (rw k at does.answer)

@@ -19,6 +19,7 @@ use Rattle.flanger.specs.declared.Flanger.{Flanger}
 use Rattle.flanger.specs.Flanger.{Tick, flanger, line_length, places, input, depth, mix, distance, tap, fed, writes, samples}
 use Rattle.flanger.proofs.Laws.{fits-parts, length_fits, tick-fits, distance-in}
 use Rattle.flanger.proofs.Demand1.{laws}
+use Rattle.flanger.proofs.Counts.{own}
 
 module _ (t : Tick) (s : Flanger) (m : List Float) (u : SilentTick flanger flanger.quiet t s m) where
   -- line i is read
@@ -55,4 +56,4 @@ module _ (t : Tick) (s : Flanger) (m : List Float) (u : SilentTick flanger flang
   written = (stores _ left, (stores _ right, tt))
 
 pub shown : StaysSilent flanger
-shown = stays-silent flanger laws (keeps-nothing flanger (λ s. refl) answers written)
+shown = stays-silent flanger laws own (keeps-nothing flanger (λ s. refl) answers written)

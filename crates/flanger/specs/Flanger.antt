@@ -1,5 +1,5 @@
 -- The flanger: two lines, left and right, swept by one phase, each fed back into itself. Definitions only. Assumes nothing.
-use Rattle.std.specs.Prelude.{ℕ, ◌+◌, ◌-◌, ◌*◌, Bool, true, ◌&&◌, ◌||◌, cond, List, [], ◌∷◌, ltb, Float}
+use Rattle.std.specs.Prelude.{ℕ, ◌+◌, ◌-◌, ◌*◌, Bool, true, ◌&&◌, ◌||◌, cond, List, [], ◌∷◌, ltb, leb, Float}
 use Rattle.std.specs.Float.{binary64}
 use Rattle.std.specs.Float.Ieee.{add, mul, div, neg}
 use Rattle.float64.specs.Number.{plus_zero, float_of, fraction, half, rate_fits, phase_fits, frequency_fits, sine_fits, clamp_of}
@@ -8,8 +8,8 @@ use Rattle.port.specs.Port.{value_or, is_nan_set}
 use Rattle.common.specs.Signal.{sanitized, blended, advanced, cause_number}
 use Rattle.common.specs.Line.{swept_length, next_place}
 use Rattle.common.specs.Reads.{Read, heard}
-use Rattle.effect.specs.Parts.{first_places}
-use Rattle.effect.specs.Effect.{Effect, Page, effect_of, Write}
+use Rattle.effect.specs.Parts.{Part, first_places}
+use Rattle.effect.specs.Effect.{Effect, Page, effect_of, Write, recount}
 use Rattle.effect.specs.Narrow.{Fields}
 use Rattle.flanger.specs.declared.Flanger.{Flanger}
 
@@ -35,13 +35,17 @@ line_length rate = swept_length (float_of 10) rate
 abbrev pub places : Float → ℕ
 places rate = 2 * line_length rate
 
+-- both lines are in use
+abbrev pub parts : Float → List Part
+parts rate = first_places (places rate)
+
 -- ---- states
 
-abbrev pub state_of : ℕ → Float → Float → Flanger
-state_of pos phase rate = record { write_pos = pos; lfo_phase = phase; sample_rate = rate }
+abbrev pub state_of : ℕ → ℕ → Float → Float → Flanger
+state_of pos count phase rate = record { write_pos = pos; nonzero_places = count; lfo_phase = phase; sample_rate = rate }
 
 abbrev pub cleared : Float → Float → Flanger
-cleared phase rate = state_of 0 phase rate
+cleared phase rate = state_of 0 0 phase rate
 
 -- after a start and a reset
 abbrev pub fresh : Float → Flanger
@@ -57,7 +61,9 @@ blank = cleared plus_zero plus_zero
 
 -- the state test, cause 4
 unfoldable pub state_fits : Flanger → Bool
-state_fits s = rate_fits s.sample_rate && (ltb s.write_pos (line_length s.sample_rate) && phase_fits s.lfo_phase)
+state_fits s =
+    let rate = s.sample_rate in
+    rate_fits rate && (ltb s.write_pos (line_length rate) && (leb s.nonzero_places (places rate) && phase_fits s.lfo_phase))
 
 -- causes 5 and 6
 unfoldable pub tick_number : Tick → ℕ
@@ -107,16 +113,21 @@ tap i sine t s m = heard (tap_read i sine t s) m
 unfoldable pub fed : Tick → Float → Float
 fed t read = add binary64 (input t) (mul binary64 read (feedback t))
 
-unfoldable pub next : Tick → Flanger → Flanger
-next t s =
-    let rate = s.sample_rate in
-    state_of (next_place (line_length rate) s.write_pos) (advanced s.lfo_phase (div binary64 t.frequency rate)) rate
-
 unfoldable pub writes : Tick → Flanger → List Float → List Write
 writes t s m =
     record { place = s.write_pos; value = fed t (tap 0 t.sine0 t s m) }
     ∷ record { place = line_length s.sample_rate + s.write_pos; value = fed t (tap 1 t.sine1 t s m) }
     ∷ []
+
+-- the position moves on by one place, the phase by frequency / rate, and the count is c
+unfoldable pub next_counted : ℕ → Tick → Flanger → Flanger
+next_counted c t s =
+    let rate = s.sample_rate in
+    state_of (next_place (line_length rate) s.write_pos) c (advanced s.lfo_phase (div binary64 t.frequency rate)) rate
+
+-- the count goes by what both stores change together
+abbrev pub next : Tick → Flanger → List Float → Flanger
+next t s m = next_counted (recount (parts s.sample_rate) (writes t s m) m s.nonzero_places) t s
 
 -- mono, left, right; mono is left
 unfoldable pub samples : Tick → Flanger → List Float → List Float
@@ -139,18 +150,19 @@ page =
       retune_settings = λ rate old. rate;
       settings_number = λ rate. cond (rate_fits rate) 0 1;
       places = places;
-      parts = λ rate. first_places (places rate);
+      parts = parts;
       turn_number = λ t s. 0;
       tick_number = λ t rate. tick_number t;
       blank = blank;
       fresh = fresh;
       retuned = retuned;
-      next = λ t s m. next t s;
+      next = next;
       writes = writes;
       samples = samples;
       reads = reads;
       input = input;
       quiet = λ s. true;
+      count = λ s. s.nonzero_places;
     }
 
 abbrev pub flanger : Effect
@@ -164,5 +176,5 @@ fields =
       positions = λ s. (s.write_pos ∷ []) ∷ [];
       floats = λ s. (s.lfo_phase ∷ s.sample_rate ∷ []) ∷ [];
       flags = λ s. [];
-      map_positions = λ f s. state_of (f s.write_pos) s.lfo_phase s.sample_rate;
+      map_positions = λ f s. state_of (f s.write_pos) s.nonzero_places s.lfo_phase s.sample_rate;
     }

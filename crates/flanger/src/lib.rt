@@ -1,23 +1,27 @@
 // The flanger: two lines in lent memory, swept by one phase, each fed back into itself. The state goes in and out by value.
 #![tactic(auto)]
 
-ghost use Rattle.std.specs.Prelude.{◌≡◌, ◌*◌, length, Float, refl};
+ghost use Rattle.std.specs.Prelude.{◌+◌, ◌*◌, ◌/◌, ◌≤◌, ◌<◌, ◌≡◌, length, get_or, set, Float};
 ghost use Rattle.std.specs.Bool.{then_some};
+ghost use Rattle.std.specs.Float.{nan};
 ghost use Rattle.float64.specs.Number.{rate_fits};
 ghost use Rattle.port.specs.declared.Port.TheVariants.{Set};
 ghost use Rattle.port.specs.Answer.{answer_reply};
+ghost use Rattle.common.specs.Line.{nonzero, recounted};
 ghost use Rattle.effect.specs.Run.{tick, number_in};
 ghost use Rattle.effect.specs.Contract.{Does};
 ghost use Rattle.effect.specs.Needed.{places_if_accepted};
 ghost use Rattle.flanger.specs.Flanger.{Tick, page, flanger, tick_of, line_length, cleared, distance_in};
 
 use common::Line;
-use effect::{InMemory, InOnePart, Ticked, Unit};
+use effect::{InMemory, Ticked, Unit};
 use port::{Answer, Port, Refusal};
 
 #[derive(Clone, Copy)]
 pub struct Flanger {
     pub write_pos: u32,
+    // How many places of both lines are neither +0 nor -0.
+    pub nonzero_places: u32,
     pub lfo_phase: f64,
     pub sample_rate: f64,
 }
@@ -52,7 +56,18 @@ impl Unit for Flanger {
     #[tactic(auto, using(crate::proofs::Laws::length_fits), unfolding(crate::specs::Flanger::state_fits))]
     fn fitting_places(self) -> Option<u64> {
         let n = Flanger::line_length(self.sample_rate)?;
-        (u64::from(self.write_pos) < n && float64::phase_fits(self.lfo_phase)).then_some(2 * n)
+        let fits = u64::from(self.write_pos) < n
+            && (u64::from(self.nonzero_places) <= 2 * n && float64::phase_fits(self.lfo_phase));
+        fits.then_some(2 * n)
+    }
+
+    // Its state keeps nothing of the sound.
+    fn quiet(self) -> bool {
+        true
+    }
+
+    fn count(self) -> u32 {
+        self.nonzero_places
     }
 }
 
@@ -65,15 +80,6 @@ impl InMemory for Flanger {
     fn retune_refusal(self, rate: f64, places: usize) -> Result<(), Refusal> {
         Flanger::start_refusal(rate, places)
     }
-}
-
-impl InOnePart for Flanger {
-    // Its state keeps nothing of the sound.
-    fn quiet(self) -> bool {
-        true
-    }
-
-    ghost one_part = { λ s. refl };
 }
 
 impl Flanger {
@@ -98,12 +104,13 @@ impl Flanger {
         Flanger::line_length(rate).map(|n| 2 * n)
     }
 
-    // Position 0, with the phase and the rate.
+    // Position 0, with the phase and the rate, in zeros.
     fn cleared(phase: f64, rate: f64) -> Flanger
         ensures { result ≡ cleared phase rate }
     {
         Flanger {
             write_pos: 0,
+            nonzero_places: 0,
             lfo_phase: phase,
             sample_rate: rate,
         }
@@ -115,6 +122,23 @@ impl Flanger {
     {
         let swing = depth * (Flanger::MAX_DELAY_MS - 1.0);
         line.hold((1.0 + (sine + 1.0) * 0.5 * swing) * rate / 1000.0)
+    }
+
+    // A store in each line, at the same position, and the count after both, which goes by what they change together.
+    fn store(lines: &mut [f64], w: usize, left: f64, right: f64, count: u32) -> u32
+        requires inside { w < length lines.old / 2 }
+        requires most { count ≤ length lines.old }
+        requires short { length lines.old + 2 ≤ u32.MAX }
+        ensures count { result ≡ recounted (length lines.old) count (nonzero left + nonzero right)
+            (nonzero (get_or lines.old w nan) + nonzero (get_or lines.old (length lines.old / 2 + w) nan)) }
+        ensures stored { lines.new ≡ set (set lines.old w left) (length lines.old / 2 + w) right }
+    {
+        let second = lines.len() / 2;
+        let lost = common::nonzero(lines[w]) + common::nonzero(lines[second + w]);
+        lines[w] = left;
+        lines[second + w] = right;
+        let gained = common::nonzero(left) + common::nonzero(right);
+        common::recount(lines.len() as u32, count, gained, lost)
     }
 
     // An accepted tick with all its ports set, of the two lines by themselves, left and right. Each is read before its own store, which feeds it its own read.
@@ -155,13 +179,16 @@ impl Flanger {
         };
         let d0 = left_line.read(Flanger::distance(left_line, rate, amount, sine0));
         let d1 = right_line.read(Flanger::distance(right_line, rate, amount, sine1));
+        let write_pos = left_line.next_place();
+        let fed0 = input + d0.sample * back;
+        let fed1 = input + d1.sample * back;
+        let nonzero_places = Flanger::store(lines, w, fed0, fed1, self.nonzero_places);
         let state = Flanger {
-            write_pos: left_line.next_place(),
+            write_pos,
+            nonzero_places,
             lfo_phase: phase,
             sample_rate: rate,
         };
-        lines[w] = input + d0.sample * back;
-        lines[second + w] = input + d1.sample * back;
         let left = common::blend(input, d0.sample, wet);
         let right = common::blend(input, d1.sample, wet);
         Ticked {

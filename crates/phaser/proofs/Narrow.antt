@@ -16,6 +16,7 @@ own =
                 (same-entry nan e.floats 4 1 i);
             counted = λ s f. refl;
             mapped = λ f s. refl;
+            count_stays = λ f s. refl;
             floats_stay = λ f s. refl;
             flags_stay = λ f s. refl;
           };

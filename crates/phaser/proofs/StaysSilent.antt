@@ -20,6 +20,7 @@ use Rattle.phaser.specs.Allpass.{Chain, chain_of, allpassed, stage, passed}
 use Rattle.phaser.specs.Phaser.{Tick, phaser, max_stages, fresh, quiet, input, feedback, mix, stages, stages_at, fed, chain_after, left, right, next, samples}
 use Rattle.phaser.proofs.Laws.{TickFits, tick-fits}
 use Rattle.phaser.proofs.Demand1.{laws}
+use Rattle.phaser.proofs.Counts.{own}
 
 -- ---- a list of six zeros
 
@@ -123,4 +124,4 @@ silent-laws =
     }
 
 pub shown : StaysSilent phaser
-shown = stays-silent phaser laws silent-laws
+shown = stays-silent phaser laws own silent-laws

@@ -166,6 +166,7 @@ page =
       reads = λ t s. [];
       input = input;
       quiet = quiet;
+      count = λ s. 0;
     }
 
 abbrev pub phaser : Effect

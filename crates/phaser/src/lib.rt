@@ -101,9 +101,7 @@ impl Unit for Phaser {
     fn fitting_places(self) -> Option<u64> {
         Phaser::fits(self.sample_rate, self.lfo_phase).then_some(0)
     }
-}
 
-impl WithoutMemory for Phaser {
     // Whether all 24 numbers of the chains are +0 or -0, idle stages too.
     #[tactic(auto, unfolding(crate::specs::Phaser::quiet))]
     fn quiet(self) -> bool {
@@ -112,5 +110,10 @@ impl WithoutMemory for Phaser {
         inputs & outputs
     }
 
-    ghost no_part = { λ s. refl };
+    // It is lent no place.
+    fn count(self) -> u32 {
+        0
+    }
 }
+
+impl WithoutMemory for Phaser {}

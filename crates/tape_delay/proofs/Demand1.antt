@@ -39,7 +39,15 @@ cleared-fits : (k : Settings) → rate_fits k.rate ≡ true → coefficient_fits
 unfolding glide_fits is_plus_zero Ieee.fits to_bits
 cleared-fits k r c =
     both-true
-    (fit (reader (cleared k)) (record { rate = r; maximum = maximum_held; inside = omega (arith, length-low k.rate maximum (rw (r, maximum_held))); coefficient = c; glide = refl }))
+    (fit (reader (cleared k))
+    (record {
+      rate = r;
+      maximum = maximum_held;
+      inside = omega (arith, length-low k.rate maximum (rw (r, maximum_held)));
+      most = omega arith;
+      coefficient = c;
+      glide = refl;
+    }))
     none-fits
 
 -- the row of settings that are accepted
@@ -58,6 +66,7 @@ next_fits (read_half p) s m e n =
       rate = f.rate;
       maximum = f.maximum;
       inside = f.inside;
+      most = omega arith;
       coefficient = f.coefficient;
       glide = glide-left (reader s) (delay_samples p s) f (delay-number p s f k.time);
     }))
@@ -66,7 +75,14 @@ next_fits (store_half v) s m e n =
     let f = (state-parts s e).reads in
     both-true
     (fit (reader (next (store_half v) s m))
-    (record { rate = f.rate; maximum = f.maximum; inside = next-lt (size (reader s)) s.write_pos f.inside; coefficient = f.coefficient; glide = f.glide }))
+    (record {
+      rate = f.rate;
+      maximum = f.maximum;
+      inside = next-lt (size (reader s)) s.write_pos f.inside;
+      most = omega arith;
+      coefficient = f.coefficient;
+      glide = f.glide;
+    }))
     none-fits
 
 inside : (t : Tick) (s : TapeDelay) → state_fits s ≡ true → Below (places (settings s)) (writes t s)

@@ -18,14 +18,14 @@ use Rattle.common.specs.Signal.{cause_number}
 use Rattle.common.specs.Reads.{largest_age}
 use Rattle.common.proofs.Ages.{oldest-one}
 use Rattle.common.proofs.Sweep.{no-cause, value-number}
-use Rattle.effect.specs.Effect.{laid}
+use Rattle.effect.specs.Effect.{laid, recount}
 use Rattle.effect.specs.Run.{reset, first, memory_number, number_in}
 use Rattle.effect.proofs.Rows.{unit, first-long}
 use Rattle.delay_line.specs.declared.halves.HalfRead.{HalfRead}
-use Rattle.delay_line.specs.Halves.{maximum_fits, size, reader_fits, linear_ms, samples_of, reads_at, read_by, half_read}
-use Rattle.delay_line.proofs.ReaderLaws.{Fits, fits-parts, size-fits, linear-number, samples-number, reads_in, front-half, front-stored}
+use Rattle.delay_line.specs.Halves.{maximum_fits, size, reader_fits, linear_ms, samples_of, reads_at, read_by, half_read, count_after}
+use Rattle.delay_line.proofs.ReaderLaws.{Fits, fits-parts, size-fits, linear-number, samples-number, reads_in, front-half, front-stored, front-count}
 use Rattle.tape_delay.specs.declared.TapeDelay.{TapeDelay}
-use Rattle.tape_delay.specs.TapeDelay.{Ports, Tick, read_half, store_half, tape_delay, maximum, ceiling, settings, places, reader, kept_fits, state_fits, turn_number, tick_number, delay_samples, half_of, waiting_state, next, saturated, writes}
+use Rattle.tape_delay.specs.TapeDelay.{Ports, Tick, read_half, store_half, tape_delay, maximum, ceiling, settings, places, reader, kept_fits, state_fits, turn_number, tick_number, delay_samples, parts, half_of, waiting_state, next, saturated, writes}
 use Rattle.tape_delay.specs.TapeDelay as page
 
 -- ---- the maximum
@@ -122,7 +122,10 @@ module _ (s : TapeDelay) (m : List Float) {n : ℕ} (e : n ≡ size (reader s)) 
   pub store-inside : s.write_pos < length (take n m)
   store-inside = omega (arith, e, inside, first-long tape_delay s m e passed)
 
-  pub store-short : length (take n m) ≤ 4294967296
+  pub store-most : s.nonzero_places ≤ length (take n m)
+  store-most = omega (arith, e, reads.most, first-long tape_delay s m e passed)
+
+  pub store-short : length (take n m) < 4294967295
   store-short = omega (arith, e, first-long tape_delay s m e passed, (size-fits (reader s) reads).1)
 
   module _ (p : Ports) {a c f b : Float} (audio : a ≡ value_or p.audio plus_zero) (time : c ≡ value_or p.time half) (back : f ≡ value_or p.feedback plus_zero) (wet : b ≡ value_or p.mix half) where
@@ -133,13 +136,19 @@ module _ (s : TapeDelay) (m : List Float) {n : ℕ} (e : n ≡ size (reader s)) 
 
     pub read-is : {h : HalfRead} → h ≡ half_read ceiling (reader s) (samples_of s.sample_rate (linear_ms maximum c)) a f b (take n m)
         → (waiting_state h s ≡ next (read_half p) s m) × (played (h.sum ∷ []) h.age ≡ played (page.samples (read_half p) s m) (largest_age (page.reads (read_half p) s)))
-    unfolding next page.samples page.reads
+    unfolding next writes page.samples page.reads
     read-is g =
         let whole = g ∙ half-is in (
-          ap (λ (h : HalfRead). waiting_state h s) whole,
+          λ i. waiting_state (whole i) s,
           (λ i. played ((whole i).sum ∷ []) (whole i).age) ∙ ap (played ((half_of p s m).sum ∷ [])) (sym (oldest-one (read_by (reader s) (delay_samples p s)))),
         )
 
   pub stored-is : (v : Float) {l : List Float} → l ≡ set (take n m) s.write_pos (saturated v) → l ++ drop n m ≡ laid (writes (store_half v) s) m
   unfolding writes
   stored-is v g = front-stored (reader s) n m e inside _ (first-long tape_delay s m e passed) g
+
+  pub count-is : (v : Float)
+      → count_after (length (take n m)) s.write_pos (saturated v) (take n m) s.nonzero_places
+      ≡ recount (parts (settings s)) (writes (store_half v) s) m s.nonzero_places
+  unfolding writes
+  count-is v = front-count (reader s) n m e inside (saturated v) s.nonzero_places (first-long tape_delay s m e passed)

@@ -20,6 +20,7 @@ use Rattle.tape_delay.specs.declared.TapeDelay.{TapeDelay}
 use Rattle.tape_delay.specs.TapeDelay.{Ports, Tick, read_half, store_half, tape_delay, calm, reader, kept_fits, delay_samples, next, writes, samples}
 use Rattle.tape_delay.proofs.Laws.{state-parts, controls-fit, delay-number}
 use Rattle.tape_delay.proofs.Demand1.{laws}
+use Rattle.tape_delay.proofs.Counts.{own}
 
 abbrev CalmTick : Tick → TapeDelay → List Float → Type 0
 CalmTick t s m = SilentTick tape_delay calm t s m
@@ -76,4 +77,4 @@ pub silence : Silence tape_delay
 silence = machine.silence tape_delay laws (λ k. refl) (λ k s. refl)
 
 pub shown : StaysCalm tape_delay calm
-shown = machine.stays-calm tape_delay laws calm silent-laws quiet-calm
+shown = machine.stays-calm tape_delay laws own calm silent-laws quiet-calm

@@ -9,14 +9,14 @@ use Rattle.port.specs.declared.Port.{Port}
 use Rattle.port.specs.Port.{value_or, is_nan_set}
 use Rattle.common.specs.Signal.{sanitized, cause_number}
 use Rattle.common.specs.Reads.{Read}
-use Rattle.effect.specs.Parts.{first_places}
-use Rattle.effect.specs.Effect.{Effect, Page, effect_of, Write}
+use Rattle.effect.specs.Parts.{Part, first_places}
+use Rattle.effect.specs.Effect.{Effect, Page, effect_of, Write, recount}
 use Rattle.effect.specs.Narrow.{Fields}
 use Rattle.delay_line.specs.declared.halves.Reader.{Reader}
 use Rattle.delay_line.specs.declared.halves.Kept.{Kept}
 use Rattle.delay_line.specs.declared.halves.HalfRead.{HalfRead}
 use Rattle.delay_line.specs.declared.halves.HalfStored.{HalfStored}
-use Rattle.delay_line.specs.Halves.{line_length, size, reader_fits, linear_ms, samples_of, read_by, half_read, stores, half_stored}
+use Rattle.delay_line.specs.Halves.{line_length, size, reader_fits, linear_ms, samples_of, read_by, half_read, stores, heard_of, half_stored}
 use Rattle.delay_line.specs.DelayLine.{settings_number}
 use Rattle.tape_delay.specs.declared.TapeDelay.{TapeDelay}
 use Rattle.tape_delay.specs.declared.Settings.{Settings}
@@ -47,16 +47,25 @@ pub data Tick : Type 0 where
   read_half : Ports → Tick
   store_half : Float → Tick
 
+-- the places of the line, all of them in use
+abbrev pub places : Settings → ℕ
+places k = line_length k.rate maximum
+
+abbrev pub parts : Settings → List Part
+parts k = first_places (places k)
+
 -- ---- states
 
 abbrev pub settings : TapeDelay → Settings
 settings s = handing s.sample_rate s.delay_smooth_coef
 
--- a position, the distance last read at and whether there is one yet, whether a read waits for its store half and what it has kept, and the settings
-abbrev pub state_of : ℕ → Float → Bool → Bool → Kept → Settings → TapeDelay
-state_of pos distance primed waiting kept k =
+-- a position, the count of the places that are neither +0 nor −0, the distance last read at and whether there is one yet, whether a read waits for its store half and what it
+-- has kept, and the settings
+abbrev pub state_of : ℕ → ℕ → Float → Bool → Bool → Kept → Settings → TapeDelay
+state_of pos count distance primed waiting kept k =
     record {
       write_pos = pos;
+      nonzero_places = count;
       smoothed_delay = distance;
       kept = kept;
       sample_rate = k.rate;
@@ -69,9 +78,9 @@ state_of pos distance primed waiting kept k =
 abbrev pub none_kept : Kept
 none_kept = record { audio = plus_zero; read = plus_zero; mix = plus_zero }
 
--- after every clearing: position 0, the glide unprimed with distance +0, no read waits
+-- after every clearing: position 0 in zeros, the glide unprimed with distance +0, no read waits
 abbrev pub cleared : Settings → TapeDelay
-cleared k = state_of 0 plus_zero false false none_kept k
+cleared k = state_of 0 0 plus_zero false false none_kept k
 
 -- what a refused start gives
 abbrev pub blank : TapeDelay
@@ -82,6 +91,7 @@ abbrev pub reader : TapeDelay → Reader
 reader s =
     record {
       write_pos = s.write_pos;
+      nonzero_places = s.nonzero_places;
       sample_rate = s.sample_rate;
       max_delay_secs = maximum;
       smoothed_delay = s.smoothed_delay;
@@ -121,20 +131,17 @@ delay_samples p s = samples_of s.sample_rate (linear_ms maximum (value_or p.time
 abbrev pub half_of : Ports → TapeDelay → List Float → HalfRead
 half_of p s m = half_read ceiling (reader s) (delay_samples p s) (value_or p.audio plus_zero) (value_or p.feedback plus_zero) (value_or p.mix half) m
 
--- the state after a read half that came to h: its store half is waited for. The position stays
+-- the state after a read half that came to h: its store half is waited for. Position and count stay
 abbrev pub waiting_state : HalfRead → TapeDelay → TapeDelay
-waiting_state h s = state_of s.write_pos h.smoothed_delay true true h.kept (settings s)
+waiting_state h s = state_of s.write_pos s.nonzero_places h.smoothed_delay true true h.kept (settings s)
 
-abbrev pub stored_of : TapeDelay → HalfStored
-stored_of s = half_stored (size (reader s)) s.write_pos s.kept
+-- what a store half comes to, after which the count is c
+abbrev pub stored_of : ℕ → TapeDelay → HalfStored
+stored_of c s = half_stored (size (reader s)) s.write_pos c s.kept
 
 -- and after the store half, which came to that: the position has moved on, and nothing is kept
 abbrev pub stored_state : HalfStored → TapeDelay → TapeDelay
-stored_state h s = state_of h.write_pos s.smoothed_delay s.delay_primed false none_kept (settings s)
-
-unfoldable pub next : Tick → TapeDelay → List Float → TapeDelay
-next (read_half p) s m = waiting_state (half_of p s m) s
-next (store_half v) s m = stored_state (stored_of s) s
+stored_state h s = state_of h.write_pos h.nonzero_places s.smoothed_delay s.delay_primed false none_kept (settings s)
 
 -- five times the saturated value
 abbrev pub saturated : Float → Float
@@ -144,10 +151,15 @@ unfoldable pub writes : Tick → TapeDelay → List Write
 writes (read_half p) s = []
 writes (store_half v) s = stores s.write_pos (saturated v)
 
+-- a store half's count goes by what the store changes
+unfoldable pub next : Tick → TapeDelay → List Float → TapeDelay
+next (read_half p) s m = waiting_state (half_of p s m) s
+next (store_half v) s m = stored_state (stored_of (recount (parts (settings s)) (writes (store_half v) s) m s.nonzero_places) s) s
+
 -- the read half answers the sum, the store half what is heard
 unfoldable pub samples : Tick → TapeDelay → List Float → List Float
 samples (read_half p) s m = (half_of p s m).sum ∷ []
-samples (store_half v) s m = (stored_of s).sample ∷ []
+samples (store_half v) s m = heard_of s.kept ∷ []
 
 unfoldable pub reads : Tick → TapeDelay → List Read
 reads (read_half p) s = read_by (reader s) (delay_samples p s) ∷ []
@@ -160,9 +172,6 @@ reads_made (store_half v) = 0
 
 -- ---- the effect
 
-abbrev pub places : Settings → ℕ
-places k = line_length k.rate maximum
-
 abbrev pub page : Page TapeDelay Settings Settings Settings Tick
 page =
     record {
@@ -172,7 +181,7 @@ page =
       retune_settings = λ k old. k;
       settings_number = λ k. settings_number k.rate k.coefficient;
       places = places;
-      parts = λ k. first_places (places k);
+      parts = parts;
       turn_number = turn_number;
       tick_number = λ t k. tick_number t;
       blank = blank;
@@ -185,6 +194,7 @@ page =
       input = input;
       -- a read that waits keeps sound
       quiet = λ s. not s.waiting;
+      count = λ s. s.nonzero_places;
     }
 
 abbrev pub tape_delay : Effect
@@ -198,7 +208,7 @@ fields =
       positions = λ s. (s.write_pos ∷ []) ∷ [];
       floats = λ s. (s.smoothed_delay ∷ s.kept.audio ∷ s.kept.read ∷ s.kept.mix ∷ s.sample_rate ∷ s.delay_smooth_coef ∷ []) ∷ [];
       flags = λ s. s.delay_primed ∷ s.waiting ∷ [];
-      map_positions = λ f s. state_of (f s.write_pos) s.smoothed_delay s.delay_primed s.waiting s.kept (settings s);
+      map_positions = λ f s. state_of (f s.write_pos) s.nonzero_places s.smoothed_delay s.delay_primed s.waiting s.kept (settings s);
     }
 
 -- what of a unit that waits is a zero where it keeps nothing of the sound: the audio and what was read

@@ -2,7 +2,7 @@
 // middle of a tick: so a tick is two calls, the read half, which answers the sum, and the store half, which is handed the saturated fifth of it.
 #![tactic(auto)]
 
-ghost use Rattle.std.specs.Prelude.{◌≡◌, true, false, cond, length, IfOk, refl};
+ghost use Rattle.std.specs.Prelude.{◌≡◌, true, false, cond, length, IfOk};
 ghost use Rattle.port.specs.Answer.{number_of, answer_reply};
 ghost use Rattle.effect.specs.Run.{tick, first, memory_number};
 ghost use Rattle.effect.specs.Contract.{Does};
@@ -12,12 +12,14 @@ ghost use Rattle.delay_line.specs.Halves.{settings_row};
 ghost use Rattle.tape_delay.specs.TapeDelay.{Tick, read_half, store_half, ports_of, page, tape_delay, maximum, handing, settings, places, cleared, reader, kept_fits, state_fits, waiting_state, stored_state};
 
 use delay_line::{HalfRead, HalfStored, Kept, Reader};
-use effect::{InMemory, InOnePart, Ticked, Unit};
+use effect::{InMemory, Ticked, Unit};
 use port::{Answer, Port, Refusal};
 
 #[derive(Clone, Copy)]
 pub struct TapeDelay {
     pub write_pos: u32,
+    // How many places of the line are neither +0 nor -0.
+    pub nonzero_places: u32,
     pub smoothed_delay: f64,
     pub kept: Kept,
     pub sample_rate: f64,
@@ -49,12 +51,13 @@ impl Settings {
         )
     }
 
-    // Position 0, the glide unprimed, and no read that waits.
+    // Position 0 in zeros, the glide unprimed, and no read that waits.
     fn cleared(self) -> TapeDelay
         ensures { result ≡ cleared self }
     {
         TapeDelay {
             write_pos: 0,
+            nonzero_places: 0,
             smoothed_delay: 0.0,
             kept: TapeDelay::NONE_KEPT,
             sample_rate: self.rate,
@@ -104,6 +107,15 @@ impl Unit for TapeDelay {
         let n = delay_line::line_length_held(self.sample_rate, TapeDelay::TAPE_MAX_DELAY_SECS)?;
         (self.reader().fits_in_line(n) && self.kept_fits()).then_some(n)
     }
+
+    // A read that waits keeps sound.
+    fn quiet(self) -> bool {
+        !self.waiting
+    }
+
+    fn count(self) -> u32 {
+        self.nonzero_places
+    }
 }
 
 impl InMemory for TapeDelay {
@@ -115,15 +127,6 @@ impl InMemory for TapeDelay {
     fn retune_refusal(self, handed: Settings, places: usize) -> Result<(), Refusal> {
         handed.refusal(places)
     }
-}
-
-impl InOnePart for TapeDelay {
-    // A read that waits keeps sound.
-    fn quiet(self) -> bool {
-        !self.waiting
-    }
-
-    ghost one_part = { λ s. refl };
 }
 
 impl TapeDelay {
@@ -165,6 +168,7 @@ impl TapeDelay {
     {
         Reader {
             write_pos: self.write_pos,
+            nonzero_places: self.nonzero_places,
             smoothed_delay: self.smoothed_delay,
             sample_rate: self.sample_rate,
             delay_smooth_coef: self.delay_smooth_coef,
@@ -201,7 +205,7 @@ impl TapeDelay {
         Ok(n)
     }
 
-    // The state after a read half: its store half is waited for.
+    // The state after a read half: its store half is waited for. Position and count stay.
     fn waiting(self, half: HalfRead) -> TapeDelay
         ensures { result ≡ waiting_state half self }
     {
@@ -214,12 +218,13 @@ impl TapeDelay {
         }
     }
 
-    // The state after a store half: the position has moved on, and nothing is kept.
+    // The state after a store half: the position has moved on, the count is another, and nothing is kept.
     fn stored(self, half: HalfStored) -> TapeDelay
         ensures { result ≡ stored_state half self }
     {
         TapeDelay {
             write_pos: half.write_pos,
+            nonzero_places: half.nonzero_places,
             kept: TapeDelay::NONE_KEPT,
             waiting: false,
             ..self
@@ -282,6 +287,7 @@ impl TapeDelay {
             &mut mem[..n as usize],
             self.write_pos,
             saturated * TapeDelay::SATURATION_GAIN,
+            self.nonzero_places,
         );
         Ticked {
             state: self.stored(stored),

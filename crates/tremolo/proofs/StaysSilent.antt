@@ -18,6 +18,7 @@ use Rattle.tremolo.specs.declared.Tremolo.{Tremolo}
 use Rattle.tremolo.specs.Tremolo.{Tick, tremolo, state_fits, input, depth, shape, triangle, lfo, modulated, samples}
 use Rattle.tremolo.proofs.Laws.{TickFits, tick-fits}
 use Rattle.tremolo.proofs.Demand1.{laws}
+use Rattle.tremolo.proofs.Counts.{own}
 
 -- from −1 to 1
 abbrev Signed : Float → Type 0
@@ -68,4 +69,4 @@ module _ (t : Tick) (s : Tremolo) (m : List Float) (u : SilentTick tremolo tremo
       both-true (zero-times (input t) _ u.audio (in-finite factor)) refl
 
 pub shown : StaysSilent tremolo
-shown = stays-silent tremolo laws (keeps-nothing tremolo (λ s. refl) answers (λ t s m u. tt))
+shown = stays-silent tremolo laws own (keeps-nothing tremolo (λ s. refl) answers (λ t s m u. tt))

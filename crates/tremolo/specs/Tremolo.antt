@@ -95,6 +95,7 @@ page =
       reads = λ t s. [];
       input = input;
       quiet = λ s. true;
+      count = λ s. 0;
     }
 
 abbrev pub tremolo : Effect

@@ -1,7 +1,7 @@
 // The tremolo: the audio's amplitude swept by a sine or a triangle. The state goes in and out by value; no memory is lent.
 #![tactic(auto)]
 
-ghost use Rattle.std.specs.Prelude.{◌≡◌, [], Float, refl};
+ghost use Rattle.std.specs.Prelude.{◌≡◌, [], Float};
 ghost use Rattle.port.specs.Answer.{answer_reply};
 ghost use Rattle.effect.specs.Run.{tick};
 ghost use Rattle.effect.specs.Contract.{Does};
@@ -50,15 +50,19 @@ impl Unit for Tremolo {
     fn fitting_places(self) -> Option<u64> {
         (float64::rate_fits(self.sample_rate) && float64::phase_fits(self.lfo_phase)).then_some(0)
     }
-}
 
-impl WithoutMemory for Tremolo {
+    // Its state keeps nothing of the sound.
     fn quiet(self) -> bool {
         true
     }
 
-    ghost no_part = { λ s. refl };
+    // It is lent no place.
+    fn count(self) -> u32 {
+        0
+    }
 }
+
+impl WithoutMemory for Tremolo {}
 
 impl Tremolo {
     // The places that a start needs at the rate: 0; none for a rate that is refused.

@@ -21,7 +21,7 @@ use Rattle.effect.proofs.LineLaws.{LineLaws}
 use Rattle.effect.proofs.Lines.{read_of}
 use Rattle.effect.proofs.Demand3.{demand-3}
 use Rattle.vibrato.specs.declared.Vibrato.{Vibrato}
-use Rattle.vibrato.specs.Vibrato.{Tick, vibrato, lines, state_fits, line_length, tick_number, input, depth, mix, distance, read, delayed, next, writes, samples}
+use Rattle.vibrato.specs.Vibrato.{Tick, vibrato, lines, state_fits, line_length, tick_number, input, depth, mix, distance, read, delayed, next_counted, next, writes, samples}
 use Rattle.vibrato.proofs.Laws.{fits-parts, length-fits, tick-fits, distance-in}
 use Rattle.vibrato.proofs.Demand1.{laws}
 
@@ -43,7 +43,7 @@ plays t s m l f n e =
     (read_of 0 0 (line_length rate) s.write_pos m l (distance rate (depth t) t.sine) (zero-mul (line_length rate)) e d.at_least (omega (arith, d.at-most)))
 
 pub line-laws : LineLaws vibrato lines
-unfolding next writes
+unfolding next_counted writes
 line-laws =
     record {
       in_turn = λ t s. refl;

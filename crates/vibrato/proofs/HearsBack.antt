@@ -6,19 +6,22 @@ use Rattle.float64.specs.Number.{half, is_number}
 use Rattle.common.specs.Signal.{blended}
 use Rattle.common.proofs.Sweep.{control-in}
 use Rattle.effect.specs.HearsBack.{StoresWhereItReads, HearsTicks}
+use Rattle.effect.proofs.Counts.{recount-same}
 use Rattle.effect.proofs.HearsBack.{ReadLaws, hears-back}
-use Rattle.vibrato.specs.Vibrato.{vibrato, line_length, input, depth, mix, delayed, next, writes, samples}
+use Rattle.vibrato.specs.Vibrato.{vibrato, line_length, parts, input, depth, mix, delayed, next_counted, writes, samples}
 use Rattle.vibrato.proofs.Laws.{fits-parts, length-fits, tick-fits, distance-in}
 
 read-laws : ReadLaws vibrato (λ t. 1) line_length
-unfolding next writes samples delayed is_number Ieee.fits is_nan round
+unfolding next_counted writes samples delayed is_number Ieee.fits is_nan round
 read-laws =
     record {
       reads =
           record {
             many = λ t s. refl;
             lines = λ t s. (refl, tt);
-            reads-all = λ t s m n e. (refl, (refl, λ i. blended (input t) (e.0 i) (mix t) ∷ []));
+            reads-all = λ t s m n e.
+                let c = s.nonzero_places in
+                (refl, ((λ i. blended (input t) (e.0 i) (mix t) ∷ []), λ l i. next_counted (recount-same (parts s.sample_rate) (writes t s) m n c l i) t s));
           };
       short = λ s e. omega (arith, length-fits s.sample_rate (fits-parts s e).rate);
       distances = λ t s e n.
@@ -28,7 +31,7 @@ read-laws =
 
 -- its read is from the position at which the tick stores
 stored : StoresWhereItReads vibrato
-unfolding next writes
+unfolding next_counted writes
 stored =
     record {
       stores = λ t s m. (inl (omega arith), tt);

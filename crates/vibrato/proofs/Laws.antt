@@ -5,11 +5,11 @@ use native.Mathlib.Omega.{arith}
 use mathlib.Core.Path.{◌≡◌, refl, sym, ap, ◌∙◌}
 use mathlib.Core.Bool.{true, false, ◌&&◌, ◌||◌}
 use mathlib.Core.List.{List, [], ◌∷◌, ◌++◌}
-use lib.Dec.{ltb}
-use lib.ListN.{length, take, drop, set}
-use lib.Ieee.{Float, binary64, is_nan, add, mul, div, neg, le, lt, of_int, round}
+use lib.Dec.{ltb, leb}
+use lib.ListN.{length, get_or, take, drop, set}
+use lib.Ieee.{Float, nan, binary64, is_nan, add, mul, div, neg, le, lt, of_int, round}
 use lib.Ieee as Ieee
-use borrow.Author.Tests.{ltb-true, lt-ltb}
+use borrow.Author.Tests.{ltb-true, lt-ltb, leb-true, le-leb}
 use Rattle.std.proofs.lemmas.List.{take-append-drop}
 use Rattle.float64.specs.Number.{plus_zero, float_of, fraction, half, is_number, in_range, rate_fits, phase_fits, frequency_fits, sine_fits, clamp_of}
 use Rattle.float64.proofs.Tests.{both}
@@ -22,13 +22,14 @@ use Rattle.port.specs.Port.{value_or, is_nan_set}
 use Rattle.port.specs.Answer.{Reply, played}
 use Rattle.port.proofs.Laws.{nan_is}
 use Rattle.common.specs.Signal.{blended, advanced, cause_number}
-use Rattle.common.specs.Line.{next_place, line_at, read_at}
+use Rattle.common.specs.Line.{next_place, line_at, read_at, nonzero, recounted}
 use Rattle.common.specs.Reads.{age_at, largest_age}
 use Rattle.common.proofs.Ages.{oldest-one}
 use Rattle.common.proofs.Slices.{front-set}
 use Rattle.common.proofs.Ring.{front-line}
 use Rattle.common.proofs.Sweep.{no-cause, neither, control-in}
 use Rattle.effect.specs.Effect.{laid}
+use Rattle.effect.proofs.Counts.{one-recount, recount-front}
 use Rattle.effect.specs.Lines.{in_each}
 use Rattle.effect.specs.Run.{tick, reset, number_in}
 use Rattle.effect.specs.Contract.{Does}
@@ -36,7 +37,7 @@ use Rattle.effect.proofs.Table.{accepted, tick-accepted}
 use Rattle.effect.proofs.Contract.{accepts}
 use Rattle.effect.proofs.Rows.{tick_row, unit, first-long, first-does}
 use Rattle.vibrato.specs.declared.Vibrato.{Vibrato}
-use Rattle.vibrato.specs.Vibrato.{Tick, tick_of, vibrato, line_length, state_fits, tick_number, input, depth, mix, distance_in, distance, read, reads, delayed, next, writes}
+use Rattle.vibrato.specs.Vibrato.{Tick, tick_of, vibrato, line_length, parts, state_of, state_fits, tick_number, input, depth, mix, distance_in, distance, read, reads, delayed, next_counted, next, writes}
 use Rattle.vibrato.specs.Vibrato as page
 
 -- ---- the line's length
@@ -51,21 +52,25 @@ module _ (rate : Float) (h : rate_fits rate ≡ true) where
 pub record Fits (s : Vibrato) : Type 0 where
   pub rate : rate_fits s.sample_rate ≡ true
   pub inside : s.write_pos < line_length s.sample_rate
+  pub most : s.nonzero_places ≤ line_length s.sample_rate
   pub phase : phase_fits s.lfo_phase ≡ true
 
 module _ (s : Vibrato) where
   pub fits-parts : state_fits s ≡ true → Fits s
   unfolding state_fits
   fits-parts e =
-      let w = ltb s.write_pos (line_length s.sample_rate) in
+      let L = line_length s.sample_rate in
+      let w = ltb s.write_pos L in
+      let c = leb s.nonzero_places L in
       let p = phase_fits s.lfo_phase in
-      let a = both (rate_fits s.sample_rate) (w && p) e in
-      let b = both w p a.1 in
-      record { rate = a.0; inside = ltb-true s.write_pos (line_length s.sample_rate) b.0; phase = b.1 }
+      let a = both (rate_fits s.sample_rate) (w && (c && p)) e in
+      let b = both w (c && p) a.1 in
+      let d = both c p b.1 in
+      record { rate = a.0; inside = ltb-true s.write_pos L b.0; most = leb-true s.nonzero_places L d.0; phase = d.1 }
 
   pub fit : Fits s → state_fits s ≡ true
   unfolding state_fits
-  fit f = rw (f.rate, lt-ltb s.write_pos (line_length s.sample_rate) f.inside, f.phase)
+  fit f = let L = line_length s.sample_rate in rw (f.rate, lt-ltb s.write_pos L f.inside, le-leb s.nonzero_places L f.most, f.phase)
 
 -- ---- causes 5 and 6
 
@@ -121,6 +126,7 @@ pub record Ready (t : Tick) (s : Vibrato) (m : List Float) : Type 0 where
   pub inside : s.write_pos < length m
   pub some : 2 ≤ length m
   pub short : length m ≤ 16777217
+  pub most : s.nonzero_places ≤ length m
   pub depth : in_range (depth t) plus_zero (float_of 1) ≡ true
 
 pub ready : {t : Tick} {s : Vibrato} {m : List Float} → length m ≡ line_length s.sample_rate → number_in vibrato (tick t) (length m) s ≡ 0 → Ready t s m
@@ -137,6 +143,7 @@ ready {t} {s} {m} e k =
       inside = omega (arith, e, f.inside);
       some = omega (arith, e, long.0);
       short = omega (arith, e, long.1);
+      most = omega (arith, e, f.most);
       depth = in-range (control-in t.depth half curves.depth refl);
     }
 
@@ -154,13 +161,19 @@ module _ (t : Tick) (s : Vibrato) (m : List Float) (e : length m ≡ line_length
     pub age-is : {a : ℕ} → a ≡ age_at x → a ≡ largest_age (reads t s)
     age-is r = r ∙ ap age_at at ∙ sym (oldest-one (read t s))
 
-  pub next-is : {r : Vibrato} → r.write_pos ≡ next_place (length m) s.write_pos
-      → r.lfo_phase ≡ advanced s.lfo_phase (div binary64 t.frequency s.sample_rate)
-      → r.sample_rate ≡ s.sample_rate
-      → r ≡ next t s
-  unfolding next
-  next-is w p k =
-      λ i. record { write_pos = (w ∙ ap (λ (z : ℕ). next_place z s.write_pos) e) i; lfo_phase = p i; sample_rate = k i }
+  pub next-is : {w c : ℕ} {p x : Float} → x ≡ input t → w ≡ next_place (length m) s.write_pos
+      → c ≡ recounted (length m) s.nonzero_places (nonzero x) (nonzero (get_or m s.write_pos nan))
+      → p ≡ advanced s.lfo_phase (div binary64 t.frequency s.sample_rate)
+      → state_of w c p s.sample_rate ≡ next t s m
+  unfolding next_counted writes
+  next-is audio w c p =
+      let L = line_length s.sample_rate in
+      let first : s.write_pos ≡ 0 * L + s.write_pos = omega arith in
+      let count =
+      c
+      ∙ (λ i. recounted (e i) s.nonzero_places (nonzero (audio i)) (nonzero (get_or m (first i) nan)))
+      ∙ one-recount L (record { place = 0 * L + s.write_pos; value = input t }) m s.nonzero_places in
+      λ i. state_of ((w ∙ ap (λ (z : ℕ). next_place z s.write_pos) e) i) (count i) (p i) s.sample_rate
 
   -- what is stored and played, from the audio, the read and the clamped mix
   module _ {x : Float} (audio : x ≡ input t) where
@@ -178,14 +191,16 @@ module _ (t : Tick) (s : Vibrato) (m : List Float) (e : length m ≡ line_length
 module _ (t : Tick) (s : Vibrato) (m : List Float) {n : ℕ} (e : n ≡ line_length s.sample_rate) (passed : 0 ≡ number_in vibrato reset (length m) s) where
   pub line-does : {s' : Vibrato} {l : List Float} {a : Reply} → 0 ≡ tick_number t → Does vibrato (tick t) s (take n m) s' l a
       → Does vibrato (tick t) s m s' (l ++ drop n m) a
-  unfolding next writes page.samples delayed
+  unfolding next_counted writes page.samples delayed
   line-does g does =
       let rate = s.sample_rate in
       let L = line_length rate in
       let w = s.write_pos in
       let inside = (fits-parts s (unit vibrato s m e passed).state_fits).inside in
       let heard = front-line 0 L w m n (omega (arith, e)) inside in
-      first-does vibrato s m e passed t g does refl
+      let counted = recount-front n (parts rate) (writes t s) m s.nonzero_places (omega (arith, e, inside), tt) in
+      first-does vibrato s m e passed t g does
+      (λ i. next_counted (counted i) t s)
       (front-set (take n m) (drop n m) (0 * L + w) (input t) (omega (arith, e, inside, first-long vibrato s m e passed)) (take-append-drop n m))
       (λ i. blended (input t) (read_at (heard i) (distance rate (depth t) t.sine)) (mix t) ∷ [])
 
@@ -204,14 +219,14 @@ module _ (t : Tick) {x d b : Float} (audio : x ≡ value_or t.audio plus_zero) (
   pub set_does : {s : Vibrato} {m : List Float} {s' : Vibrato} {m' : List Float} {a : Reply} → 0 ≡ number_in vibrato reset (length m) s → 0 ≡ tick_number all_set
       → Does vibrato (tick all_set) s m s' m' a
       → Does vibrato (tick t) s m s' m' a
-  unfolding next writes page.samples delayed
+  unfolding next_counted writes page.samples delayed
   set_does {s} {m} passed none does =
       let k = sym (tick_row vibrato all_set s m passed none) in
       let rate = s.sample_rate in
       let L = line_length rate in
       let w = s.write_pos in
       accepts vibrato (tick t) s m (sym (tick_row vibrato t s m passed (none ∙ set_number)))
-      (rw k at does.state)
+      ((rw k at does.state) ∙ (λ i. next (tick_of (Set (audio i)) t.depth t.mix t.frequency t.sine) s m))
       ((rw k at does.memory) ∙ (λ i. laid (in_each 1 0 L w (audio i)) m))
       ((rw k at does.answer)
       ∙ (λ i. played (blended (audio i) (read_at (line_at 0 L w m) (distance rate (clamp_of (amount i) plus_zero (float_of 1)) t.sine)) (clamp_of (wet i) plus_zero (float_of 1)) ∷ [])

@@ -1,6 +1,7 @@
 pub mod Laws
 pub mod Demand1
 pub mod Demand3
+pub mod Counts
 pub mod StaysSilent
 pub mod HearsBack
 pub mod Narrow

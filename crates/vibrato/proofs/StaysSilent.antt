@@ -15,6 +15,7 @@ use Rattle.vibrato.specs.declared.Vibrato.{Vibrato}
 use Rattle.vibrato.specs.Vibrato.{Tick, vibrato, line_length, input, depth, distance, delayed, writes, samples}
 use Rattle.vibrato.proofs.Laws.{fits-parts, length-fits, tick-fits, distance-in}
 use Rattle.vibrato.proofs.Demand1.{laws}
+use Rattle.vibrato.proofs.Counts.{own}
 
 answers : (t : Tick) (s : Vibrato) (m : List Float) → SilentTick vibrato vibrato.quiet t s m → all_zero (samples t s m) ≡ true
 unfolding samples delayed all_zero is_number Ieee.fits Ieee.is_nan of_int Ieee.round
@@ -30,4 +31,4 @@ answers t s m u =
 
 pub shown : StaysSilent vibrato
 unfolding writes
-shown = stays-silent vibrato laws (keeps-nothing vibrato (λ s. refl) answers (λ t s m u. (u.audio, tt)))
+shown = stays-silent vibrato laws own (keeps-nothing vibrato (λ s. refl) answers (λ t s m u. (u.audio, tt)))

@@ -1,5 +1,5 @@
 -- The vibrato: one line, read at a swept distance. Definitions only. Assumes nothing.
-use Rattle.std.specs.Prelude.{ℕ, ◌-◌, Bool, true, ◌&&◌, ◌||◌, cond, List, [], ◌∷◌, ltb, Float}
+use Rattle.std.specs.Prelude.{ℕ, ◌-◌, Bool, true, ◌&&◌, ◌||◌, cond, List, [], ◌∷◌, ltb, leb, Float}
 use Rattle.std.specs.Float.{binary64}
 use Rattle.std.specs.Float.Ieee.{add, mul, div}
 use Rattle.float64.specs.Number.{plus_zero, float_of, fraction, half, rate_fits, phase_fits, frequency_fits, sine_fits, clamp_of}
@@ -8,8 +8,8 @@ use Rattle.port.specs.Port.{value_or, is_nan_set}
 use Rattle.common.specs.Signal.{blended, advanced, cause_number}
 use Rattle.common.specs.Line.{swept_length, next_place}
 use Rattle.common.specs.Reads.{Read, heard}
-use Rattle.effect.specs.Parts.{first_places}
-use Rattle.effect.specs.Effect.{Effect, Page, effect_of, Write}
+use Rattle.effect.specs.Parts.{Part, first_places}
+use Rattle.effect.specs.Effect.{Effect, Page, effect_of, Write, recount}
 use Rattle.effect.specs.Narrow.{Fields}
 use Rattle.effect.specs.Lines.{Lines, in_each}
 use Rattle.vibrato.specs.declared.Vibrato.{Vibrato}
@@ -29,19 +29,25 @@ tick_of audio depth mix frequency sine = record { audio = audio; depth = depth; 
 unfoldable pub line_length : Float → ℕ
 line_length rate = swept_length (float_of 20) rate
 
-abbrev pub state_of : ℕ → Float → Float → Vibrato
-state_of pos phase rate = record { write_pos = pos; lfo_phase = phase; sample_rate = rate }
+-- the whole line is in use
+abbrev pub parts : Float → List Part
+parts rate = first_places (line_length rate)
+
+abbrev pub state_of : ℕ → ℕ → Float → Float → Vibrato
+state_of pos count phase rate = record { write_pos = pos; nonzero_places = count; lfo_phase = phase; sample_rate = rate }
 
 -- the state after a start, a reset and a retune, which all zero the phase; and the one that a refused start gives
 abbrev pub fresh : Float → Vibrato
-fresh rate = state_of 0 plus_zero rate
+fresh rate = state_of 0 0 plus_zero rate
 
 abbrev pub blank : Vibrato
 blank = fresh plus_zero
 
 -- the state test, cause 4
 unfoldable pub state_fits : Vibrato → Bool
-state_fits s = rate_fits s.sample_rate && (ltb s.write_pos (line_length s.sample_rate) && phase_fits s.lfo_phase)
+state_fits s =
+    let L = line_length s.sample_rate in
+    rate_fits s.sample_rate && (ltb s.write_pos L && (leb s.nonzero_places L && phase_fits s.lfo_phase))
 
 -- causes 5 and 6
 unfoldable pub tick_number : Tick → ℕ
@@ -81,15 +87,19 @@ read t s =
 unfoldable pub delayed : Tick → Vibrato → List Float → Float
 delayed t s m = heard (read t s) m
 
--- the position moves on by one place, the phase by frequency / rate
-unfoldable pub next : Tick → Vibrato → Vibrato
-next t s =
-    let rate = s.sample_rate in
-    state_of (next_place (line_length rate) s.write_pos) (advanced s.lfo_phase (div binary64 t.frequency rate)) rate
-
 -- the audio goes into the line at the position
 unfoldable pub writes : Tick → Vibrato → List Write
 writes t s = in_each 1 0 (line_length s.sample_rate) s.write_pos (input t)
+
+-- the position moves on by one place, the phase by frequency / rate, and the count is c
+unfoldable pub next_counted : ℕ → Tick → Vibrato → Vibrato
+next_counted c t s =
+    let rate = s.sample_rate in
+    state_of (next_place (line_length rate) s.write_pos) c (advanced s.lfo_phase (div binary64 t.frequency rate)) rate
+
+-- the count goes by what the store changes
+abbrev pub next : Tick → Vibrato → List Float → Vibrato
+next t s m = next_counted (recount (parts s.sample_rate) (writes t s) m s.nonzero_places) t s
 
 -- audio × (1 − mix) + delayed × mix
 unfoldable pub samples : Tick → Vibrato → List Float → List Float
@@ -109,18 +119,19 @@ page =
       retune_settings = λ rate old. rate;
       settings_number = λ rate. cond (rate_fits rate) 0 1;
       places = line_length;
-      parts = λ rate. first_places (line_length rate);
+      parts = parts;
       turn_number = λ t s. 0;
       tick_number = λ t rate. tick_number t;
       blank = blank;
       fresh = fresh;
       retuned = λ rate s. fresh rate;
-      next = λ t s m. next t s;
+      next = next;
       writes = λ t s m. writes t s;
       samples = samples;
       reads = reads;
       input = input;
       quiet = λ s. true;
+      count = λ s. s.nonzero_places;
     }
 
 abbrev pub vibrato : Effect
@@ -134,7 +145,7 @@ fields =
       positions = λ s. (s.write_pos ∷ []) ∷ [];
       floats = λ s. (s.lfo_phase ∷ s.sample_rate ∷ []) ∷ [];
       flags = λ s. [];
-      map_positions = λ f s. state_of (f s.write_pos) s.lfo_phase s.sample_rate;
+      map_positions = λ f s. state_of (f s.write_pos) s.nonzero_places s.lfo_phase s.sample_rate;
     }
 
 -- ---- its line, for the recent pasts

@@ -1,7 +1,7 @@
 // The vibrato: one line in lent memory, read at a swept distance. The state goes in and out by value.
 #![tactic(auto)]
 
-ghost use Rattle.std.specs.Prelude.{◌≡◌, length, Float, refl};
+ghost use Rattle.std.specs.Prelude.{◌≡◌, length, Float};
 ghost use Rattle.std.specs.Bool.{then_some};
 ghost use Rattle.float64.specs.Number.{rate_fits};
 ghost use Rattle.port.specs.declared.Port.TheVariants.{Set};
@@ -12,12 +12,14 @@ ghost use Rattle.effect.specs.Needed.{places_if_accepted};
 ghost use Rattle.vibrato.specs.Vibrato.{Tick, page, vibrato, tick_of, line_length, fresh, distance_in};
 
 use common::Line;
-use effect::{InMemory, InOnePart, Ticked, Unit};
+use effect::{InMemory, Ticked, Unit};
 use port::{Answer, Port, Refusal};
 
 #[derive(Clone, Copy)]
 pub struct Vibrato {
     pub write_pos: u32,
+    // How many places of the line are neither +0 nor -0.
+    pub nonzero_places: u32,
     pub lfo_phase: f64,
     pub sample_rate: f64,
 }
@@ -52,7 +54,18 @@ impl Unit for Vibrato {
     #[tactic(auto, unfolding(crate::specs::Vibrato::state_fits))]
     fn fitting_places(self) -> Option<u64> {
         let n = Vibrato::line_length(self.sample_rate)?;
-        (u64::from(self.write_pos) < n && float64::phase_fits(self.lfo_phase)).then_some(n)
+        let fits = u64::from(self.write_pos) < n
+            && (u64::from(self.nonzero_places) <= n && float64::phase_fits(self.lfo_phase));
+        fits.then_some(n)
+    }
+
+    // Its state keeps nothing of the sound.
+    fn quiet(self) -> bool {
+        true
+    }
+
+    fn count(self) -> u32 {
+        self.nonzero_places
     }
 }
 
@@ -65,15 +78,6 @@ impl InMemory for Vibrato {
     fn retune_refusal(self, rate: f64, places: usize) -> Result<(), Refusal> {
         Vibrato::start_refusal(rate, places)
     }
-}
-
-impl InOnePart for Vibrato {
-    // Its state keeps nothing of the sound.
-    fn quiet(self) -> bool {
-        true
-    }
-
-    ghost one_part = { λ s. refl };
 }
 
 impl Vibrato {
@@ -97,12 +101,13 @@ impl Vibrato {
         Vibrato::line_length(rate)
     }
 
-    // Position 0 and phase 0, with the rate.
+    // Position 0 and phase 0, with the rate, in zeros.
     fn fresh(rate: f64) -> Vibrato
         ensures { result ≡ fresh rate }
     {
         Vibrato {
             write_pos: 0,
+            nonzero_places: 0,
             lfo_phase: 0.0,
             sample_rate: rate,
         }
@@ -143,12 +148,14 @@ impl Vibrato {
             write_pos: w,
         };
         let delayed = line.read(Vibrato::distance(line, rate, amount, sine));
+        let write_pos = line.next_place();
+        let nonzero_places = common::store(places, w, audio, self.nonzero_places);
         let state = Vibrato {
-            write_pos: line.next_place(),
+            write_pos,
+            nonzero_places,
             lfo_phase: phase,
             sample_rate: rate,
         };
-        places[w] = audio;
         Ticked {
             state,
             answer: Answer::One(common::blend(audio, delayed.sample, wet)),

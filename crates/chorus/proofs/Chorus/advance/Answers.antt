@@ -1,5 +1,5 @@
 -- `Chorus::advance`: in an accepted tick the depth is in range, and what the tick leaves and answers is the page's. Assumes nothing.
-use Rattle.std.proofs.Common.{refl, ◌∙◌}
+use Rattle.std.proofs.Common.{◌∙◌}
 use Rattle.std.specs.Prelude.{max}
 use lib.Ieee.{of_bits, of_int}
 use Rattle.port.specs.declared.Port.TheVariants.{Set}
@@ -25,6 +25,6 @@ returns c =
     let a2 = age-is t a.self m e t.sine2 c.clamp-depth.ensures c.voice-d2.ensures.age in
     let later = c.max.ensures ∙ (λ i. max (a1 i) (a2 i)) in
     accepts chorus (tick t) a.self m c.requires.tick_accepted
-    (next-is t a.self m e c.next_place.ensures c.next_phases-lfo_phases.ensures refl)
-    (stored_is t a.self m e x)
+    (next-is t a.self m e x c.next_place-write_pos.ensures c.store-nonzero_places.ensures.count c.next_phases-lfo_phases.ensures)
+    (c.store-nonzero_places.ensures.stored ∙ stored_is t a.self m e x)
     (played-is t a.self m e x c.clamp-mix.ensures d0 d1 d2 (c.max-2.ensures ∙ (λ i. max (a0 i) (later i))) (c.mixed.ensures _))

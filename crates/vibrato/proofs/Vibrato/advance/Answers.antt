@@ -1,5 +1,5 @@
 -- `Vibrato::advance`: in an accepted tick the distance lies on the line, and what the tick leaves and answers is the page's. Assumes nothing.
-use Rattle.std.proofs.Common.{refl}
+use Rattle.std.proofs.Common.{refl, ◌∙◌}
 use lib.Ieee.{of_bits, of_int, round}
 use Rattle.port.specs.declared.Port.TheVariants.{Set}
 use Rattle.effect.specs.Run.{tick}
@@ -18,6 +18,6 @@ returns c =
     let at = distance-is t a.self m e c.clamp-amount.ensures c.distance.ensures in
     let heard = c.read-delayed.ensures in
     accepts vibrato (tick t) a.self m c.requires.tick_accepted
-    (next-is t a.self m e c.next_place.ensures c.advance_phase-phase.ensures refl)
-    (stored_is t a.self m e refl)
+    (next-is t a.self m e refl c.next_place-write_pos.ensures c.store-nonzero_places.ensures.count c.advance_phase-phase.ensures)
+    (c.store-nonzero_places.ensures.stored ∙ stored_is t a.self m e refl)
     (played-is t a.self m e refl (delayed-is t a.self m e at heard.sample) c.clamp-wet.ensures c.blend.ensures (age-is t a.self m e at heard.age))
