@@ -22,7 +22,7 @@ unmoved {A} f before i z e h = ap (λ (d : List A). get_or d i z) e ∙ tabled-n
 
 -- ---- writes one after the other
 
-table-last : {A : Type 0} (f : ℕ → A) (n : ℕ) → table f (suc n) ≡ table f n ++ (f n ∷ [])
+pub table-last : {A : Type 0} (f : ℕ → A) (n : ℕ) → table f (suc n) ≡ table f n ++ (f n ∷ [])
 unfolding table
 table-last f zero = refl
 table-last {A} f (suc n) = ap (λ (l : List A). f 0 ∷ l) (table-last (λ i. f (suc i)) n)
@@ -120,12 +120,12 @@ module _ (count : ℕ) (l : Lines) (m : List Float) (i : ℕ) (h : i < count) (m
 -- a comb, whose store is read as y
 module _ (x d f : Float) (l : Lines) (z m : List Float) (i : ℕ) (h : i < 8) (m' : List Float) (k : ℕ) {v : ℕ} {y : Float} (inside : v < k) (at : v ≡ get_or l.positions i 0) (kept : y ≡ get_or z i nan) (same : get_or m' (place_of l i) nan ≡ get_or m (place_of l i) nan) where
   -- its answer, store and position
-  pub comb-gives : {r : Combed} {n : ℕ} → n ≡ get_or l.lengths i 0 → r ≡ combed (get_or (take k (drop (l.start i) m')) v nan) n v y d
-      → r ≡ record { output = get_or (combs_held l m) i nan; filter_state = comb_stored d z (combs_held l m) i; pos = next_position l i }
-  unfolding combed comb_stored next_position
+  pub comb-gives : {r : Combed} {n : ℕ} → n ≡ get_or l.lengths i 0 → r ≡ combed (get_or (take k (drop (l.start i) m')) v nan) n v y x d f
+      → r ≡ record { output = get_or (combs_held l m) i nan; filter_state = comb_stored d z (combs_held l m) i; fed = (comb_write x d f l z (combs_held l m) i).value; pos = next_position l i }
+  unfolding combed comb_stored comb_write next_position
   comb-gives long e =
       let b = read 8 l m i h m' k inside at same in
-      e ∙ (λ j. record { output = b j; filter_state = comb_store (b j) (kept j) d; pos = next_place (long j) (at j) })
+      e ∙ (λ j. record { output = b j; filter_state = comb_store (b j) (kept j) d; fed = comb_fed x (comb_store (b j) (kept j) d) f; pos = next_place (long j) (at j) })
 
   -- and its write
   pub comb-writes : {line : List Float} → l.start i + k ≤ length m' → line ≡ comb_line (take k (drop (l.start i) m')) v y x d f
@@ -140,11 +140,11 @@ module _ (x d f : Float) (l : Lines) (z m : List Float) (i : ℕ) (h : i < 8) (m
 -- an all-pass, with y into it
 module _ (x : Float) (l : Lines) (m : List Float) (i : ℕ) (h : i < 4) (m' : List Float) (y : Float) (k : ℕ) {v : ℕ} (inside : v < k) (at : v ≡ get_or l.positions i 0) (same : get_or m' (place_of l i) nan ≡ get_or m (place_of l i) nan) (into : y ≡ passed_on x (allpasses_held l m) i) where
   pub pass-gives : {r : Passed} {n : ℕ} → n ≡ get_or l.lengths i 0 → r ≡ passed (get_or (take k (drop (l.start i) m')) v nan) n v y
-      → r ≡ record { output = passed_on x (allpasses_held l m) (i + 1); pos = next_position l i }
-  unfolding passed passed_on next_position
+      → r ≡ record { output = passed_on x (allpasses_held l m) (i + 1); held = get_or (allpasses_held l m) i nan; fed = (allpass_write x l (allpasses_held l m) i).value; pos = next_position l i }
+  unfolding passed passed_on allpass_write next_position
   pass-gives long e =
       let b = read 4 l m i h m' k inside at same in
-      rw (add-one i) (e ∙ (λ j. record { output = pass_output (into j) (b j); pos = next_place (long j) (at j) }))
+      rw (add-one i) (e ∙ (λ j. record { output = pass_output (into j) (b j); held = b j; fed = pass_fed (into j) (b j); pos = next_place (long j) (at j) }))
 
   pub pass-writes : {line : List Float} → l.start i + k ≤ length m' → line ≡ pass_line (take k (drop (l.start i) m')) v y
       → put_mid (l.start i) k m' line ≡ set m' (allpass_write x l (allpasses_held l m) i).place (allpass_write x l (allpasses_held l m) i).value

@@ -1,9 +1,11 @@
 -- Demand 1 (docs/DEMANDS.md) for the reverb, by the laws of its parts. Assumes nothing.
 use Rattle.std.proofs.Common.{◌≡◌, ℕ, zero, suc, ◌<◌, true, false, List, [], ◌∷◌, refl, arith}
+use native.Mathlib.Nat.{min-le_left}
 use lib.Ieee.{Float, le, of_int}
 use lib.Ieee as Ieee
 use Rattle.float64.specs.Number.{rate_fits, in_range}
 use Rattle.common.proofs.Ring.{next-lt}
+use Rattle.effect.specs.Parts.{sizes}
 use Rattle.effect.specs.Effect.{Write, EachWrite, InUse}
 use Rattle.effect.specs.Demand1.{Demand1}
 use Rattle.effect.proofs.Table.{none_1}
@@ -14,7 +16,7 @@ use Rattle.reverb.specs.declared.tick.Controls.{Controls}
 use Rattle.reverb.specs.declared.Reverb.{Reverb}
 use Rattle.reverb.specs.Tunings.{Side, left, right, predelay_size, comb_most, allpass_most, comb_tunings, allpass_tunings, tuned}
 use Rattle.reverb.specs.Tank.{place_of, next_position, by_sides, comb_write, allpass_write}
-use Rattle.reverb.specs.Reverb.{reverb, combs, allpasses, fresh, blank, state_fits, controls_of, comb_writes, allpass_writes, next, writes}
+use Rattle.reverb.specs.Reverb.{reverb, combs, allpasses, fresh, blank, used_parts, state_fits, controls_of, comb_writes, allpass_writes, next, writes}
 use Rattle.reverb.proofs.Scaling.{lines-some}
 use Rattle.reverb.proofs.Used.{in_order, comb-used, pass-used, predelay-used}
 use Rattle.reverb.proofs.Lists.{next-below}
@@ -40,6 +42,7 @@ fresh-fits rate h =
       predelay = omega arith;
       combs = combs-in u (comb left) (comb right);
       allpasses = allpasses-in u (pass left) (pass right);
+      count = omega arith;
     })
 
 next_fits : (c : Controls) (s : Reverb) (m : List Float) → state_fits s ≡ true → state_fits (next c s m) ≡ true
@@ -55,6 +58,7 @@ next_fits c s m e =
       predelay = next-lt predelay_size s.predelay_pos f.predelay;
       combs = combs-in u (comb left) (comb right);
       allpasses = allpasses-in u (pass left) (pass right);
+      count = min-le_left (sizes (used_parts s.sample_rate)) _;
     })
 
 -- ---- writes

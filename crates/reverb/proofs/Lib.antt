@@ -1,11 +1,12 @@
 pub mod Lists
-pub mod Chunks
 pub mod Scaling
 pub mod Predelay
 pub mod Laws
 pub mod Apart
+pub mod Net
 pub mod Ticks
 pub mod Used
 pub mod Demand1
+pub mod Counts
 pub mod StaysSilent
 pub mod Narrow

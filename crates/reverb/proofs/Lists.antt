@@ -1,14 +1,11 @@
--- Tests over lists of positions and lengths, entry by entry: positions below their lengths, and lines that are zeros. Assumes nothing.
-use Rattle.std.proofs.Common.{◌≡◌, ℕ, zero, suc, ◌+◌, ◌<◌, Bool, true, false, ◌&&◌, ltb, List, [], ◌∷◌, length, get_or, take, drop, fold, refl, sym, ◌∙◌, ap, le_of_suc-le-suc, not-suc-le-zero, add-one, arith, drop-cons, ltb-true, le-ltb, lt-ltb}
-use lib.Ieee.{Float}
+-- Tests over lists of positions and lengths, entry by entry: positions below their lengths. Assumes nothing.
+use Rattle.std.proofs.Common.{◌≡◌, ℕ, zero, suc, ◌<◌, Bool, true, false, ◌&&◌, ltb, List, [], ◌∷◌, length, get_or, fold, refl, sym, ◌∙◌, ap, le_of_suc-le-suc, not-suc-le-zero, arith, ltb-true, le-ltb, lt-ltb}
 use mathlib.Core.Bool.{and_assoc, and-true}
 use Rattle.std.specs.List.{zip}
 use Rattle.float64.proofs.Tests.{both, clash}
-use Rattle.common.specs.Line.{next_place, table, all_zero}
+use Rattle.common.specs.Line.{next_place, table}
 use Rattle.common.proofs.Ring.{next-lt}
-use Rattle.common.proofs.Zeros.{zeros-append}
-use Rattle.effect.specs.Parts.{held_in}
-use Rattle.reverb.specs.Tank.{all_below, line_parts, lines_zero}
+use Rattle.reverb.specs.Tank.{all_below}
 
 -- ---- positions below their lengths
 
@@ -51,12 +48,3 @@ next-below (w ∷ ws) [] e = clash e refl
 next-below (w ∷ ws) (n ∷ ns) e =
     let b = both (ltb w n) (all_below ws ns) e in
     rw (lt-ltb (next_place n w) n (next-lt n w (ltb-true w n b.0))) (next-below ws ns b.1)
-
--- ---- lines of zeros
-
-pub zero_more : (o apart : ℕ) (ns : List ℕ) (m : List Float) (i : ℕ) → i < length ns
-    → lines_zero o apart (drop i ns) m ≡ all_zero (take (get_or ns i 0) (drop o m)) && lines_zero (o + apart) apart (drop (i + 1) ns) m
-unfolding line_parts held_in
-zero_more o apart ns m i h =
-    rw (drop-cons ns i 0 h, add-one i)
-    (zeros-append (take (get_or ns i 0) (drop o m)) (held_in (line_parts (o + apart) apart (drop (suc i) ns)) m))

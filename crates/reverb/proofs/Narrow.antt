@@ -25,11 +25,12 @@ own =
           record {
             whole = λ s t e i.
                 state_of (same-array e.positions 0 i) (same-array e.positions 1 i) (same-array e.positions 2 i) (same-array e.positions 3 i)
-                (same-entry 0 e.positions 4 0 i) (same-array e.floats 0 i) (same-array e.floats 1 i) (same-entry nan e.floats 2 0 i);
+                (same-entry 0 e.positions 4 0 i) (e.count i) (same-array e.floats 0 i) (same-array e.floats 1 i) (same-entry nan e.floats 2 0 i);
             counted = λ s f.
                 let p = fits-parts s f in
                 omega (arith, lines_long (p.combs left), lines_long (p.combs right), lines_long (p.allpasses left), lines_long (p.allpasses right));
             mapped = λ f s. refl;
+            count_stays = λ f s. refl;
             floats_stay = λ f s. refl;
             flags_stay = λ f s. refl;
           };

@@ -1,5 +1,5 @@
 -- The lengths of the reverb's lines at every accepted rate: each tuning, scaled, is from 1 to its cap. Assumes nothing.
-use Rattle.std.proofs.Common.{◌≡◌, ℕ, zero, suc, ◌<◌, ◌≤◌, min, true, ◌&&◌, leb, List, [], ◌∷◌, map, length, get_or, replicate, sym, refl, subst, le_of_suc-le-suc, not-suc-le-zero, arith, lt-ltb, leb-true}
+use Rattle.std.proofs.Common.{◌≡◌, ℕ, zero, suc, ◌<◌, ◌≤◌, min, true, ◌&&◌, leb, List, [], ◌∷◌, map, length, get_or, replicate, refl, ap, le_of_suc-le-suc, not-suc-le-zero, arith, lt-ltb, leb-true}
 use native.Mathlib.Nat.{min-le_right}
 use lib.Ieee.{Float, binary64, mul, div, le, lt, of_int, round, to_unsigned}
 use lib.Ieee as Ieee
@@ -9,7 +9,7 @@ use Rattle.float64.proofs.Interval.{In, point, mul_in, div-in, cut_in}
 use Rattle.float64.proofs.Ranges.{rate-in, range-in, in-range}
 use Rattle.float64.proofs.Parts.{small-in, whole-between}
 use Rattle.reverb.specs.declared.tunings.Lengths.{Lengths}
-use Rattle.reverb.specs.Tunings.{Side, left, right, comb_most, allpass_most, least_tuning, most_tuning, comb_tunings, allpass_tunings, ratio, scaled, spread, beside, line_lengths, lengths_at, lengths_for, Capped, Roomy, sided, tuned}
+use Rattle.reverb.specs.Tunings.{Side, left, right, comb_most, least_tuning, most_tuning, ratio, scaled, spread, beside, line_lengths, lengths_at, lengths_for, Capped, tuned}
 use Rattle.reverb.specs.Tank.{all_below}
 
 -- ---- the ratio
@@ -71,6 +71,10 @@ lines-most most tunings left rate i = mapped-most (scaled most (ratio rate)) mos
 lines-most most tunings right rate i =
     mapped-most (λ base. beside most (spread (ratio rate)) (scaled most (ratio rate) base)) most tunings i (λ b. min-le_right _ _)
 
+-- nor than the longest comb
+pub lines-capped : (most : ℕ) (tunings : List ℕ) (side : Side) (rate : Float) {ns : List ℕ} → most ≤ comb_most → ns ≡ line_lengths most tunings side rate → Capped comb_most ns
+lines-capped most tunings side rate h e = λ i. omega (arith, h, lines-most most tunings side rate i, ap (λ (l : List ℕ). get_or l i 0) e)
+
 -- each has a place at least, at an accepted rate
 zeros-below : (f : ℕ → ℕ) (l : List ℕ) → ((i : ℕ) → i < length l → 1 ≤ f (get_or l i 0)) → all_below (replicate (length l) 0) (map f l) ≡ true
 unfolding all_below
@@ -98,18 +102,6 @@ lengths-at n h e = rw (e, h)
 -- at any rate that fits
 pub lengths-are : (rate : Float) {n : Lengths} → rate_fits rate ≡ true → n ≡ lengths_for rate → n ≡ lengths_at rate
 lengths-are rate h e = rw h at e
-
--- they have room in the tank
-pub roomy : {n : Lengths} (rate : Float) → n ≡ lengths_at rate → Roomy n
-roomy rate e = subst Roomy (sym e) (record { combs = combs; allpasses = allpasses })
-  where
-    combs : (side : Side) → Capped comb_most (sided (lengths_at rate).comb_l (lengths_at rate).comb_r side)
-    combs left = lines-most comb_most comb_tunings left rate
-    combs right = lines-most comb_most comb_tunings right rate
-
-    allpasses : (side : Side) → Capped allpass_most (sided (lengths_at rate).allpass_l (lengths_at rate).allpass_r side)
-    allpasses left = lines-most allpass_most allpass_tunings left rate
-    allpasses right = lines-most allpass_most allpass_tunings right rate
 
 -- what `tunings::scaled` cites
 pub ruleset scaled_cases = (product-cut)

@@ -27,6 +27,7 @@ use Rattle.reverb.specs.Reverb.{Tick, reverb, combs, stores, allpasses, fresh, q
 use Rattle.reverb.proofs.Laws.{Fits, fits-parts, TickFits, tick-fits}
 use Rattle.reverb.proofs.Used.{in_order, predelay-used}
 use Rattle.reverb.proofs.Demand1.{laws, each-side, comb_in, pass_in}
+use Rattle.reverb.proofs.Counts.{own}
 
 -- a table of n zeros
 table-zeros : (f : ℕ → Float) (n : ℕ) → ((i : ℕ) → i < n → Zero (f i)) → are_zeros n (table f n) ≡ true
@@ -176,4 +177,4 @@ silent-laws =
     }
 
 pub shown : StaysSilent reverb
-shown = stays-silent reverb laws silent-laws
+shown = stays-silent reverb laws own silent-laws

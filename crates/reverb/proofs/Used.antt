@@ -1,13 +1,13 @@
--- The reverb's places in use: they follow each other in the tank, and each line's places are among them. Assumes nothing.
-use Rattle.std.proofs.Common.{◌≡◌, ℕ, zero, suc, ◌+◌, ◌*◌, ◌≤◌, ◌<◌, Bool, ◌&&◌, List, [], ◌∷◌, ◌++◌, length, get_or, take, drop, sym, ap, ◌∙◌, subst, arith, suc-mul, le_of_suc-le-suc, not-suc-le-zero}
-use mathlib.Core.Bool.{and_assoc}
+-- The reverb's places in use: they follow each other in the tank, each line's places are among them, and how many they are. Assumes nothing.
+use Rattle.std.proofs.Common.{◌≡◌, ℕ, zero, suc, ◌+◌, ◌*◌, ◌≤◌, ◌<◌, List, [], ◌∷◌, ◌++◌, length, get_or, refl, subst, arith, suc-mul, le_of_suc-le-suc, not-suc-le-zero}
+use Rattle.std.specs.List.{sum}
+use Rattle.std.proofs.lemmas.List.Sums.{sum_by-cons}
 use lib.Ieee.{Float}
-use Rattle.common.specs.Line.{all_zero}
-use Rattle.effect.specs.Parts.{Part, part, held_in, InPart, here, further, InOrder}
-use Rattle.effect.proofs.Parts.{earlier, order-append, in_left, in_right, one_part, held-append}
+use Rattle.effect.specs.Parts.{Part, part, sizes, InPart, here, further, InOrder}
+use Rattle.effect.proofs.Parts.{earlier, order-append, in_left, in_right}
 use Rattle.reverb.specs.declared.tunings.Lengths.{Lengths}
-use Rattle.reverb.specs.Tunings.{Side, left, right, comb_size, comb_most, allpass_size, allpass_most, predelay_size, comb_tunings, allpass_tunings, comb_lengths, allpass_lengths, lengths_at, sided}
-use Rattle.reverb.specs.Tank.{combs_start, allpasses_start, predelay_start, tank_size, line_parts, lines_zero, parts}
+use Rattle.reverb.specs.Tunings.{Side, left, right, comb_size, comb_most, allpass_size, allpass_most, predelay_size, comb_tunings, allpass_tunings, comb_lengths, allpass_lengths, used_by, lengths_at}
+use Rattle.reverb.specs.Tank.{combs_start, allpasses_start, predelay_start, tank_size, line_parts, parts}
 use Rattle.reverb.proofs.Scaling.{lines-most}
 
 -- ---- lines that lie `apart` places from each other
@@ -76,28 +76,42 @@ module _ (rate : Float) where
   predelay-used w h =
       in_right (combs_of left) _ (in_right (combs_of right) _ (in_right (passes_of left) _ (in_right (passes_of right) _ (here (omega arith) (omega arith)))))
 
--- ---- zeros in them, line by line: the combs left and right, the all-passes left and right, the predelay
+-- ---- how many they are
 
-abbrev pub combs_zero : Lengths → List Float → Side → Bool
-combs_zero n m side = lines_zero (combs_start side) comb_size (sided n.comb_l n.comb_r side) m
+sizes-append : (ps qs : List Part) → sizes (ps ++ qs) ≡ sizes ps + sizes qs
+sizes-append [] qs = omega arith
+sizes-append (p ∷ ps) qs = omega (arith, sizes-append ps qs)
 
-abbrev pub passes_zero : Lengths → List Float → Side → Bool
-passes_zero n m side = lines_zero (allpasses_start side) allpass_size (sided n.allpass_l n.allpass_r side) m
+line-sizes : (o apart : ℕ) (ns : List ℕ) → sizes (line_parts o apart ns) ≡ sum ns
+unfolding line_parts
+line-sizes o apart [] = refl
+line-sizes o apart (n ∷ ns) = omega (arith, line-sizes (o + apart) apart ns, sum_by-cons (λ k. k) n ns)
 
-pub parts_zero : (n : Lengths) (m : List Float)
-    → (((combs_zero n m left && combs_zero n m right) && passes_zero n m left) && passes_zero n m right) && all_zero (take predelay_size (drop predelay_start m))
-    ≡ all_zero (held_in (parts n) m)
+-- as the code adds them up
+pub used-is : (n : Lengths) → sizes (parts n) ≡ used_by n.comb_l n.comb_r n.allpass_l n.allpass_r
 unfolding parts
-parts_zero n m =
-    let c : Side → List Part = λ side. line_parts (combs_start side) comb_size (sided n.comb_l n.comb_r side) in
-    let p : Side → List Part = λ side. line_parts (allpasses_start side) allpass_size (sided n.allpass_l n.allpass_r side) in
-    let last = part predelay_start predelay_size in
-    let z : List Part → Bool = λ qs. all_zero (held_in qs m) in
-    ap (λ (b : Bool). (((z (c left) && z (c right)) && z (p left)) && z (p right)) && b) (sym (one_part last m))
-    ∙ and_assoc ((z (c left) && z (c right)) && z (p left)) (z (p right)) (z (last ∷ []))
-    ∙ ap (λ (b : Bool). ((z (c left) && z (c right)) && z (p left)) && b) (sym (held-append (p right) (last ∷ []) m))
-    ∙ and_assoc (z (c left) && z (c right)) (z (p left)) (z (p right ++ last ∷ []))
-    ∙ ap (λ (b : Bool). (z (c left) && z (c right)) && b) (sym (held-append (p left) (p right ++ last ∷ []) m))
-    ∙ and_assoc (z (c left)) (z (c right)) (z (p left ++ (p right ++ last ∷ [])))
-    ∙ ap (λ (b : Bool). z (c left) && b) (sym (held-append (c right) (p left ++ (p right ++ last ∷ [])) m))
-    ∙ sym (held-append (c left) (c right ++ (p left ++ (p right ++ last ∷ []))) m)
+used-is n =
+    let cl = line_parts (combs_start left) comb_size n.comb_l in
+    let cr = line_parts (combs_start right) comb_size n.comb_r in
+    let pl = line_parts (allpasses_start left) allpass_size n.allpass_l in
+    let pr = line_parts (allpasses_start right) allpass_size n.allpass_r in
+    let last = part predelay_start predelay_size ∷ [] in
+    omega (
+      arith,
+      sizes-append cl (cr ++ (pl ++ (pr ++ last))),
+      sizes-append cr (pl ++ (pr ++ last)),
+      sizes-append pl (pr ++ last),
+      sizes-append pr last,
+      line-sizes (combs_start left) comb_size n.comb_l,
+      line-sizes (combs_start right) comb_size n.comb_r,
+      line-sizes (allpasses_start left) allpass_size n.allpass_l,
+      line-sizes (allpasses_start right) allpass_size n.allpass_r,
+    )
+
+-- parts in order are no more than the places that they lie in
+order-sizes : (o n : ℕ) (qs : List Part) → InOrder o n qs → o + sizes qs ≤ n
+order-sizes o n [] h = omega (arith, h)
+order-sizes o n (q ∷ qs) h = omega (arith, h.0, order-sizes (q.start + q.size) n qs h.1)
+
+pub used-most : (rate : Float) → sizes (parts (lengths_at rate)) ≤ tank_size
+used-most rate = omega (arith, order-sizes 0 tank_size (parts (lengths_at rate)) (in_order rate))

@@ -19,9 +19,11 @@ comb_store held store damping = add binary64 (mul binary64 held (sub binary64 (f
 unfoldable pub comb_fed : Float → Float → Float → Float
 comb_fed input store feedback = add binary64 input (mul binary64 store feedback)
 
--- a step at the position pos of a line, whose place there held so much: what it answers, the next store and the next position
-unfoldable pub combed : Float → ℕ → ℕ → Float → Float → Combed
-combed held n pos store damping = record { output = held; filter_state = comb_store held store damping; pos = next_place n pos }
+-- a step at the position pos of a line, whose place there held so much: what it answers, the next store, what the place gets and the next position
+unfoldable pub combed : Float → ℕ → ℕ → Float → Float → Float → Float → Combed
+combed held n pos store input damping feedback =
+    let next = comb_store held store damping in
+    record { output = held; filter_state = next; fed = comb_fed input next feedback; pos = next_place n pos }
 
 -- and the places that it leaves, of which the one at p is its own
 unfoldable pub comb_line : List Float → ℕ → Float → Float → Float → Float → List Float
@@ -37,9 +39,9 @@ pass_output input held = add binary64 (neg input) held
 unfoldable pub pass_fed : Float → Float → Float
 pass_fed input held = add binary64 input (mul binary64 held half)
 
--- a step, as of a comb
+-- a step, as of a comb, with what the place held
 unfoldable pub passed : Float → ℕ → ℕ → Float → Passed
-passed held n pos input = record { output = pass_output input held; pos = next_place n pos }
+passed held n pos input = record { output = pass_output input held; held = held; fed = pass_fed input held; pos = next_place n pos }
 
 unfoldable pub pass_line : List Float → ℕ → Float → List Float
 pass_line m p input = slice_set m p (pass_fed input (slice_index_or m p nan))

@@ -1,5 +1,5 @@
 -- The reverb: a predelay, and on each side eight combs in parallel, summed, and four all-passes in series. Definitions only. Assumes nothing.
-use Rattle.std.specs.Prelude.{◌≡◌, ℕ, ◌+◌, ◌-◌, Bool, cond, ◌&&◌, ◌||◌, List, [], ◌∷◌, ◌++◌, map, replicate, Float}
+use Rattle.std.specs.Prelude.{◌≡◌, ℕ, ◌+◌, ◌-◌, Bool, cond, ◌&&◌, ◌||◌, List, [], ◌∷◌, ◌++◌, map, replicate, nat_le, Float}
 use Rattle.std.specs.Float.{binary64}
 use Rattle.std.specs.Float.Ieee.{add, mul}
 use Rattle.float64.specs.Number.{plus_zero, float_of, fraction, half, rate_fits, clamp_of, at_most, whole_part}
@@ -8,7 +8,8 @@ use Rattle.port.specs.Port.{value_or, is_nan_set}
 use Rattle.port.specs.Answer.{Reply, played}
 use Rattle.common.specs.Signal.{sanitized, blended}
 use Rattle.common.specs.Line.{zeros, are_zeros, next_place, table}
-use Rattle.effect.specs.Effect.{Effect, Page, effect_of, Write, laid}
+use Rattle.effect.specs.Parts.{Part, sizes}
+use Rattle.effect.specs.Effect.{Effect, Page, effect_of, Write, laid, recount}
 use Rattle.effect.specs.Narrow.{Fields}
 use Rattle.reverb.specs.declared.tick.Controls.{Controls}
 use Rattle.reverb.specs.declared.Reverb.{Reverb}
@@ -30,14 +31,15 @@ tick_of audio size damping mix predelay = record { audio = audio; size = size; d
 -- ---- states
 
 -- a state of these parts
-abbrev pub state_of : List ℕ → List ℕ → List ℕ → List ℕ → ℕ → List Float → List Float → Float → Reverb
-state_of combl combr passl passr predelay storesl storesr rate =
+abbrev pub state_of : List ℕ → List ℕ → List ℕ → List ℕ → ℕ → ℕ → List Float → List Float → Float → Reverb
+state_of combl combr passl passr predelay count storesl storesr rate =
     record {
       comb_pos_l = combl;
       comb_pos_r = combr;
       allpass_pos_l = passl;
       allpass_pos_r = passr;
       predelay_pos = predelay;
+      nonzero_places = count;
       comb_filter_state_l = storesl;
       comb_filter_state_r = storesr;
       sample_rate = rate;
@@ -46,8 +48,8 @@ state_of combl combr passl passr predelay storesl storesr rate =
 -- what is lent, as a state
 abbrev pub lent_state : Lent → Reverb
 lent_state l =
-    state_of l.comb_pos_l.now l.comb_pos_r.now l.allpass_pos_l.now l.allpass_pos_r.now l.predelay_pos.now l.comb_filter_state_l.now l.comb_filter_state_r.now
-    l.sample_rate
+    state_of l.comb_pos_l.now l.comb_pos_r.now l.allpass_pos_l.now l.allpass_pos_r.now l.predelay_pos.now l.nonzero_places.now l.comb_filter_state_l.now
+    l.comb_filter_state_r.now l.sample_rate
 
 -- the parts of l' lie where those of l do, and its rate is that of l
 pub record SameParts (l l' : Lent) : Type 0 where
@@ -56,13 +58,14 @@ pub record SameParts (l l' : Lent) : Type 0 where
   pub allpass_pos_l : l'.allpass_pos_l.ghost_name ≡ l.allpass_pos_l.ghost_name
   pub allpass_pos_r : l'.allpass_pos_r.ghost_name ≡ l.allpass_pos_r.ghost_name
   pub predelay_pos : l'.predelay_pos.ghost_name ≡ l.predelay_pos.ghost_name
+  pub nonzero_places : l'.nonzero_places.ghost_name ≡ l.nonzero_places.ghost_name
   pub comb_filter_state_l : l'.comb_filter_state_l.ghost_name ≡ l.comb_filter_state_l.ghost_name
   pub comb_filter_state_r : l'.comb_filter_state_r.ghost_name ≡ l.comb_filter_state_r.ghost_name
   pub sample_rate : l'.sample_rate ≡ l.sample_rate
 
--- after a start, a retune and a reset: positions 0, damping stores +0
+-- after a start, a retune and a reset: positions 0, damping stores +0, and the memory in zeros
 abbrev pub fresh : Float → Reverb
-fresh rate = state_of (replicate 8 0) (replicate 8 0) (replicate 4 0) (replicate 4 0) 0 (zeros 8) (zeros 8) rate
+fresh rate = state_of (replicate 8 0) (replicate 8 0) (replicate 4 0) (replicate 4 0) 0 0 (zeros 8) (zeros 8) rate
 
 -- what a refused start gives
 abbrev pub blank : Reverb
@@ -78,11 +81,16 @@ stores s = sided s.comb_filter_state_l s.comb_filter_state_r
 abbrev pub allpasses : Reverb → Side → Lines
 allpasses s side = allpass_lines (allpasses_start side) (sided s.allpass_pos_l s.allpass_pos_r side) (allpass_lengths side s.sample_rate)
 
--- the state test, cause 4: at an accepted rate, every position in its line; the stores may hold any float
+-- the places in use: every line of the rate's lengths, and the predelay
+abbrev pub used_parts : Float → List Part
+used_parts rate = parts (lengths_at rate)
+
+-- the state test, cause 4: at an accepted rate, every position in its line, and no more places counted than are in use; the stores may hold any float
 unfoldable pub state_fits : Reverb → Bool
 state_fits s =
     rate_fits s.sample_rate
-    && positions_fit s.comb_pos_l s.comb_pos_r s.allpass_pos_l s.allpass_pos_r s.predelay_pos (lengths_at s.sample_rate)
+    && (positions_fit s.comb_pos_l s.comb_pos_r s.allpass_pos_l s.allpass_pos_r s.predelay_pos (lengths_at s.sample_rate)
+    && nat_le s.nonzero_places (sizes (used_parts s.sample_rate)))
 
 -- what the damping stores keep of the sound: all sixteen are +0 or −0
 unfoldable pub quiet : Reverb → Bool
@@ -140,19 +148,6 @@ summed s m side = mul binary64 (sum_of (combs_held (combs s side) m) 8) (fractio
 unfoldable pub wet : Reverb → List Float → Side → Float
 wet s m side = passed_on (summed s m side) (allpasses_held (allpasses s side) m) 4
 
-unfoldable pub next : Controls → Reverb → List Float → Reverb
-next c s m =
-    record {
-      comb_pos_l = table (next_position (combs s left)) 8;
-      comb_pos_r = table (next_position (combs s right)) 8;
-      allpass_pos_l = table (next_position (allpasses s left)) 4;
-      allpass_pos_r = table (next_position (allpasses s right)) 4;
-      predelay_pos = next_place predelay_size s.predelay_pos;
-      comb_filter_state_l = table (comb_stored (damping c) (stores s left) (combs_held (combs s left) m)) 8;
-      comb_filter_state_r = table (comb_stored (damping c) (stores s right) (combs_held (combs s right) m)) 8;
-      sample_rate = s.sample_rate;
-    }
-
 -- 25 writes: one in each line
 abbrev pub comb_writes : Controls → Reverb → List Float → ℕ → Side → Write
 comb_writes c s m i side = comb_write (predelayed c s m) (damping c) (feedback c) (combs s side) (stores s side) (combs_held (combs s side) m) i
@@ -162,6 +157,20 @@ allpass_writes s m i side = allpass_write (summed s m side) (allpasses s side) (
 
 unfoldable pub writes : Controls → Reverb → List Float → List Write
 writes c s m = record { place = predelay_start + s.predelay_pos; value = input c } ∷ (by_sides (comb_writes c s m) 8 ++ by_sides (allpass_writes s m) 4)
+
+unfoldable pub next : Controls → Reverb → List Float → Reverb
+next c s m =
+    record {
+      comb_pos_l = table (next_position (combs s left)) 8;
+      comb_pos_r = table (next_position (combs s right)) 8;
+      allpass_pos_l = table (next_position (allpasses s left)) 4;
+      allpass_pos_r = table (next_position (allpasses s right)) 4;
+      predelay_pos = next_place predelay_size s.predelay_pos;
+      nonzero_places = recount (used_parts s.sample_rate) (writes c s m) m s.nonzero_places;
+      comb_filter_state_l = table (comb_stored (damping c) (stores s left) (combs_held (combs s left) m)) 8;
+      comb_filter_state_r = table (comb_stored (damping c) (stores s right) (combs_held (combs s right) m)) 8;
+      sample_rate = s.sample_rate;
+    }
 
 -- left, right
 unfoldable pub samples : Controls → Reverb → List Float → List Float
@@ -184,7 +193,7 @@ page =
       retune_settings = λ rate old. rate;
       settings_number = λ rate. cond (rate_fits rate) 0 1;
       places = λ rate. tank_size;
-      parts = λ rate. parts (lengths_at rate);
+      parts = used_parts;
       turn_number = λ t s. 0;
       tick_number = λ t rate. tick_number t;
       blank = blank;
@@ -196,6 +205,7 @@ page =
       reads = λ t s. [];
       input = λ t. input (controls_of t);
       quiet = quiet;
+      count = λ s. s.nonzero_places;
     }
 
 abbrev pub reverb : Effect
@@ -210,6 +220,6 @@ fields =
       floats = λ s. s.comb_filter_state_l ∷ s.comb_filter_state_r ∷ (s.sample_rate ∷ []) ∷ [];
       flags = λ s. [];
       map_positions = λ f s.
-          state_of (map f s.comb_pos_l) (map f s.comb_pos_r) (map f s.allpass_pos_l) (map f s.allpass_pos_r) (f s.predelay_pos) s.comb_filter_state_l s.comb_filter_state_r
-          s.sample_rate;
+          state_of (map f s.comb_pos_l) (map f s.comb_pos_r) (map f s.allpass_pos_l) (map f s.allpass_pos_r) (f s.predelay_pos) s.nonzero_places s.comb_filter_state_l
+          s.comb_filter_state_r s.sample_rate;
     }

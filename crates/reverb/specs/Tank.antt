@@ -4,10 +4,11 @@ use Rattle.std.specs.Prelude.{◌≡◌, ℕ, zero, suc, ◌+◌, ◌*◌, Bool,
 use Rattle.std.specs.Float.{nan, binary64}
 use Rattle.std.specs.Float.Ieee.{add}
 use Rattle.float64.specs.Number.{plus_zero}
-use Rattle.common.specs.Line.{next_place, line_at, table, all_zero}
-use Rattle.effect.specs.Parts.{Part, part, held_in}
-use Rattle.effect.specs.Effect.{Write, laid}
+use Rattle.common.specs.Line.{next_place, line_at, table}
+use Rattle.effect.specs.Parts.{Part, part}
+use Rattle.effect.specs.Effect.{Write, laid, gained, lost}
 use Rattle.reverb.specs.declared.tunings.Lengths.{Lengths}
+use Rattle.reverb.specs.declared.stepped.Stepped.{Stepped}
 use Rattle.reverb.specs.Freeverb.{comb_store, comb_fed, pass_output, pass_fed}
 use Rattle.reverb.specs.Tunings.{Side, left, right, comb_size, allpass_size, predelay_size, Capped}
 
@@ -95,12 +96,18 @@ comb_stored d z h i = comb_store (slice_index_or h i nan) (slice_index_or z i na
 unfoldable pub comb_write : Float → Float → Float → Lines → List Float → List Float → ℕ → Write
 comb_write x d f l z h i = record { place = place_of l i; value = comb_fed x (comb_stored d z h i) f }
 
--- a step of the combs l with the stores z, in the memory m: positions, stores and memory that it leaves, and the sum that it answers
-pub record CombsStep (x d f : Float) (l : Lines) (z : List Float) (m : List Float) (w' : List ℕ) (z' : List Float) (m' : List Float) (r : Float) : Type 0 where
+-- all of their writes
+abbrev pub combs_writes : Float → Float → Float → Lines → List Float → List Float → List Write
+combs_writes x d f l z m = table (comb_write x d f l z (combs_held l m)) 8
+
+-- a step of the combs l with the stores z, in the memory m: positions, stores and memory that it leaves, the sum that it answers, and what its writes change of the count
+pub record CombsStep (x d f : Float) (l : Lines) (z : List Float) (m : List Float) (w' : List ℕ) (z' : List Float) (m' : List Float) (r : Stepped) : Type 0 where
   pub positions : w' ≡ table (next_position l) 8
   pub stores : z' ≡ table (comb_stored d z (combs_held l m)) 8
-  pub memory : m' ≡ laid (table (comb_write x d f l z (combs_held l m)) 8) m
-  pub sum : r ≡ sum_of (combs_held l m) 8
+  pub memory : m' ≡ laid (combs_writes x d f l z m) m
+  pub sum : r.output ≡ sum_of (combs_held l m) 8
+  pub gained : r.gained ≡ gained (combs_writes x d f l z m)
+  pub lost : r.lost ≡ lost (combs_writes x d f l z m) m
 
 -- ---- a side's all-passes, with x into the first
 
@@ -115,11 +122,16 @@ passed_on x h (suc i) = pass_output (passed_on x h i) (slice_index_or h i nan)
 unfoldable pub allpass_write : Float → Lines → List Float → ℕ → Write
 allpass_write x l h i = record { place = place_of l i; value = pass_fed (passed_on x h i) (slice_index_or h i nan) }
 
--- a step of all of them
-pub record AllpassesStep (x : Float) (l : Lines) (m : List Float) (w' : List ℕ) (m' : List Float) (r : Float) : Type 0 where
+abbrev pub allpasses_writes : Float → Lines → List Float → List Write
+allpasses_writes x l m = table (allpass_write x l (allpasses_held l m)) 4
+
+-- a step of all of them, as of the combs
+pub record AllpassesStep (x : Float) (l : Lines) (m : List Float) (w' : List ℕ) (m' : List Float) (r : Stepped) : Type 0 where
   pub positions : w' ≡ table (next_position l) 4
-  pub memory : m' ≡ laid (table (allpass_write x l (allpasses_held l m)) 4) m
-  pub output : r ≡ passed_on x (allpasses_held l m) 4
+  pub memory : m' ≡ laid (allpasses_writes x l m) m
+  pub output : r.output ≡ passed_on x (allpasses_held l m) 4
+  pub gained : r.gained ≡ gained (allpasses_writes x l m)
+  pub lost : r.lost ≡ lost (allpasses_writes x l m) m
 
 -- ---- the predelay
 
@@ -134,10 +146,6 @@ delayed o w d x m = cond (d == 0) x (line_at o predelay_size w m d)
 unfoldable pub line_parts : ℕ → ℕ → List ℕ → List Part
 line_parts o apart [] = []
 line_parts o apart (n ∷ ns) = part o n ∷ line_parts (o + apart) apart ns
-
--- they hold zeros
-abbrev pub lines_zero : ℕ → ℕ → List ℕ → List Float → Bool
-lines_zero o apart ns m = all_zero (held_in (line_parts o apart ns) m)
 
 -- of lines with the lengths n
 unfoldable pub parts : Lengths → List Part

@@ -1,5 +1,6 @@
 -- How long the reverb's lines are: Freeverb's lengths at 44,100, scaled to the rate. Definitions only. Assumes nothing.
 use Rattle.std.specs.Prelude.{ℕ, ◌+◌, ◌-◌, ◌≤◌, min, max, Bool, true, cond, ◌&&◌, List, [], ◌∷◌, map, replicate, nat_le, slice_index, Float}
+use Rattle.std.specs.List.{sum}
 use Rattle.std.specs.Float.{binary64}
 use Rattle.std.specs.Float.Ieee.{mul, div}
 use Rattle.float64.specs.Number.{float_of, rate_fits, whole_part, round_half_away}
@@ -80,7 +81,10 @@ comb_lengths side rate = line_lengths comb_most comb_tunings side rate
 abbrev pub allpass_lengths : Side → Float → List ℕ
 allpass_lengths side rate = line_lengths allpass_most allpass_tunings side rate
 
--- ---- as the code hands them on
+-- ---- as the code hands them on, with the number of places in use: those of all lines of these lengths, and the predelay's
+
+abbrev pub used_by : List ℕ → List ℕ → List ℕ → List ℕ → ℕ
+used_by combl combr passl passr = sum combl + sum combr + sum passl + sum passr + predelay_size
 
 abbrev pub lengths_at : Float → Lengths
 lengths_at rate =
@@ -89,12 +93,13 @@ lengths_at rate =
       allpass_l = allpass_lengths left rate;
       comb_r = comb_lengths right rate;
       allpass_r = allpass_lengths right rate;
+      used = used_by (comb_lengths left rate) (comb_lengths right rate) (allpass_lengths left rate) (allpass_lengths right rate);
     }
 
 -- at a refused rate
 abbrev pub no_lengths : Lengths
 no_lengths =
-    record { comb_l = replicate 8 0; allpass_l = replicate 4 0; comb_r = replicate 8 0; allpass_r = replicate 4 0 }
+    record { comb_l = replicate 8 0; allpass_l = replicate 4 0; comb_r = replicate 8 0; allpass_r = replicate 4 0; used = 0 }
 
 -- as the code finds them: none at a refused rate
 abbrev pub lengths_for : Float → Lengths
@@ -103,8 +108,3 @@ lengths_for rate = cond (rate_fits rate) (lengths_at rate) no_lengths
 -- no length of these is more than `most`
 abbrev pub Capped : ℕ → List ℕ → Type 0
 Capped most lengths = (i : ℕ) → slice_index lengths i ≤ most
-
--- every line has room in the tank
-pub record Roomy (n : Lengths) : Type 0 where
-  pub combs : (side : Side) → Capped comb_most (sided n.comb_l n.comb_r side)
-  pub allpasses : (side : Side) → Capped allpass_most (sided n.allpass_l n.allpass_r side)

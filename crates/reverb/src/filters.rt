@@ -2,25 +2,30 @@
 ghost use Rattle.std.specs.Prelude.{◌≡◌, ◌+◌, ◌<◌, ◌≤◌};
 ghost use Rattle.std.proofs.Math.ListN as ListN;
 ghost use Rattle.std.specs.Float.{nan};
+ghost use Rattle.common.specs.Line.{nonzero};
 ghost use Rattle.reverb.specs.Tunings.{comb_size, allpass_size, predelay_size};
 ghost use Rattle.reverb.specs.Freeverb.{combed, comb_line, passed, pass_line};
 ghost use Rattle.reverb.specs.Tank.{delayed};
 ghost use Rattle.reverb.specs.Reverb.{delay_samples};
 
 use crate::Reverb;
+use crate::stepped::Stepped;
 
-// What a step of a comb answers, with its next store and position.
+// What a step of a comb answers, which is what its place held, with its next store, what the place gets, and its next position.
 #[derive(Clone, Copy)]
 pub struct Combed {
     pub output: f64,
     pub filter_state: f64,
+    pub fed: f64,
     pub pos: u32,
 }
 
-// What a step of an all-pass answers, with its next position.
+// What a step of an all-pass answers, with what its place held and gets, and its next position.
 #[derive(Clone, Copy)]
 pub struct Passed {
     pub output: f64,
+    pub held: f64,
+    pub fed: f64,
     pub pos: u32,
 }
 
@@ -36,16 +41,18 @@ pub fn process_comb(
 ) -> Combed
     requires inside { pos < ListN.length line.old }
     requires short { ListN.length line.old ≤ comb_size }
-    ensures value { result ≡ combed (ListN.get_or line.old pos nan) (ListN.length line.old) pos filter_state damping }
+    ensures value { result ≡ combed (ListN.get_or line.old pos nan) (ListN.length line.old) pos filter_state input damping feedback }
     ensures line_after { line.new ≡ comb_line line.old pos filter_state input damping feedback }
 {
     let w = pos as usize;
     let output = line[w];
     let store = output * (1.0 - damping) + filter_state * damping;
-    line[w] = input + store * feedback;
+    let fed = input + store * feedback;
+    line[w] = fed;
     Combed {
         output,
         filter_state: store,
+        fed,
         pos: common::next_place(line.len(), w),
     }
 }
@@ -59,10 +66,13 @@ pub fn process_allpass(line: &mut [f64], pos: u32, input: f64) -> Passed
     ensures line_after { line.new ≡ pass_line line.old pos input }
 {
     let w = pos as usize;
-    let buffered = line[w];
-    line[w] = input + buffered * 0.5;
+    let held = line[w];
+    let fed = input + held * 0.5;
+    line[w] = fed;
     Passed {
-        output: -input + buffered,
+        output: -input + held,
+        held,
+        fed,
         pos: common::next_place(line.len(), w),
     }
 }
@@ -81,23 +91,29 @@ pub fn predelay_samples(control: f64, rate: f64) -> u64
 
 // The predelay on its part of the tank: it writes first, so that a delay of 0 passes the audio itself.
 #[tactic(auto, using(crate::proofs::Predelay::delayed_cases))]
-pub fn process_predelay(line: &mut [f64], pos: u32, samples: u64, input: f64) -> f64
+pub fn process_predelay(line: &mut [f64], pos: u32, samples: u64, input: f64) -> Stepped
     requires line_len { ListN.length line.old ≡ predelay_size }
     requires pos_lt_predelay_size { pos < predelay_size }
     requires samples_lt_predelay_size { samples < predelay_size }
-    ensures value { result ≡ delayed 0 pos samples input line.old }
+    ensures value { result.output ≡ delayed 0 pos samples input line.old }
+    ensures gained { result.gained ≡ nonzero input }
+    ensures lost { result.lost ≡ nonzero (ListN.get_or line.old pos nan) }
     ensures line_after { line.new ≡ ListN.set line.old pos input }
 {
     let w = pos as usize;
     let d = samples as usize;
+    let lost = common::nonzero(line[w]);
     line[w] = input;
-    if d == 0 {
-        return input;
+    let output = if d == 0 {
+        input
+    } else if w >= d {
+        line[w - d]
+    } else {
+        line[Reverb::MAX_PREDELAY_SIZE - (d - w)]
+    };
+    Stepped {
+        output,
+        gained: common::nonzero(input),
+        lost,
     }
-    if w >= d {
-        let back = w - d;
-        return line[back];
-    }
-    let back = Reverb::MAX_PREDELAY_SIZE - (d - w);
-    line[back]
 }

@@ -2,26 +2,21 @@
 // by value, but for `Lent::tick` of tick.rt.
 #![tactic(auto)]
 
-ghost use Rattle.std.specs.Prelude.{◌≡◌, if◌then◌else◌, IfOk, Float};
+ghost use Rattle.std.specs.Prelude.{◌≡◌, if◌then◌else◌, Float};
 ghost use Rattle.float64.specs.Number.{rate_fits};
-ghost use Rattle.port.specs.Answer.{number_of, silence_reply};
-ghost use Rattle.effect.specs.Run.{reset, ask, number_in};
-ghost use Rattle.effect.specs.Contract.{Does};
 ghost use Rattle.effect.specs.Needed.{places_if_accepted};
-ghost use Rattle.reverb.specs.Tunings.{lengths_at, lengths_for};
-ghost use Rattle.reverb.specs.Tank.{tank_size};
-ghost use Rattle.reverb.specs.Reverb.{Tick, page, reverb, fresh, state_fits, quiet};
+ghost use Rattle.reverb.specs.Reverb.{Tick, page, reverb, fresh};
 
 mod filters;
+mod stepped;
 mod tank;
 mod tick;
 mod tunings;
 
-use crate::tunings::Lengths;
 use effect::{Cleared, InMemory, Unit};
 use port::Refusal;
 
-// Positions and damping stores, a side at a time, and the rate.
+// Positions and damping stores, a side at a time, the count and the rate.
 // Left and right are fields of their own and no `Sides`, here and in `Lent`: the C interface lends them so, and the Rust names them so.
 #[derive(Clone, Copy)]
 pub struct Reverb {
@@ -30,6 +25,8 @@ pub struct Reverb {
     pub allpass_pos_l: [u32; 4],
     pub allpass_pos_r: [u32; 4],
     pub predelay_pos: u32,
+    // How many places in use are neither +0 nor -0.
+    pub nonzero_places: u32,
     pub comb_filter_state_l: [f64; 8],
     pub comb_filter_state_r: [f64; 8],
     pub sample_rate: f64,
@@ -43,6 +40,7 @@ pub struct Lent<'a> {
     pub allpass_pos_l: &'a mut [u32; 4],
     pub allpass_pos_r: &'a mut [u32; 4],
     pub predelay_pos: &'a mut u32,
+    pub nonzero_places: &'a mut u32,
     pub comb_filter_state_l: &'a mut [f64; 8],
     pub comb_filter_state_r: &'a mut [f64; 8],
     pub sample_rate: f64,
@@ -90,7 +88,7 @@ impl Reverb {
         float64::rate_fits(rate).then_some(Reverb::PLACES)
     }
 
-    // Positions 0 and damping stores +0, at the rate.
+    // Positions 0, damping stores +0 and no place that is neither zero, at the rate.
     fn fresh(rate: f64) -> Reverb
         ensures { result ≡ fresh rate }
     {
@@ -100,56 +98,11 @@ impl Reverb {
             allpass_pos_l: [0; 4],
             allpass_pos_r: [0; 4],
             predelay_pos: 0,
+            nonzero_places: 0,
             comb_filter_state_l: [0.0; 8],
             comb_filter_state_r: [0.0; 8],
             sample_rate: rate,
         }
-    }
-
-    // The state test, by every line's length, which the question goes on with. The stores may hold any float.
-    #[tactic(auto, using(crate::proofs::Laws::fits_by))]
-    fn state_fits(self, n: Lengths) -> bool
-        requires { n ≡ lengths_for self.sample_rate }
-        ensures { result ≡ state_fits self }
-    {
-        tank::positions_fit(
-            &self.comb_pos_l,
-            &self.comb_pos_r,
-            &self.allpass_pos_l,
-            &self.allpass_pos_r,
-            self.predelay_pos,
-            n,
-        )
-    }
-
-    // Every line's length, where state and memory pass their tests: causes 4 and 3. It is `checked` for the question, which goes on with the lengths.
-    fn checked_lengths(self, places: usize) -> Result<Lengths, Refusal>
-        ensures number { number_of result ≡ number_in reverb reset places self }
-        ensures lengths { IfOk result (λ n. n ≡ lengths_at self.sample_rate) }
-    {
-        let n = tunings::scaled_lengths(self.sample_rate);
-        effect::check_state(
-            self.state_fits(n),
-            effect::check_memory(Reverb::PLACES, places),
-        )?;
-        Ok(n)
-    }
-
-    // Whether all sixteen damping stores are +0 or -0.
-    #[tactic(auto, unfolding(crate::specs::Reverb::quiet))]
-    fn quiet(self) -> bool
-        ensures { result ≡ quiet self }
-    {
-        common::all_zero(&self.comb_filter_state_l) & common::all_zero(&self.comb_filter_state_r)
-    }
-
-    // Silent? Whether every damping store and every place in use is +0 or -0: a store alone would bring the sound back. Its own, and no trait's: the places in use
-    // are 25 parts of the tank, by lengths that the state test has found.
-    pub fn silent(self, mem: &[f64]) -> Result<bool, Refusal>
-        ensures { Does reverb ask self mem.now self mem.now (silence_reply result) }
-    {
-        let n = self.checked_lengths(mem.len())?;
-        Ok(self.quiet() && tank::places_zero(n, mem))
     }
 }
 
@@ -182,9 +135,28 @@ impl Unit for Reverb {
 
     // Put in line, as a call would be handed a copy of the state: a reset took 432 bytes of stack of its own in place of 144.
     #[inline(always)]
+    #[tactic(auto, using(crate::proofs::Laws::fits_by))]
     fn fitting_places(self) -> Option<u64> {
-        let n = tunings::scaled_lengths(self.sample_rate);
-        self.state_fits(n).then_some(Reverb::PLACES)
+        let fits = tank::numbers_fit(
+            &self.comb_pos_l,
+            &self.comb_pos_r,
+            &self.allpass_pos_l,
+            &self.allpass_pos_r,
+            self.predelay_pos,
+            self.nonzero_places,
+            tunings::scaled_lengths(self.sample_rate),
+        );
+        fits.then_some(Reverb::PLACES)
+    }
+
+    // Whether all sixteen damping stores are +0 or -0: a store alone would bring the sound back.
+    #[tactic(auto, unfolding(crate::specs::Reverb::quiet))]
+    fn quiet(self) -> bool {
+        common::all_zero(&self.comb_filter_state_l) & common::all_zero(&self.comb_filter_state_r)
+    }
+
+    fn count(self) -> u32 {
+        self.nonzero_places
     }
 }
 

@@ -10,7 +10,7 @@ ghost use Rattle.reverb.specs.Tank.{tank_size};
 ghost use Rattle.reverb.specs.Reverb.{reverb, tick_of, controls_of, lent_state, SameParts, state_fits, Advances};
 
 use crate::filters::{predelay_samples, process_predelay};
-use crate::tank::{allpasses, combs, positions_fit};
+use crate::tank::{allpasses, combs, numbers_fit};
 use crate::tunings::{Lengths, lengths_at};
 use crate::{Lent, Reverb};
 use effect::Ticked;
@@ -70,7 +70,7 @@ impl Lent<'_> {
             n.comb_l,
             mem,
             0,
-            delayed,
+            delayed.output,
             feedback,
             damping,
         );
@@ -80,7 +80,7 @@ impl Lent<'_> {
             n.comb_r,
             mem,
             Reverb::COMBS_R,
-            delayed,
+            delayed.output,
             feedback,
             damping,
         );
@@ -89,17 +89,20 @@ impl Lent<'_> {
             n.allpass_l,
             mem,
             Reverb::ALLPASSES_L,
-            sum_l * 0.125,
+            sum_l.output * 0.125,
         );
         let wet_r = allpasses(
             self.allpass_pos_r,
             n.allpass_r,
             mem,
             Reverb::ALLPASSES_R,
-            sum_r * 0.125,
+            sum_r.output * 0.125,
         );
-        let left = common::blend(input, wet_l, mix);
-        let right = common::blend(input, wet_r, mix);
+        let gained = delayed.gained + sum_l.gained + sum_r.gained + wet_l.gained + wet_r.gained;
+        let lost = delayed.lost + sum_l.lost + sum_r.lost + wet_l.lost + wet_r.lost;
+        *self.nonzero_places = common::recount(n.used, *self.nonzero_places, gained, lost);
+        let left = common::blend(input, wet_l.output, mix);
+        let right = common::blend(input, wet_r.output, mix);
         Answer::Two(left, right)
     }
 
@@ -118,12 +121,13 @@ impl Lent<'_> {
             (answer_reply result 0) }
     {
         let n = lengths_at(self.sample_rate);
-        let fits = positions_fit(
+        let fits = numbers_fit(
             self.comb_pos_l,
             self.comb_pos_r,
             self.allpass_pos_l,
             self.allpass_pos_r,
             *self.predelay_pos,
+            *self.nonzero_places,
             n,
         );
         if !fits {
@@ -167,6 +171,7 @@ impl Reverb {
             allpass_pos_l: &mut state.allpass_pos_l,
             allpass_pos_r: &mut state.allpass_pos_r,
             predelay_pos: &mut state.predelay_pos,
+            nonzero_places: &mut state.nonzero_places,
             comb_filter_state_l: &mut state.comb_filter_state_l,
             comb_filter_state_r: &mut state.comb_filter_state_r,
             sample_rate: state.sample_rate,

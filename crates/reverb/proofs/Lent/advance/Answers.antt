@@ -1,14 +1,17 @@
 -- `Lent::advance`: the predelay writes and reads, then the combs step, then the all-passes. Assumes nothing.
-use Rattle.std.proofs.Common.{◌+◌, set, refl, ap, ◌∙◌, arith}
-use lib.Ieee.{Float, binary64, add, mul, le, of_bits, of_int, round}
+use Rattle.std.proofs.Common.{◌+◌, ◌≤◌, set, refl, ap, ◌∙◌, arith}
+use lib.Ieee.{Float, nan, binary64, add, mul, le, of_bits, of_int, round}
 use lib.Ieee as Ieee
 use borrow.Rule.Slice.PartMut.{put_mid}
 use Rattle.float64.proofs.Clamped.{clamp-in}
-use Rattle.common.proofs.Slices.{part-set}
+use Rattle.common.proofs.Slices.{part-get_or, part-set}
+use Rattle.common.specs.Line.{nonzero}
 use Rattle.common.specs.Signal.{blended}
+use Rattle.reverb.specs.declared.stepped.Stepped.{Stepped}
 use Rattle.reverb.specs.Tunings.{left, right, predelay_size}
 use Rattle.reverb.specs.Tank.{predelay_start, delayed}
 use Rattle.reverb.specs.Reverb.{delay_samples}
+use Rattle.reverb.proofs.Used.{used-most}
 use Rattle.reverb.proofs.Laws.{fits-parts}
 use Rattle.reverb.proofs.Predelay.{delay-less, delayed-part}
 use Rattle.reverb.proofs.Ticks.{advances}
@@ -39,6 +42,21 @@ allpasses-wet_l-requires-clause-in_lines c = rw c.requires.n_value ((fits-parts 
 pub allpasses-wet_r-requires-clause-in_lines : goal.allpasses-wet_r-requires-clause-in_lines
 allpasses-wet_r-requires-clause-in_lines c = rw c.requires.n_value ((fits-parts _ c.requires.unit_fits).allpasses right)
 
+-- no more are counted than the tank has places
+pub recount-self-requires : goal.recount-self-requires
+recount-self-requires c =
+    let few : (r : Stepped) → r.gained ≤ 8 = λ r. r.gained_few in
+    omega (
+      arith,
+      (fits-parts _ c.requires.unit_fits).count,
+      used-most c.args.self.now.sample_rate,
+      few c.process_predelay-delayed.result,
+      few c.combs-sum_l.result,
+      few c.combs-sum_r.result,
+      few c.allpasses-wet_l.result,
+      few c.allpasses-wet_r.result,
+    )
+
 pub returns-clause-advances : goal.returns-clause-advances
 unfolding of_bits of_int round
 returns-clause-advances c =
@@ -57,6 +75,11 @@ returns-clause-advances c =
     (ap (put_mid predelay_start predelay_size m) c.process_predelay-delayed.ensures.line_after
     ∙ part-set predelay_start predelay_size m w _ f.predelay c.requires.tank_size_bound
     ∙ ap (λ (x : Float). set m (predelay_start + w) x) audio)
-    c.combs-sum_l.ensures c.combs-sum_r.ensures c.allpasses-wet_l.ensures c.allpasses-wet_r.ensures c.next_place-self.ensures
-    (c.blend-left.ensures ∙ (λ i. blended (audio i) c.allpasses-wet_l.result (c.clamp-mix.ensures i)))
-    (c.blend-right.ensures ∙ (λ i. blended (audio i) c.allpasses-wet_r.result (c.clamp-mix.ensures i)))
+    c.combs-sum_l.ensures c.combs-sum_r.ensures c.allpasses-wet_l.ensures c.allpasses-wet_r.ensures
+    c.process_predelay-delayed.result
+    (c.process_predelay-delayed.ensures.gained ∙ ap nonzero audio)
+    (c.process_predelay-delayed.ensures.lost ∙ ap nonzero (part-get_or predelay_start predelay_size m w nan f.predelay))
+    c.next_place-self.ensures
+    c.recount-self.ensures
+    (c.blend-left.ensures ∙ (λ i. blended (audio i) c.allpasses-wet_l.result.output (c.clamp-mix.ensures i)))
+    (c.blend-right.ensures ∙ (λ i. blended (audio i) c.allpasses-wet_r.result.output (c.clamp-mix.ensures i)))

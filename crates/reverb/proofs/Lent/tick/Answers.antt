@@ -1,5 +1,5 @@
 -- `Lent::tick`: causes 4 and 3, then the ports' numbers, cause 5, then the tick. Assumes nothing.
-use Rattle.std.proofs.Common.{◌≡◌, ℕ, Bool, true, false, not, ◌||◌, List, length, refl, sym, ap, ◌∙◌, arith}
+use Rattle.std.proofs.Common.{◌≡◌, ℕ, Bool, true, false, not, ◌&&◌, ◌||◌, leb, List, length, refl, sym, ap, ◌∙◌, arith}
 use lib.Ieee.{Float, round, is_nan}
 use lib.Ieee as Ieee
 use Rattle.float64.specs.Number.{plus_zero, half, is_number}
@@ -24,7 +24,7 @@ use Rattle.reverb.proofs.Lent.tick.Goals as goal
 -- the lengths n are those for the rate of the state s
 module _ (s : Reverb) {n : Lengths} (found : n ≡ lengths_for s.sample_rate) where
   abbrev fit : Bool
-  fit = positions_fit s.comb_pos_l s.comb_pos_r s.allpass_pos_l s.allpass_pos_r s.predelay_pos n
+  fit = positions_fit s.comb_pos_l s.comb_pos_r s.allpass_pos_l s.allpass_pos_r s.predelay_pos n && leb s.nonzero_places n.used
 
   passed : true ≡ fit → state_fits s ≡ true
   passed e = sym (e ∙ fits_by s found)

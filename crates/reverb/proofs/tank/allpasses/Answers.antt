@@ -1,15 +1,17 @@
 -- `tank::allpasses` steps the four all-passes of a side, one after the other. Assumes nothing.
-use Rattle.std.proofs.Common.{ℕ, ◌+◌, ◌-◌, ◌<◌, ◌≢◌, length, get_or, refl, ap, arith, length-take, length-drop}
-use Rattle.common.specs.Line.{table}
-use Rattle.common.proofs.Tables.{tabled-more}
+use Rattle.std.proofs.Common.{◌∙◌, ◌≡◌, ℕ, ◌+◌, ◌-◌, ◌<◌, ◌≢◌, length, get_or, refl, ap, arith, length-take, length-drop}
+use lib.Ieee.{nan, of_bits}
+use Rattle.common.specs.Line.{zeros, table, nonzeros}
+use Rattle.common.proofs.Tables.{tabled-more, tabled-all}
 use Rattle.reverb.specs.declared.filters.Passed.{Passed}
-use Rattle.reverb.specs.Tank.{allpass_lines, allpasses_held, passed_on, allpass_write}
+use Rattle.reverb.specs.Tank.{allpass_lines, allpasses_held, passed_on, allpass_write, held, place_of}
 use Rattle.reverb.proofs.Apart.{lines_long, line-below, unmoved, allpass-apart, first-held, turned, pass-gives, pass-writes}
+use Rattle.reverb.proofs.Net.{table-table, gained-table, lost-table}
 use Rattle.reverb.proofs.tank.allpasses.Goals as goal
 
 pub loop-i-init : goal.loop-i-init
-unfolding table passed_on
-loop-i-init c = record { memory = refl; pos = refl; output = refl }
+unfolding table passed_on of_bits
+loop-i-init c = record { memory = refl; pos = refl; held = refl; fed = refl; output = refl }
 
 pub process_allpass-p-requires : goal.process_allpass-p-requires
 process_allpass-p-requires c =
@@ -39,5 +41,26 @@ loop-i-preserved c =
     record {
       memory = turned w m i apart l.mem l.invariant.memory (pass-writes a.input u m i h l.mem l.output k inside at same l.invariant.output (omega arith) c.process_allpass-p.ensures.line_after);
       pos = tabled-more _ i _ long l.invariant.pos (ap (λ (r : Passed). r.pos) gives);
+      held = tabled-more _ i _ (omega (arith, h)) l.invariant.held (ap (λ (r : Passed). r.held) gives);
+      fed = tabled-more _ i _ (omega (arith, h)) l.invariant.fed (ap (λ (r : Passed). r.fed) gives);
       output = ap (λ (r : Passed). r.output) gives;
+    }
+
+pub returns : goal.returns
+unfolding held allpass_write
+returns c =
+    let a = c.args in
+    let l = c.loop-i in
+    let u = allpass_lines a.o a.pos.now a.lengths in
+    let m = a.mem.now in
+    let w = allpass_write a.input u (allpasses_held u m) in
+    let all : l.i ≡ 4 = omega (arith, c.loop-i-test.false, l.auto) in
+    let fed = rw all at l.invariant.fed ∙ tabled-all _ 4 (zeros 4) refl in
+    let stood = rw all at l.invariant.held ∙ tabled-all _ 4 (zeros 4) refl ∙ table-table (λ k. get_or m (place_of u k) nan) 4 nan in
+    record {
+      positions = rw all at l.invariant.pos ∙ tabled-all _ 4 _ (lines_long c.requires.in_lines);
+      memory = rw all at l.invariant.memory;
+      output = rw all at l.invariant.output;
+      gained = c.nonzeros.ensures.value ∙ ap nonzeros fed ∙ gained-table w 4;
+      lost = c.nonzeros-2.ensures.value ∙ ap nonzeros stood ∙ lost-table w 4 m;
     }
