@@ -36,7 +36,7 @@ static uint32_t delay_reset(unit *u)
 
 static uint32_t delay_silent(const unit *u, int *silent)
 {
-    return room_delay_silent(&u->state.delay, u->memory, u->places, silent);
+    return room_delay_silent(&u->state.delay, silent);
 }
 
 static uint32_t delay_tick(unit *u, double audio, double out[3])
@@ -67,7 +67,7 @@ static uint32_t chorus_reset(unit *u)
 
 static uint32_t chorus_silent(const unit *u, int *silent)
 {
-    return room_chorus_silent(&u->state.chorus, u->memory, u->places, silent);
+    return room_chorus_silent(&u->state.chorus, silent);
 }
 
 static uint32_t chorus_tick(unit *u, double audio, double out[3])
@@ -103,7 +103,7 @@ static uint32_t flanger_reset(unit *u)
 
 static uint32_t flanger_silent(const unit *u, int *silent)
 {
-    return room_flanger_silent(&u->state.flanger, u->memory, u->places, silent);
+    return room_flanger_silent(&u->state.flanger, silent);
 }
 
 static uint32_t flanger_tick(unit *u, double audio, double out[3])
@@ -136,7 +136,7 @@ static uint32_t vibrato_reset(unit *u)
 
 static uint32_t vibrato_silent(const unit *u, int *silent)
 {
-    return room_vibrato_silent(&u->state.vibrato, u->memory, u->places, silent);
+    return room_vibrato_silent(&u->state.vibrato, silent);
 }
 
 static uint32_t vibrato_tick(unit *u, double audio, double out[3])
@@ -194,7 +194,7 @@ static uint32_t reverb_reset(unit *u)
 
 static uint32_t reverb_silent(const unit *u, int *silent)
 {
-    return room_reverb_silent(&u->state.reverb, u->memory, u->places, silent);
+    return room_reverb_silent(&u->state.reverb, silent);
 }
 
 static uint32_t reverb_tick(unit *u, double audio, double out[3])
@@ -256,7 +256,7 @@ static uint32_t tape_reset(unit *u)
 
 static uint32_t tape_silent(const unit *u, int *silent)
 {
-    return room_tape_delay_silent(&u->state.tape, u->memory, u->places, silent);
+    return room_tape_delay_silent(&u->state.tape, silent);
 }
 
 /* A refused read half answers a sum of +0, and that is played. */

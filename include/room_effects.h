@@ -17,13 +17,12 @@
  *   room_E_retune(&state, memory, places, ...)
  *                                        goes to another sample rate, its lines cleared (effects with lines)
  *   room_E_reset(&state, memory, places) back to what start left, at the same rate
- *   room_E_silent(&state, memory, places, &silent)
- *                                        asks whether the unit still sounds
+ *   room_E_silent(&state, &silent)       asks whether the unit still sounds
  *
  * Calls of an effect without lines, as the tremolo and the phaser, have no `memory, places`; the ticks of tremolo, reverb and
- * phaser have no age. Between calls the host leaves the state as the last call returned it. The four bytes behind a struct's
- * positions belong to no field: no call reads or writes them, and two states are compared field by field. Sizes in bytes:
- * tremolo 16, vibrato and flanger 24, chorus 40, delay 48, tape delay 64, phaser 208, reverb 240.
+ * phaser have no age. Between calls the host leaves the state as the last call returned it. Sizes in bytes: tremolo 16, vibrato
+ * and flanger 24, chorus 40, delay 48, tape delay 64, phaser 208, reverb 240. No struct has bytes between its fields or behind
+ * them.
  *
  * What a call returns
  *
@@ -38,7 +37,7 @@
  *      outside 0 to 32
  *   7  a half of a tick is out of turn: a read half while a read waits, a store half while none does (tape delay only)
  *
- * Where several apply, the first in this order is returned: start 1, 2, 3; retune 4, 1, 2, 3; reset and silent 4, 3; tick 4, 7,
+ * Where several apply, the first in this order is returned: start 1, 2, 3; retune 4, 1, 2, 3; reset 4, 3; silent 4; tick 4, 7,
  * 3, 5, 6, of which the tape delay's read half has 4, 7, 3, 5, and its store half 4, 7, 3, 6.
  *
  * A refused call changes nothing: every field of the state and every place of the memory is left as it was, to the bit. What it
@@ -86,11 +85,19 @@
  * Silence
  *
  * "Silent?" is answered yes where every place in use is +0 or -0, and with them what the state itself keeps of the sound: the
- * reverb's damping stores, the phaser's 24 numbers; while a read of the tape delay waits, it is no. A silent unit whose audio
- * is 0 (unset, +0 or -0; in delay, tape delay, chorus, flanger, reverb and phaser also NaN or infinite) and whose controls are
- * accepted puts out only +0 and -0, and is silent after the tick: it stays so until other audio comes. So a lamp that shows the
- * answer may be trusted. Of the tape delay that holds of each pair of halves where the host hands in a zero for a sum that is a
- * zero, as its formula does.
+ * reverb's damping stores, the phaser's 24 numbers; while a read of the tape delay waits, it is no. The call takes no memory: a
+ * state of lines keeps `nonzero_places`, the count of the places in use that are neither +0 nor -0 (a NaN counts, a subnormal
+ * number too). Start, retune and reset set it to 0, and a tick changes it by what it writes over what. So it is the number of
+ * these places after every call from a start on, as long as nobody else writes to the memory and the host leaves the state as
+ * it was returned. A host that writes there, or makes a state of its own, has to count itself: no call counts anew. From a
+ * count that is not the memory's, a tick goes on by the net change of all its places together, and stays at 0, or at the number
+ * of places in use, where that would take it beyond; a start, a retune or a reset puts it right.
+ *
+ * A silent unit whose audio is 0 (unset, +0 or -0; in delay, tape delay, chorus, flanger, reverb and phaser also NaN or
+ * infinite) and whose controls are accepted puts out only +0 and -0, and is silent after the tick: it stays so until other
+ * audio comes. So a lamp that shows the answer may be trusted, of every unit that was started and whose state and memory nobody
+ * else wrote. Of the tape delay that holds of each pair of halves where the host hands in a zero for a sum that is a zero, as
+ * its formula does.
  *
  * A unit that feeds back may never fall silent by itself, however long its audio is 0: delay and flanger with a feedback above
  * 0.5 (of the flanger also below -0.5), the tape delay from 0.5 on, and from 0.46875 on where it reads half way between two
@@ -113,8 +120,9 @@
  *
  * Calls are made in the mode that C starts a program in: rounding to nearest, subnormal numbers kept, exceptions masked. A host
  * that flushes subnormals to zero (FTZ, DAZ), as some do for speed, turns that off around the calls, or what is said here does
- * not hold: a line with a subnormal sample would be called silent. room_float_mode_ok asks; a host calls it at power-up, in
- * each thread that makes calls, since each thread has a mode of its own, which it gets from the one that makes it.
+ * not hold: a tick in that mode leaves a count that is not true, so that sound may be called silent, or silence not, until a
+ * start, a retune or a reset. room_float_mode_ok asks; a host calls it at power-up, in each thread that makes calls, since each
+ * thread has a mode of its own, which it gets from the one that makes it.
  *
  * `-ffast-math`, `-Ofast` and `-funsafe-math-optimizations` break that mode where they stand on the command that links the
  * program or a shared library that it loads: gcc then links crtfastmath.o, which sets FTZ and DAZ before main. (Seen with gcc
@@ -128,22 +136,22 @@
  * synchronisation. No call waits, allocates or calls the system. One that is cut off before it returns may have written part
  * of its state and places; its unit is then started anew.
  *
- * By the frames of the compiled functions a call takes at most 424 bytes of stack (a reverb's question; its other calls take at
- * most 296, and those of the other effects 96), and beside that what memset takes, the one function that the archive needs
- * from elsewhere. Where memset is bound at its first call, that takes some 3 KB more, once.
+ * By the frames of the compiled functions a call takes at most 808 bytes of stack (a reverb's tick; its question takes 392, its
+ * other calls at most 168, and those of the other effects 96), and beside that what memset takes, the one function that the
+ * archive needs from elsewhere. Where memset is bound at its first call, that takes some 3 KB more, once.
  *
  * What calls cost
  *
- * A tick takes some 10 ns (tremolo) to 66 to 72 ns (reverb at 44,100 to 96,000) on an Intel Xeon of 2.5 GHz, whatever the
- * length of the lines, but for three. The reverb takes 92 ns at rates whose lengths are not at hand (at hand are 44,100,
- * 48,000, 88,200, 96,000, 176,400 and 192,000), and more above some 130,000, where more than eight of its combs are equally
- * long and fall into one set of the cache; from 161,819 on all sixteen are. At 150,000, 176,400 and 192,000 it took 1.9 to 2.2
- * times as long as at 96,000, and at 162,000, whose lengths are not at hand, 2.4 times. A delay whose time is swept over a
- * line that no cache holds takes up to 150 ns. The tape delay's halves together take about twice as long as a delay's tick,
- * without what the host computes between them; with a time that is swept at 192,000, over 2,304,001 places, up to 170 ns.
- * Start, retune and reset write all places that are lent, at memset's speed; silent reads the places in use, up to the first
- * part of 512 that sounds. Seen there: reset 15 us for the reverb, 16 ms for a delay of 60 s at 192,000; silent, of a unit
- * that is, 28 us and 15 ms. A sample at 192,000 lasts 5.2 us: these calls belong between takes. docs/BENCHMARKS.md has more.
+ * A tick takes some 10 ns (tremolo) to 82 to 90 ns (reverb at 48,000) on an Intel Xeon of 2.5 GHz, whatever the length of the
+ * lines, but for three. The reverb takes some 25 ns more at rates whose lengths are not at hand (at hand are 44,100, 48,000,
+ * 88,200, 96,000, 176,400 and 192,000), and more above some 130,000, where more than eight of its combs are equally long and
+ * fall into one set of the cache; from 161,819 on all sixteen are. Before it kept a count it took 1.9 to 2.4 times as long
+ * there as at 96,000. A delay whose time is swept over a line that no cache holds takes up to 150 ns. The tape delay's halves
+ * together take about twice as long as a delay's tick, without what the host computes between them; with a time that is swept
+ * at 192,000, over 2,304,001 places, up to 170 ns. Start, retune and reset write all places that are lent, at memset's speed.
+ * Seen there: reset 15 us for the reverb, 16 ms for a delay of 60 s at 192,000. A sample at 192,000 lasts 5.2 us: these calls
+ * belong between takes. Silent reads the state alone, and takes some 7 to 15 ns, the reverb's some 50, whatever the lines'
+ * length. docs/BENCHMARKS.md has more.
  *
  * Curve numbers
  *
@@ -173,9 +181,10 @@
  * looked over; MINOR where an effect or a call is added; PATCH where neither is, as where a call answers otherwise in some
  * case. The archive does not tell its version: a controller is built with the header and the archive of one version. One that
  * mixes majors links without a word: with 1.x on one side, ticks write an age to an address that nobody gave them; with 2.x on
- * one side, the two take a position for numbers of different widths, and in delay, tape delay and reverb fields for others.
+ * one side, the two take a position for numbers of different widths, and in delay, tape delay and reverb fields for others;
+ * with 3.x on one side, calls hand on an address more or less than the other side takes, so that it takes one for another.
  */
-#define ROOM_EFFECTS_VERSION_MAJOR 3
+#define ROOM_EFFECTS_VERSION_MAJOR 4
 #define ROOM_EFFECTS_VERSION_MINOR 0
 #define ROOM_EFFECTS_VERSION_PATCH 0
 
@@ -267,101 +276,106 @@ uint32_t room_raw_tremolo_tick(double *lfo_phase, double sample_rate, uint32_t s
 uint32_t room_raw_tremolo_silent(double lfo_phase, double sample_rate, uint32_t *out);
 
 uint32_t room_raw_vibrato_start(double new_sample_rate, double *memory, uint64_t places, uint32_t *write_pos,
-                                double *lfo_phase, double *sample_rate);
+                                uint32_t *nonzero_places, double *lfo_phase, double *sample_rate);
 uint32_t room_raw_vibrato_retune(double new_sample_rate, double *memory, uint64_t places, uint32_t *write_pos,
-                                 double *lfo_phase, double *sample_rate);
-uint32_t room_raw_vibrato_reset(double *memory, uint64_t places, uint32_t *write_pos, double *lfo_phase, double sample_rate);
-uint32_t room_raw_vibrato_tick(uint32_t *write_pos, double *lfo_phase, double sample_rate, double *memory, uint64_t places,
-                               uint32_t set, double audio, double depth, double mix, double frequency, double sine,
-                               double *out, uint32_t *age);
-uint32_t room_raw_vibrato_silent(uint32_t write_pos, double lfo_phase, double sample_rate, const double *memory,
-                                 uint64_t places, uint32_t *out);
+                                 uint32_t *nonzero_places, double *lfo_phase, double *sample_rate);
+uint32_t room_raw_vibrato_reset(double *memory, uint64_t places, uint32_t *write_pos, uint32_t *nonzero_places,
+                                double *lfo_phase, double sample_rate);
+uint32_t room_raw_vibrato_tick(uint32_t *write_pos, uint32_t *nonzero_places, double *lfo_phase, double sample_rate,
+                               double *memory, uint64_t places, uint32_t set, double audio, double depth, double mix,
+                               double frequency, double sine, double *out, uint32_t *age);
+uint32_t room_raw_vibrato_silent(uint32_t write_pos, uint32_t nonzero_places, double lfo_phase, double sample_rate,
+                                 uint32_t *out);
 
 uint32_t room_raw_chorus_start(double new_sample_rate, double *memory, uint64_t places, uint32_t *write_pos,
-                               double lfo_phases[3], double *sample_rate);
+                               uint32_t *nonzero_places, double lfo_phases[3], double *sample_rate);
 uint32_t room_raw_chorus_retune(double new_sample_rate, double *memory, uint64_t places, uint32_t *write_pos,
-                                double lfo_phases[3], double *sample_rate);
-uint32_t room_raw_chorus_reset(double *memory, uint64_t places, uint32_t *write_pos, double lfo_phases[3],
-                               double sample_rate);
-uint32_t room_raw_chorus_tick(uint32_t *write_pos, double lfo_phases[3], double sample_rate, double *memory, uint64_t places,
-                              uint32_t set, double audio, double depth, double mix, double frequency, double sine0,
-                              double sine1, double sine2, double out[3], uint32_t *age);
-uint32_t room_raw_chorus_silent(uint32_t write_pos, const double lfo_phases[3], double sample_rate, const double *memory,
-                                uint64_t places, uint32_t *out);
+                                uint32_t *nonzero_places, double lfo_phases[3], double *sample_rate);
+uint32_t room_raw_chorus_reset(double *memory, uint64_t places, uint32_t *write_pos, uint32_t *nonzero_places,
+                               double lfo_phases[3], double sample_rate);
+uint32_t room_raw_chorus_tick(uint32_t *write_pos, uint32_t *nonzero_places, double lfo_phases[3], double sample_rate,
+                              double *memory, uint64_t places, uint32_t set, double audio, double depth, double mix,
+                              double frequency, double sine0, double sine1, double sine2, double out[3], uint32_t *age);
+uint32_t room_raw_chorus_silent(uint32_t write_pos, uint32_t nonzero_places, const double lfo_phases[3], double sample_rate,
+                                uint32_t *out);
 
 uint32_t room_raw_flanger_start(double new_sample_rate, double *memory, uint64_t places, uint32_t *write_pos,
-                                double *lfo_phase, double *sample_rate);
+                                uint32_t *nonzero_places, double *lfo_phase, double *sample_rate);
 uint32_t room_raw_flanger_retune(double new_sample_rate, double *memory, uint64_t places, uint32_t *write_pos,
-                                 double *lfo_phase, double *sample_rate);
-uint32_t room_raw_flanger_reset(double *memory, uint64_t places, uint32_t *write_pos, double *lfo_phase, double sample_rate);
-uint32_t room_raw_flanger_tick(uint32_t *write_pos, double *lfo_phase, double sample_rate, double *memory, uint64_t places,
-                               uint32_t set, double audio, double depth, double feedback, double mix, double frequency,
-                               double sine0, double sine1, double out[3], uint32_t *age);
-uint32_t room_raw_flanger_silent(uint32_t write_pos, double lfo_phase, double sample_rate, const double *memory,
-                                 uint64_t places, uint32_t *out);
+                                 uint32_t *nonzero_places, double *lfo_phase, double *sample_rate);
+uint32_t room_raw_flanger_reset(double *memory, uint64_t places, uint32_t *write_pos, uint32_t *nonzero_places,
+                                double *lfo_phase, double sample_rate);
+uint32_t room_raw_flanger_tick(uint32_t *write_pos, uint32_t *nonzero_places, double *lfo_phase, double sample_rate,
+                               double *memory, uint64_t places, uint32_t set, double audio, double depth, double feedback,
+                               double mix, double frequency, double sine0, double sine1, double out[3], uint32_t *age);
+uint32_t room_raw_flanger_silent(uint32_t write_pos, uint32_t nonzero_places, double lfo_phase, double sample_rate,
+                                 uint32_t *out);
 
 uint32_t room_raw_delay_start(double new_sample_rate, double new_max_delay_secs, double new_delay_smooth_coef,
                               uint32_t new_linear_time, double *memory, uint64_t places, uint32_t *write_pos,
-                              double *smoothed_delay, double *sample_rate, double *delay_smooth_coef,
-                              double *max_delay_secs, uint32_t *delay_primed, uint32_t *linear_time);
+                              uint32_t *nonzero_places, double *smoothed_delay, double *sample_rate,
+                              double *delay_smooth_coef, double *max_delay_secs, uint32_t *delay_primed,
+                              uint32_t *linear_time);
 uint32_t room_raw_delay_retune(double new_sample_rate, double new_delay_smooth_coef, double *memory, uint64_t places,
-                               uint32_t *write_pos, double *smoothed_delay, double *sample_rate, double *delay_smooth_coef,
-                               double max_delay_secs, uint32_t *delay_primed, uint32_t linear_time);
-uint32_t room_raw_delay_reset(double *memory, uint64_t places, uint32_t *write_pos, double *smoothed_delay,
-                              double sample_rate, double delay_smooth_coef, double max_delay_secs, uint32_t *delay_primed,
-                              uint32_t linear_time);
-uint32_t room_raw_delay_tick(uint32_t *write_pos, double *smoothed_delay, double sample_rate, double delay_smooth_coef,
-                             double max_delay_secs, uint32_t *delay_primed, uint32_t linear_time, double *memory,
-                             uint64_t places, uint32_t set, double audio, double time, double feedback, double mix,
-                             double milliseconds, double *out, uint32_t *age);
-uint32_t room_raw_delay_silent(uint32_t write_pos, double smoothed_delay, double sample_rate, double delay_smooth_coef,
-                               double max_delay_secs, uint32_t delay_primed, uint32_t linear_time, const double *memory,
-                               uint64_t places, uint32_t *out);
+                               uint32_t *write_pos, uint32_t *nonzero_places, double *smoothed_delay, double *sample_rate,
+                               double *delay_smooth_coef, double max_delay_secs, uint32_t *delay_primed,
+                               uint32_t linear_time);
+uint32_t room_raw_delay_reset(double *memory, uint64_t places, uint32_t *write_pos, uint32_t *nonzero_places,
+                              double *smoothed_delay, double sample_rate, double delay_smooth_coef, double max_delay_secs,
+                              uint32_t *delay_primed, uint32_t linear_time);
+uint32_t room_raw_delay_tick(uint32_t *write_pos, uint32_t *nonzero_places, double *smoothed_delay, double sample_rate,
+                             double delay_smooth_coef, double max_delay_secs, uint32_t *delay_primed, uint32_t linear_time,
+                             double *memory, uint64_t places, uint32_t set, double audio, double time, double feedback,
+                             double mix, double milliseconds, double *out, uint32_t *age);
+uint32_t room_raw_delay_silent(uint32_t write_pos, uint32_t nonzero_places, double smoothed_delay, double sample_rate,
+                               double delay_smooth_coef, double max_delay_secs, uint32_t delay_primed, uint32_t linear_time,
+                               uint32_t *out);
 
 uint32_t room_raw_tape_delay_start(double new_sample_rate, double new_delay_smooth_coef, double *memory, uint64_t places,
-                                   uint32_t *write_pos, double *smoothed_delay, double *kept_audio, double *kept_read,
-                                   double *kept_mix, double *sample_rate, double *delay_smooth_coef, uint32_t *delay_primed,
-                                   uint32_t *waiting);
+                                   uint32_t *write_pos, uint32_t *nonzero_places, double *smoothed_delay, double *kept_audio,
+                                   double *kept_read, double *kept_mix, double *sample_rate, double *delay_smooth_coef,
+                                   uint32_t *delay_primed, uint32_t *waiting);
 uint32_t room_raw_tape_delay_retune(double new_sample_rate, double new_delay_smooth_coef, double *memory, uint64_t places,
-                                    uint32_t *write_pos, double *smoothed_delay, double *kept_audio, double *kept_read,
-                                    double *kept_mix, double *sample_rate, double *delay_smooth_coef,
-                                    uint32_t *delay_primed, uint32_t *waiting);
-uint32_t room_raw_tape_delay_reset(double *memory, uint64_t places, uint32_t *write_pos, double *smoothed_delay,
-                                   double *kept_audio, double *kept_read, double *kept_mix, double sample_rate,
-                                   double delay_smooth_coef, uint32_t *delay_primed, uint32_t *waiting);
-uint32_t room_raw_tape_delay_read_half(uint32_t write_pos, double *smoothed_delay, double *kept_audio, double *kept_read,
-                                       double *kept_mix, double sample_rate, double delay_smooth_coef,
-                                       uint32_t *delay_primed, uint32_t *waiting, const double *memory, uint64_t places,
-                                       uint32_t set, double audio, double time, double feedback, double mix, double *sum,
-                                       uint32_t *age);
-uint32_t room_raw_tape_delay_store_half(uint32_t *write_pos, double smoothed_delay, double *kept_audio, double *kept_read,
-                                        double *kept_mix, double sample_rate, double delay_smooth_coef,
-                                        uint32_t delay_primed, uint32_t *waiting, double *memory, uint64_t places,
-                                        double saturated, double *out);
-uint32_t room_raw_tape_delay_silent(uint32_t write_pos, double smoothed_delay, double kept_audio, double kept_read,
-                                    double kept_mix, double sample_rate, double delay_smooth_coef, uint32_t delay_primed,
-                                    uint32_t waiting, const double *memory, uint64_t places, uint32_t *out);
+                                    uint32_t *write_pos, uint32_t *nonzero_places, double *smoothed_delay,
+                                    double *kept_audio, double *kept_read, double *kept_mix, double *sample_rate,
+                                    double *delay_smooth_coef, uint32_t *delay_primed, uint32_t *waiting);
+uint32_t room_raw_tape_delay_reset(double *memory, uint64_t places, uint32_t *write_pos, uint32_t *nonzero_places,
+                                   double *smoothed_delay, double *kept_audio, double *kept_read, double *kept_mix,
+                                   double sample_rate, double delay_smooth_coef, uint32_t *delay_primed, uint32_t *waiting);
+uint32_t room_raw_tape_delay_read_half(uint32_t write_pos, uint32_t nonzero_places, double *smoothed_delay,
+                                       double *kept_audio, double *kept_read, double *kept_mix, double sample_rate,
+                                       double delay_smooth_coef, uint32_t *delay_primed, uint32_t *waiting,
+                                       const double *memory, uint64_t places, uint32_t set, double audio, double time,
+                                       double feedback, double mix, double *sum, uint32_t *age);
+uint32_t room_raw_tape_delay_store_half(uint32_t *write_pos, uint32_t *nonzero_places, double smoothed_delay,
+                                        double *kept_audio, double *kept_read, double *kept_mix, double sample_rate,
+                                        double delay_smooth_coef, uint32_t delay_primed, uint32_t *waiting, double *memory,
+                                        uint64_t places, double saturated, double *out);
+uint32_t room_raw_tape_delay_silent(uint32_t write_pos, uint32_t nonzero_places, double smoothed_delay, double kept_audio,
+                                    double kept_read, double kept_mix, double sample_rate, double delay_smooth_coef,
+                                    uint32_t delay_primed, uint32_t waiting, uint32_t *out);
 
 uint32_t room_raw_reverb_start(double new_sample_rate, double *memory, uint64_t places, uint32_t comb_pos_l[8],
                                uint32_t comb_pos_r[8], uint32_t allpass_pos_l[4], uint32_t allpass_pos_r[4],
-                               uint32_t *predelay_pos, double comb_filter_state_l[8], double comb_filter_state_r[8],
-                               double *sample_rate);
+                               uint32_t *predelay_pos, uint32_t *nonzero_places, double comb_filter_state_l[8],
+                               double comb_filter_state_r[8], double *sample_rate);
 uint32_t room_raw_reverb_retune(double new_sample_rate, double *memory, uint64_t places, uint32_t comb_pos_l[8],
                                 uint32_t comb_pos_r[8], uint32_t allpass_pos_l[4], uint32_t allpass_pos_r[4],
-                                uint32_t *predelay_pos, double comb_filter_state_l[8], double comb_filter_state_r[8],
-                                double *sample_rate);
+                                uint32_t *predelay_pos, uint32_t *nonzero_places, double comb_filter_state_l[8],
+                                double comb_filter_state_r[8], double *sample_rate);
 uint32_t room_raw_reverb_reset(double *memory, uint64_t places, uint32_t comb_pos_l[8], uint32_t comb_pos_r[8],
                                uint32_t allpass_pos_l[4], uint32_t allpass_pos_r[4], uint32_t *predelay_pos,
-                               double comb_filter_state_l[8], double comb_filter_state_r[8], double sample_rate);
+                               uint32_t *nonzero_places, double comb_filter_state_l[8], double comb_filter_state_r[8],
+                               double sample_rate);
 uint32_t room_raw_reverb_tick(uint32_t comb_pos_l[8], uint32_t comb_pos_r[8], uint32_t allpass_pos_l[4],
-                              uint32_t allpass_pos_r[4], uint32_t *predelay_pos, double comb_filter_state_l[8],
-                              double comb_filter_state_r[8], double sample_rate, double *memory, uint64_t places,
-                              uint32_t set, double audio, double size, double damping, double mix, double predelay,
-                              double out[2]);
+                              uint32_t allpass_pos_r[4], uint32_t *predelay_pos, uint32_t *nonzero_places,
+                              double comb_filter_state_l[8], double comb_filter_state_r[8], double sample_rate,
+                              double *memory, uint64_t places, uint32_t set, double audio, double size, double damping,
+                              double mix, double predelay, double out[2]);
 uint32_t room_raw_reverb_silent(const uint32_t comb_pos_l[8], const uint32_t comb_pos_r[8], const uint32_t allpass_pos_l[4],
-                                const uint32_t allpass_pos_r[4], uint32_t predelay_pos, const double comb_filter_state_l[8],
-                                const double comb_filter_state_r[8], double sample_rate, const double *memory,
-                                uint64_t places, uint32_t *out);
+                                const uint32_t allpass_pos_r[4], uint32_t predelay_pos, uint32_t nonzero_places,
+                                const double comb_filter_state_l[8], const double comb_filter_state_r[8], double sample_rate,
+                                uint32_t *out);
 
 uint32_t room_raw_phaser_start(double new_sample_rate, double allpass_x1_l[6], double allpass_x1_r[6],
                                double allpass_y1_l[6], double allpass_y1_r[6], double *lfo_phase, double *sample_rate);
@@ -429,27 +443,31 @@ static inline uint32_t room_tremolo_silent(const room_tremolo *state, int *silen
 /* The vibrato. One line, n = 20: at 44,100 it needs 892 places, at 8,000 170, at 192,000 3,850. */
 
 typedef struct room_vibrato {
-    uint32_t write_pos; /* below L */
-    double lfo_phase;   /* at least 0 and below 1 */
-    double sample_rate; /* 8,000 to 192,000 */
+    uint32_t write_pos;      /* below L */
+    uint32_t nonzero_places; /* how many places of the line are neither +0 nor -0: at most L */
+    double lfo_phase;        /* at least 0 and below 1 */
+    double sample_rate;      /* 8,000 to 192,000 */
 } room_vibrato;
 
 /* A vibrato at this rate: position 0, phase +0, +0 in every place. Refusals: 1, 3. */
 static inline uint32_t room_vibrato_start(room_vibrato *state, double *memory, uint64_t places, double sample_rate)
 {
-    return room_raw_vibrato_start(sample_rate, memory, places, &state->write_pos, &state->lfo_phase, &state->sample_rate);
+    return room_raw_vibrato_start(sample_rate, memory, places, &state->write_pos, &state->nonzero_places, &state->lfo_phase,
+                                  &state->sample_rate);
 }
 
 /* As a new start: position 0, phase +0, +0 in every place, the same rate or another. Refusals: 4, 1, 3. */
 static inline uint32_t room_vibrato_retune(room_vibrato *state, double *memory, uint64_t places, double sample_rate)
 {
-    return room_raw_vibrato_retune(sample_rate, memory, places, &state->write_pos, &state->lfo_phase, &state->sample_rate);
+    return room_raw_vibrato_retune(sample_rate, memory, places, &state->write_pos, &state->nonzero_places, &state->lfo_phase,
+                                   &state->sample_rate);
 }
 
-/* Position 0, phase +0, +0 in every place; the rate stays. Refusals: 4, 3. */
+/* Position 0, count 0, phase +0, +0 in every place; the rate stays. Refusals: 4, 3. */
 static inline uint32_t room_vibrato_reset(room_vibrato *state, double *memory, uint64_t places)
 {
-    return room_raw_vibrato_reset(memory, places, &state->write_pos, &state->lfo_phase, state->sample_rate);
+    return room_raw_vibrato_reset(memory, places, &state->write_pos, &state->nonzero_places, &state->lfo_phase,
+                                  state->sample_rate);
 }
 
 /*
@@ -463,17 +481,17 @@ static inline uint32_t room_vibrato_tick(room_vibrato *state, double *memory, ui
                                          room_port depth, room_port mix, double frequency, double sine, double out[1],
                                          uint32_t *age)
 {
-    return room_raw_vibrato_tick(&state->write_pos, &state->lfo_phase, state->sample_rate, memory, places,
-                                 room_set_mask(audio, depth, mix), audio.value, depth.value, mix.value, frequency,
+    return room_raw_vibrato_tick(&state->write_pos, &state->nonzero_places, &state->lfo_phase, state->sample_rate, memory,
+                                 places, room_set_mask(audio, depth, mix), audio.value, depth.value, mix.value, frequency,
                                  sine, out, age);
 }
 
-/* Whether the unit is silent: every place of its line is +0 or -0. On a refusal *silent is 0. Refusals: 4, 3. */
-static inline uint32_t room_vibrato_silent(const room_vibrato *state, const double *memory, uint64_t places, int *silent)
+/* Whether the unit is silent: every place of its line is +0 or -0. On a refusal *silent is 0. Refusal: 4. */
+static inline uint32_t room_vibrato_silent(const room_vibrato *state, int *silent)
 {
     uint32_t yes = 0u;
-    const uint32_t number =
-        room_raw_vibrato_silent(state->write_pos, state->lfo_phase, state->sample_rate, memory, places, &yes);
+    const uint32_t number = room_raw_vibrato_silent(state->write_pos, state->nonzero_places, state->lfo_phase,
+                                                    state->sample_rate, &yes);
     *silent = yes != 0u;
     return number;
 }
@@ -481,27 +499,31 @@ static inline uint32_t room_vibrato_silent(const room_vibrato *state, const doub
 /* The chorus. One line, n = 32: at 44,100 it needs 1,421 places, at 8,000 266, at 192,000 6,154. */
 
 typedef struct room_chorus {
-    uint32_t write_pos;   /* below L */
-    double lfo_phases[3]; /* each at least 0 and below 1 */
-    double sample_rate;   /* 8,000 to 192,000 */
+    uint32_t write_pos;      /* below L */
+    uint32_t nonzero_places; /* how many places of the line are neither +0 nor -0: at most L */
+    double lfo_phases[3];    /* each at least 0 and below 1 */
+    double sample_rate;      /* 8,000 to 192,000 */
 } room_chorus;
 
 /* A chorus at this rate: position 0, phases 0, 0.33 and 0.67, +0 in every place. Refusals: 1, 3. */
 static inline uint32_t room_chorus_start(room_chorus *state, double *memory, uint64_t places, double sample_rate)
 {
-    return room_raw_chorus_start(sample_rate, memory, places, &state->write_pos, state->lfo_phases, &state->sample_rate);
+    return room_raw_chorus_start(sample_rate, memory, places, &state->write_pos, &state->nonzero_places, state->lfo_phases,
+                                 &state->sample_rate);
 }
 
 /* The same rate or another: position 0, +0 in every place; the phases stay. Refusals: 4, 1, 3. */
 static inline uint32_t room_chorus_retune(room_chorus *state, double *memory, uint64_t places, double sample_rate)
 {
-    return room_raw_chorus_retune(sample_rate, memory, places, &state->write_pos, state->lfo_phases, &state->sample_rate);
+    return room_raw_chorus_retune(sample_rate, memory, places, &state->write_pos, &state->nonzero_places, state->lfo_phases,
+                                  &state->sample_rate);
 }
 
-/* Position 0, phases 0, 0.33 and 0.67, +0 in every place; the rate stays. Refusals: 4, 3. */
+/* Position 0, count 0, phases 0, 0.33 and 0.67, +0 in every place; the rate stays. Refusals: 4, 3. */
 static inline uint32_t room_chorus_reset(room_chorus *state, double *memory, uint64_t places)
 {
-    return room_raw_chorus_reset(memory, places, &state->write_pos, state->lfo_phases, state->sample_rate);
+    return room_raw_chorus_reset(memory, places, &state->write_pos, &state->nonzero_places, state->lfo_phases,
+                                 state->sample_rate);
 }
 
 /*
@@ -516,17 +538,17 @@ static inline uint32_t room_chorus_tick(room_chorus *state, double *memory, uint
                                         room_port depth, room_port mix, double frequency, const double sines[3],
                                         double out[3], uint32_t *age)
 {
-    return room_raw_chorus_tick(&state->write_pos, state->lfo_phases, state->sample_rate, memory, places,
-                                room_set_mask(audio, depth, mix), audio.value, depth.value, mix.value, frequency,
+    return room_raw_chorus_tick(&state->write_pos, &state->nonzero_places, state->lfo_phases, state->sample_rate, memory,
+                                places, room_set_mask(audio, depth, mix), audio.value, depth.value, mix.value, frequency,
                                 sines[0], sines[1], sines[2], out, age);
 }
 
-/* Whether the unit is silent: every place of its line is +0 or -0. On a refusal *silent is 0. Refusals: 4, 3. */
-static inline uint32_t room_chorus_silent(const room_chorus *state, const double *memory, uint64_t places, int *silent)
+/* Whether the unit is silent: every place of its line is +0 or -0. On a refusal *silent is 0. Refusal: 4. */
+static inline uint32_t room_chorus_silent(const room_chorus *state, int *silent)
 {
     uint32_t yes = 0u;
-    const uint32_t number =
-        room_raw_chorus_silent(state->write_pos, state->lfo_phases, state->sample_rate, memory, places, &yes);
+    const uint32_t number = room_raw_chorus_silent(state->write_pos, state->nonzero_places, state->lfo_phases,
+                                                   state->sample_rate, &yes);
     *silent = yes != 0u;
     return number;
 }
@@ -534,27 +556,31 @@ static inline uint32_t room_chorus_silent(const room_chorus *state, const double
 /* The flanger. Two lines, n = 10: at 44,100 it needs 2 x 451 places, at 8,000 2 x 90, at 192,000 2 x 1,930. */
 
 typedef struct room_flanger {
-    uint32_t write_pos; /* below L; one for the two lines */
-    double lfo_phase;   /* at least 0 and below 1 */
-    double sample_rate; /* 8,000 to 192,000 */
+    uint32_t write_pos;      /* below L; one for the two lines */
+    uint32_t nonzero_places; /* how many places of both lines are neither +0 nor -0: at most 2 L */
+    double lfo_phase;        /* at least 0 and below 1 */
+    double sample_rate;      /* 8,000 to 192,000 */
 } room_flanger;
 
 /* A flanger at this rate: position 0, phase +0, +0 in every place. Refusals: 1, 3. */
 static inline uint32_t room_flanger_start(room_flanger *state, double *memory, uint64_t places, double sample_rate)
 {
-    return room_raw_flanger_start(sample_rate, memory, places, &state->write_pos, &state->lfo_phase, &state->sample_rate);
+    return room_raw_flanger_start(sample_rate, memory, places, &state->write_pos, &state->nonzero_places, &state->lfo_phase,
+                                  &state->sample_rate);
 }
 
-/* The same rate or another: position 0, +0 in every place; the phase stays. Refusals: 4, 1, 3. */
+/* The same rate or another: position 0, count 0, +0 in every place; the phase stays. Refusals: 4, 1, 3. */
 static inline uint32_t room_flanger_retune(room_flanger *state, double *memory, uint64_t places, double sample_rate)
 {
-    return room_raw_flanger_retune(sample_rate, memory, places, &state->write_pos, &state->lfo_phase, &state->sample_rate);
+    return room_raw_flanger_retune(sample_rate, memory, places, &state->write_pos, &state->nonzero_places, &state->lfo_phase,
+                                   &state->sample_rate);
 }
 
-/* Position 0, phase +0, +0 in every place; the rate stays. Refusals: 4, 3. */
+/* Position 0, count 0, phase +0, +0 in every place; the rate stays. Refusals: 4, 3. */
 static inline uint32_t room_flanger_reset(room_flanger *state, double *memory, uint64_t places)
 {
-    return room_raw_flanger_reset(memory, places, &state->write_pos, &state->lfo_phase, state->sample_rate);
+    return room_raw_flanger_reset(memory, places, &state->write_pos, &state->nonzero_places, &state->lfo_phase,
+                                  state->sample_rate);
 }
 
 /*
@@ -570,17 +596,17 @@ static inline uint32_t room_flanger_tick(room_flanger *state, double *memory, ui
                                          room_port depth, room_port feedback, room_port mix, double frequency,
                                          const double sines[2], double out[3], uint32_t *age)
 {
-    return room_raw_flanger_tick(&state->write_pos, &state->lfo_phase, state->sample_rate, memory, places,
-                                 room_set_mask(audio, depth, feedback) | room_set_bit(mix, 8u), audio.value, depth.value,
-                                 feedback.value, mix.value, frequency, sines[0], sines[1], out, age);
+    return room_raw_flanger_tick(&state->write_pos, &state->nonzero_places, &state->lfo_phase, state->sample_rate, memory,
+                                 places, room_set_mask(audio, depth, feedback) | room_set_bit(mix, 8u), audio.value,
+                                 depth.value, feedback.value, mix.value, frequency, sines[0], sines[1], out, age);
 }
 
-/* Whether the unit is silent: every place of its lines is +0 or -0. On a refusal *silent is 0. Refusals: 4, 3. */
-static inline uint32_t room_flanger_silent(const room_flanger *state, const double *memory, uint64_t places, int *silent)
+/* Whether the unit is silent: every place of its lines is +0 or -0. On a refusal *silent is 0. Refusal: 4. */
+static inline uint32_t room_flanger_silent(const room_flanger *state, int *silent)
 {
     uint32_t yes = 0u;
-    const uint32_t number =
-        room_raw_flanger_silent(state->write_pos, state->lfo_phase, state->sample_rate, memory, places, &yes);
+    const uint32_t number = room_raw_flanger_silent(state->write_pos, state->nonzero_places, state->lfo_phase,
+                                                    state->sample_rate, &yes);
     *silent = yes != 0u;
     return number;
 }
@@ -596,6 +622,7 @@ static inline uint32_t room_flanger_silent(const room_flanger *state, const doub
 
 typedef struct room_delay {
     uint32_t write_pos;       /* below L */
+    uint32_t nonzero_places;  /* how many places of the line are neither +0 nor -0: at most L */
     double smoothed_delay;    /* how many places back the last tick read: 1 to L - 1; +0, sign included, while not primed */
     double sample_rate;       /* 8,000 to 192,000 */
     double delay_smooth_coef; /* of the glide: at least 0 and below 1 */
@@ -613,8 +640,9 @@ static inline uint32_t room_delay_start(room_delay *state, double *memory, uint6
                                         double max_delay_secs, double delay_smooth_coef, uint32_t linear_time)
 {
     return room_raw_delay_start(sample_rate, max_delay_secs, delay_smooth_coef, linear_time, memory, places,
-                                &state->write_pos, &state->smoothed_delay, &state->sample_rate, &state->delay_smooth_coef,
-                                &state->max_delay_secs, &state->delay_primed, &state->linear_time);
+                                &state->write_pos, &state->nonzero_places, &state->smoothed_delay, &state->sample_rate,
+                                &state->delay_smooth_coef, &state->max_delay_secs, &state->delay_primed,
+                                &state->linear_time);
 }
 
 /*
@@ -624,16 +652,17 @@ static inline uint32_t room_delay_start(room_delay *state, double *memory, uint6
 static inline uint32_t room_delay_retune(room_delay *state, double *memory, uint64_t places, double sample_rate,
                                          double delay_smooth_coef)
 {
-    return room_raw_delay_retune(sample_rate, delay_smooth_coef, memory, places, &state->write_pos, &state->smoothed_delay,
-                                 &state->sample_rate, &state->delay_smooth_coef, state->max_delay_secs,
-                                 &state->delay_primed, state->linear_time);
+    return room_raw_delay_retune(sample_rate, delay_smooth_coef, memory, places, &state->write_pos, &state->nonzero_places,
+                                 &state->smoothed_delay, &state->sample_rate, &state->delay_smooth_coef,
+                                 state->max_delay_secs, &state->delay_primed, state->linear_time);
 }
 
-/* Position 0, not primed, smoothed_delay +0, +0 in every place; the rest stays. Refusals: 4, 3. */
+/* Position 0, count 0, not primed, smoothed_delay +0, +0 in every place; the rest stays. Refusals: 4, 3. */
 static inline uint32_t room_delay_reset(room_delay *state, double *memory, uint64_t places)
 {
-    return room_raw_delay_reset(memory, places, &state->write_pos, &state->smoothed_delay, state->sample_rate,
-                                state->delay_smooth_coef, state->max_delay_secs, &state->delay_primed, state->linear_time);
+    return room_raw_delay_reset(memory, places, &state->write_pos, &state->nonzero_places, &state->smoothed_delay,
+                                state->sample_rate, state->delay_smooth_coef, state->max_delay_secs, &state->delay_primed,
+                                state->linear_time);
 }
 
 /*
@@ -651,19 +680,19 @@ static inline uint32_t room_delay_tick(room_delay *state, double *memory, uint64
                                        room_port feedback, room_port mix, double milliseconds, double out[1],
                                        uint32_t *age)
 {
-    return room_raw_delay_tick(&state->write_pos, &state->smoothed_delay, state->sample_rate, state->delay_smooth_coef,
-                               state->max_delay_secs, &state->delay_primed, state->linear_time, memory, places,
-                               room_set_mask(audio, time, feedback) | room_set_bit(mix, 8u), audio.value, time.value,
-                               feedback.value, mix.value, milliseconds, out, age);
+    return room_raw_delay_tick(&state->write_pos, &state->nonzero_places, &state->smoothed_delay, state->sample_rate,
+                               state->delay_smooth_coef, state->max_delay_secs, &state->delay_primed, state->linear_time,
+                               memory, places, room_set_mask(audio, time, feedback) | room_set_bit(mix, 8u), audio.value,
+                               time.value, feedback.value, mix.value, milliseconds, out, age);
 }
 
-/* Whether the unit is silent: every place of its line is +0 or -0. On a refusal *silent is 0. Refusals: 4, 3. */
-static inline uint32_t room_delay_silent(const room_delay *state, const double *memory, uint64_t places, int *silent)
+/* Whether the unit is silent: every place of its line is +0 or -0. On a refusal *silent is 0. Refusal: 4. */
+static inline uint32_t room_delay_silent(const room_delay *state, int *silent)
 {
     uint32_t yes = 0u;
-    const uint32_t number = room_raw_delay_silent(state->write_pos, state->smoothed_delay, state->sample_rate,
-                                                  state->delay_smooth_coef, state->max_delay_secs, state->delay_primed,
-                                                  state->linear_time, memory, places, &yes);
+    const uint32_t number = room_raw_delay_silent(state->write_pos, state->nonzero_places, state->smoothed_delay,
+                                                  state->sample_rate, state->delay_smooth_coef, state->max_delay_secs,
+                                                  state->delay_primed, state->linear_time, &yes);
     *silent = yes != 0u;
     return number;
 }
@@ -697,6 +726,7 @@ static inline uint32_t room_delay_silent(const room_delay *state, const double *
 
 typedef struct room_tape_delay {
     uint32_t write_pos;       /* below L */
+    uint32_t nonzero_places;  /* how many places of the line are neither +0 nor -0: at most L */
     double smoothed_delay;    /* how many places back the last read was: 1 to L - 1; +0, sign included, while not primed */
     double kept_audio;        /* of a read that waits the audio, any float; +0, sign included, while none waits */
     double kept_read;         /* what was read, any float; likewise */
@@ -715,8 +745,9 @@ static inline uint32_t room_tape_delay_start(room_tape_delay *state, double *mem
                                              double delay_smooth_coef)
 {
     return room_raw_tape_delay_start(sample_rate, delay_smooth_coef, memory, places, &state->write_pos,
-                                     &state->smoothed_delay, &state->kept_audio, &state->kept_read, &state->kept_mix,
-                                     &state->sample_rate, &state->delay_smooth_coef, &state->delay_primed, &state->waiting);
+                                     &state->nonzero_places, &state->smoothed_delay, &state->kept_audio, &state->kept_read,
+                                     &state->kept_mix, &state->sample_rate, &state->delay_smooth_coef, &state->delay_primed,
+                                     &state->waiting);
 }
 
 /*
@@ -727,17 +758,17 @@ static inline uint32_t room_tape_delay_retune(room_tape_delay *state, double *me
                                               double delay_smooth_coef)
 {
     return room_raw_tape_delay_retune(sample_rate, delay_smooth_coef, memory, places, &state->write_pos,
-                                      &state->smoothed_delay, &state->kept_audio, &state->kept_read, &state->kept_mix,
-                                      &state->sample_rate, &state->delay_smooth_coef, &state->delay_primed,
+                                      &state->nonzero_places, &state->smoothed_delay, &state->kept_audio, &state->kept_read,
+                                      &state->kept_mix, &state->sample_rate, &state->delay_smooth_coef, &state->delay_primed,
                                       &state->waiting);
 }
 
-/* Position 0, not primed, smoothed_delay +0, no read that waits, +0 in every place; the rest stays. Refusals: 4, 3. */
+/* Position 0, count 0, not primed, smoothed_delay +0, no read that waits, +0 in every place; the rest stays. Refusals: 4, 3. */
 static inline uint32_t room_tape_delay_reset(room_tape_delay *state, double *memory, uint64_t places)
 {
-    return room_raw_tape_delay_reset(memory, places, &state->write_pos, &state->smoothed_delay, &state->kept_audio,
-                                     &state->kept_read, &state->kept_mix, state->sample_rate, state->delay_smooth_coef,
-                                     &state->delay_primed, &state->waiting);
+    return room_raw_tape_delay_reset(memory, places, &state->write_pos, &state->nonzero_places, &state->smoothed_delay,
+                                     &state->kept_audio, &state->kept_read, &state->kept_mix, state->sample_rate,
+                                     state->delay_smooth_coef, &state->delay_primed, &state->waiting);
 }
 
 /*
@@ -753,8 +784,8 @@ static inline uint32_t room_tape_delay_read_half(room_tape_delay *state, const d
                                                  room_port audio, room_port time, room_port feedback, room_port mix,
                                                  double *sum, uint32_t *age)
 {
-    return room_raw_tape_delay_read_half(state->write_pos, &state->smoothed_delay, &state->kept_audio, &state->kept_read,
-                                         &state->kept_mix, state->sample_rate, state->delay_smooth_coef,
+    return room_raw_tape_delay_read_half(state->write_pos, state->nonzero_places, &state->smoothed_delay, &state->kept_audio,
+                                         &state->kept_read, &state->kept_mix, state->sample_rate, state->delay_smooth_coef,
                                          &state->delay_primed, &state->waiting, memory, places,
                                          room_set_mask(audio, time, feedback) | room_set_bit(mix, 8u), audio.value,
                                          time.value, feedback.value, mix.value, sum, age);
@@ -768,23 +799,22 @@ static inline uint32_t room_tape_delay_read_half(room_tape_delay *state, const d
 static inline uint32_t room_tape_delay_store_half(room_tape_delay *state, double *memory, uint64_t places, double saturated,
                                                   double out[1])
 {
-    return room_raw_tape_delay_store_half(&state->write_pos, state->smoothed_delay, &state->kept_audio, &state->kept_read,
-                                          &state->kept_mix, state->sample_rate, state->delay_smooth_coef,
-                                          state->delay_primed, &state->waiting, memory, places, saturated, out);
+    return room_raw_tape_delay_store_half(&state->write_pos, &state->nonzero_places, state->smoothed_delay,
+                                          &state->kept_audio, &state->kept_read, &state->kept_mix, state->sample_rate,
+                                          state->delay_smooth_coef, state->delay_primed, &state->waiting, memory, places,
+                                          saturated, out);
 }
 
 /*
- * Whether the unit is silent: no read waits, and every place of its line is +0 or -0. On a refusal *silent is 0.
- * Refusals: 4, 3.
+ * Whether the unit is silent: no read waits, and every place of its line is +0 or -0. On a refusal *silent is 0. Refusal: 4.
  */
-static inline uint32_t room_tape_delay_silent(const room_tape_delay *state, const double *memory, uint64_t places,
-                                              int *silent)
+static inline uint32_t room_tape_delay_silent(const room_tape_delay *state, int *silent)
 {
     uint32_t yes = 0u;
-    const uint32_t number =
-        room_raw_tape_delay_silent(state->write_pos, state->smoothed_delay, state->kept_audio, state->kept_read,
-                                   state->kept_mix, state->sample_rate, state->delay_smooth_coef, state->delay_primed,
-                                   state->waiting, memory, places, &yes);
+    const uint32_t number = room_raw_tape_delay_silent(state->write_pos, state->nonzero_places, state->smoothed_delay,
+                                                       state->kept_audio, state->kept_read, state->kept_mix,
+                                                       state->sample_rate, state->delay_smooth_coef, state->delay_primed,
+                                                       state->waiting, &yes);
     *silent = yes != 0u;
     return number;
 }
@@ -800,7 +830,8 @@ static inline uint32_t room_tape_delay_silent(const room_tape_delay *state, cons
  *
  * Of a comb or an all-pass the first places are in use, as many as its length at the rate: on the left 1116, 1188, 1277, 1356,
  * 1422, 1491, 1557, 1617 and 556, 441, 341, 225, each x rate / 44,100 cut to its whole part; on the right as many and the
- * spread, 23 x rate / 44,100 rounded, at least 1; at most 4,095 and 1,499. The predelay is in use entirely.
+ * spread, 23 x rate / 44,100 rounded, at least 1; at most 4,095 and 1,499. The predelay is in use entirely. In all 14,200
+ * places are in use at 8,000, 86,157 at 192,000.
  */
 
 typedef struct room_reverb {
@@ -809,6 +840,7 @@ typedef struct room_reverb {
     uint32_t allpass_pos_l[4]; /* each below its all-pass's length */
     uint32_t allpass_pos_r[4];
     uint32_t predelay_pos;         /* below 9,600 */
+    uint32_t nonzero_places;       /* how many places in use are neither +0 nor -0: at most the lengths and 9,600 together */
     double comb_filter_state_l[8]; /* the combs' damping stores: any floats */
     double comb_filter_state_r[8];
     double sample_rate; /* 8,000 to 192,000 */
@@ -818,24 +850,24 @@ typedef struct room_reverb {
 static inline uint32_t room_reverb_start(room_reverb *state, double *memory, uint64_t places, double sample_rate)
 {
     return room_raw_reverb_start(sample_rate, memory, places, state->comb_pos_l, state->comb_pos_r, state->allpass_pos_l,
-                                 state->allpass_pos_r, &state->predelay_pos, state->comb_filter_state_l,
-                                 state->comb_filter_state_r, &state->sample_rate);
+                                 state->allpass_pos_r, &state->predelay_pos, &state->nonzero_places,
+                                 state->comb_filter_state_l, state->comb_filter_state_r, &state->sample_rate);
 }
 
 /* As a new start: positions 0, damping stores +0, +0 in every place, the same rate or another. Refusals: 4, 1, 3. */
 static inline uint32_t room_reverb_retune(room_reverb *state, double *memory, uint64_t places, double sample_rate)
 {
     return room_raw_reverb_retune(sample_rate, memory, places, state->comb_pos_l, state->comb_pos_r, state->allpass_pos_l,
-                                  state->allpass_pos_r, &state->predelay_pos, state->comb_filter_state_l,
-                                  state->comb_filter_state_r, &state->sample_rate);
+                                  state->allpass_pos_r, &state->predelay_pos, &state->nonzero_places,
+                                  state->comb_filter_state_l, state->comb_filter_state_r, &state->sample_rate);
 }
 
-/* Positions 0, damping stores +0, +0 in every place; the rate stays. Refusals: 4, 3. */
+/* Positions 0, count 0, damping stores +0, +0 in every place; the rate stays. Refusals: 4, 3. */
 static inline uint32_t room_reverb_reset(room_reverb *state, double *memory, uint64_t places)
 {
     return room_raw_reverb_reset(memory, places, state->comb_pos_l, state->comb_pos_r, state->allpass_pos_l,
-                                 state->allpass_pos_r, &state->predelay_pos, state->comb_filter_state_l,
-                                 state->comb_filter_state_r, state->sample_rate);
+                                 state->allpass_pos_r, &state->predelay_pos, &state->nonzero_places,
+                                 state->comb_filter_state_l, state->comb_filter_state_r, state->sample_rate);
 }
 
 /*
@@ -851,23 +883,23 @@ static inline uint32_t room_reverb_tick(room_reverb *state, double *memory, uint
                                         room_port damping, room_port mix, room_port predelay, double out[2])
 {
     return room_raw_reverb_tick(state->comb_pos_l, state->comb_pos_r, state->allpass_pos_l, state->allpass_pos_r,
-                                &state->predelay_pos, state->comb_filter_state_l, state->comb_filter_state_r,
-                                state->sample_rate, memory, places,
+                                &state->predelay_pos, &state->nonzero_places, state->comb_filter_state_l,
+                                state->comb_filter_state_r, state->sample_rate, memory, places,
                                 room_set_mask(audio, size, damping) | room_set_bit(mix, 8u) | room_set_bit(predelay, 16u),
                                 audio.value, size.value, damping.value, mix.value, predelay.value, out);
 }
 
 /*
  * Whether the unit is silent: every place in use and each of the sixteen damping stores is +0 or -0. On a refusal *silent is
- * 0. Refusals: 4, 3.
+ * 0. Refusal: 4.
  */
-static inline uint32_t room_reverb_silent(const room_reverb *state, const double *memory, uint64_t places, int *silent)
+static inline uint32_t room_reverb_silent(const room_reverb *state, int *silent)
 {
     uint32_t yes = 0u;
-    const uint32_t number =
-        room_raw_reverb_silent(state->comb_pos_l, state->comb_pos_r, state->allpass_pos_l, state->allpass_pos_r,
-                               state->predelay_pos, state->comb_filter_state_l, state->comb_filter_state_r,
-                               state->sample_rate, memory, places, &yes);
+    const uint32_t number = room_raw_reverb_silent(state->comb_pos_l, state->comb_pos_r, state->allpass_pos_l,
+                                                   state->allpass_pos_r, state->predelay_pos, state->nonzero_places,
+                                                   state->comb_filter_state_l, state->comb_filter_state_r,
+                                                   state->sample_rate, &yes);
     *silent = yes != 0u;
     return number;
 }

@@ -57,6 +57,22 @@ int plays(double is, double should)
     return isnan(should) ? isnan(is) : same(is, should);
 }
 
+uint32_t nonzero_in(const double *from, uint64_t places)
+{
+    const uint64_t all_but_the_sign = UINT64_MAX >> 1;
+    uint64_t i, count = 0;
+    for (i = 0; i < places; i++) {
+        count += (bits(from[i]) & all_but_the_sign) != 0u;
+    }
+    return (uint32_t)count;
+}
+
+uint32_t count_after(uint32_t handed, uint32_t before, uint32_t after, uint32_t all)
+{
+    const int64_t count = (int64_t)handed + after - before;
+    return count < 0 ? 0u : count > all ? all : (uint32_t)count;
+}
+
 uint32_t age_at(double distance)
 {
     const uint32_t whole = (uint32_t)distance;

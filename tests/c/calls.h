@@ -30,6 +30,13 @@ int all_same(const double *a, const double *b, unsigned count);
 /* Equal to the bit or, where `should` is a NaN, any NaN. */
 int plays(double is, double should);
 
+/* How many of these places are neither +0 nor -0, by their bits. */
+uint32_t nonzero_in(const double *from, uint64_t places);
+
+/* The count that a tick leaves of one that it was handed: it changes by the net change of the places in use, of which so many
+   were no zeros before the tick and after it, and stops once at 0 and at all of them. */
+uint32_t count_after(uint32_t handed, uint32_t before, uint32_t after, uint32_t all);
+
 /* The age of a read at this distance by document 02: the whole part, plus one where the fraction is not 0. */
 uint32_t age_at(double distance);
 
@@ -79,7 +86,7 @@ void phaser(void);
 void tape(void);
 void places(void);
 void order_of_causes(void);
-void layout(void);
+void counts(void);
 void ends(void);
 void ages(void);
 void stuck(void);

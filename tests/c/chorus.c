@@ -7,6 +7,7 @@ static room_chorus state_of(const struct unit *unit)
 {
     room_chorus state;
     state.write_pos = unit->write_pos;
+    state.nonzero_places = unit->nonzero_places;
     memcpy(state.lfo_phases, unit->phases, sizeof state.lfo_phases);
     state.sample_rate = unit->sample_rate;
     return state;
@@ -15,6 +16,7 @@ static room_chorus state_of(const struct unit *unit)
 static uint32_t put(struct unit *unit, const room_chorus *state, uint32_t number)
 {
     unit->write_pos = state->write_pos;
+    unit->nonzero_places = state->nonzero_places;
     memcpy(unit->phases, state->lfo_phases, sizeof unit->phases);
     unit->sample_rate = state->sample_rate;
     return number;
@@ -250,7 +252,7 @@ static void echo(void)
     int yes = 7;
     unsigned i;
     check(start(&unit, memory, LENGTH, 8000.0) == 0, "start for an echo", 0);
-    check(silent(&unit, memory, LENGTH, &yes) == 0 && yes == 1, "silent after the start", 0);
+    check(silent(&unit, &yes) == 0 && yes == 1, "silent after the start", 0);
     for (i = 0; i < 267u; i++) {
         const double mono = i == 56u || i == 156u || i == 256u ? 4.0 : 0.0;
         const double left = i == 56u ? 3.0 : i == 156u ? 6.0 : 0.0;
@@ -259,7 +261,7 @@ static void echo(void)
         uint32_t age;
         check(tick(&unit, memory, LENGTH, &t, out, &age) == 0, "tick of an echo", i);
         check(same(out[0], mono) && same(out[1], left) && same(out[2], right), "echo", i);
-        check(silent(&unit, memory, LENGTH, &yes) == 0 && yes == (i == 266u), "sounds until the line has gone round", i);
+        check(silent(&unit, &yes) == 0 && yes == (i == 266u), "sounds until the line has gone round", i);
         t.audio = room_set(0.0);
     }
 }
@@ -267,16 +269,16 @@ static void echo(void)
 /* The exported function by itself: bits of the mask beyond the three ports are not read. */
 static void mask(void)
 {
-    uint32_t pos = 3;
+    uint32_t pos = 3, count = 3;
     double phases[3] = {0.0, 0.33, 0.67};
     double out[3] = {JUNK, JUNK, JUNK};
     uint32_t age = JUNK_AGE;
     line_from(3u, half, 12.0, 24.0, 36.0);
-    check(room_raw_chorus_tick(&pos, phases, 8000.0, memory, LENGTH, UINT32_C(0xfffffff9), 1.0, (double)NAN, (double)NAN,
-                               0.0, -1.0, 0.0, 1.0, out, &age) == 0,
+    check(room_raw_chorus_tick(&pos, &count, phases, 8000.0, memory, LENGTH, UINT32_C(0xfffffff9), 1.0, (double)NAN,
+                               (double)NAN, 0.0, -1.0, 0.0, 1.0, out, &age) == 0,
           "audio and the other bits", 0);
     check(same(out[0], 12.5) && same(out[1], 8.0) && same(out[2], 11.0), "audio and the other bits: controls are unset", 0);
-    check(pos == 4u && same(phases[1], 0.33), "audio and the other bits: the state", 0);
+    check(pos == 4u && count == 4u && same(phases[1], 0.33), "audio and the other bits: the state", 0);
     check(age == half[2], "audio and the other bits: the age of the third voice", 0);
 }
 

@@ -8,6 +8,10 @@
 #define MAXIMUM 0.0625
 #define LENGTH 501u
 
+/* Rates, and how long document 01 has a line with that maximum. */
+#define DELAY_LENGTHS 5u
+extern const struct length delay_lengths[DELAY_LENGTHS];
+
 struct tick_of_delay {
     room_port audio, time, feedback, mix;
     double milliseconds;
@@ -25,16 +29,25 @@ uint32_t ticked(room_delay *state, uint64_t places, const struct tick_of_delay *
 /* A state after a clearing, at 8,000, with a coefficient of 0.5. */
 room_delay fresh(void);
 
-/* That at another position: a tick reads at its target. */
+/* That at another position, with a count of 7, whatever the memory holds: a tick reads at its target. */
 room_delay unprimed_at(uint32_t write_pos);
 
 /* And with a glide that stands at this distance. */
 room_delay primed_at(uint32_t write_pos, double distance);
 
-/* The same state in linear mode. */
+/* The same state in linear mode, and with another count. */
 room_delay linear_of(room_delay state);
+room_delay counting_of(room_delay state, uint32_t count);
 
 int delay_is(const room_delay *is, room_delay should);
+
+/* Calls that are refused with this number and leave everything as it was. */
+void delay_retune_refused(room_delay before, uint64_t places, double rate, double coefficient, uint32_t number,
+                          const char *what, unsigned i);
+void delay_reset_refused(room_delay before, uint64_t places, uint32_t number, const char *what, unsigned i);
+
+/* The state test, and the refusals of all calls but start and retune. */
+void delay_refusals(void);
 
 /* The accepted ticks: what they read, play, store and leave. */
 void delay_ticks(void);

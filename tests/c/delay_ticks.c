@@ -14,10 +14,17 @@ static void line_with(uint32_t write_pos, unsigned distance, double value)
     memory[(write_pos + LENGTH - distance) % LENGTH] = value;
 }
 
-/* Runs the tick from this state in the memory as it is: the sample, a NaN standing for any, the distance it leaves, and its age
-   by that. */
+/* What a tick leaves of the count of this state, where so many places in use were no zeros before it. */
+static uint32_t counted(room_delay state, uint32_t before)
+{
+    return count_after(state.nonzero_places, before, nonzero_in(memory, LENGTH), LENGTH);
+}
+
+/* Runs the tick from this state in the memory as it is: the sample, a NaN standing for any, the distance it leaves, its age by
+   that, and the count. */
 static void plays_at(room_delay state, struct tick_of_delay t, double sample, double distance, const char *what, unsigned i)
 {
+    const uint32_t before = nonzero_in(memory, LENGTH);
     room_delay should = state;
     double out[1] = {JUNK};
     uint32_t age;
@@ -27,7 +34,8 @@ static void plays_at(room_delay state, struct tick_of_delay t, double sample, do
     check(ticked(&state, LENGTH, &t, out, &age) == 0, what, i);
     check(plays(out[0], sample), what, i);
     check(age == age_at(distance), "a tick's age is that of the distance it leaves", i);
-    check(delay_is(&state, should), "a tick leaves the next position, its distance, primed, and the settings", i);
+    should.nonzero_places = counted(should, before);
+    check(delay_is(&state, should), "a tick leaves the next position, the count, its distance, primed, and the settings", i);
 }
 
 /* At 8,000 a millisecond is 8 places. */
@@ -203,16 +211,19 @@ static void mixes(void)
     plays_at(unprimed_at(3u), delay_tick(-0.0, -0.0, 2.0), -0.0, 16.0, "a mix of -0 leaves it -0", 5);
 }
 
-/* Runs a tick at a line that plays `wet`: it stores this, at the position and nowhere else, spare places among them. */
+/* Runs a tick at a line that plays `wet`: it stores this, at the position and nowhere else, spare places among them, which do
+   not count. */
 static void stores(uint32_t write_pos, double wet, struct tick_of_delay t, unsigned places, double stored, unsigned i)
 {
     room_delay state = unprimed_at(write_pos);
     double out[1];
     double kept[ROOM];
-    uint32_t age;
+    uint32_t age, before;
     line_with(write_pos, 16u, wet);
     memcpy(kept, memory, sizeof kept);
+    before = nonzero_in(memory, LENGTH);
     check(ticked(&state, places, &t, out, &age) == 0, "a tick that stores", i);
+    check(state.nonzero_places == counted(unprimed_at(write_pos), before), "a tick that stores counts what it changes", i);
     check(plays(memory[write_pos], stored), "a tick stores audio + read x feedback", i);
     kept[write_pos] = memory[write_pos];
     check(all_same(memory, kept, ROOM), "a tick writes to no other place", i);
@@ -292,20 +303,20 @@ static void echo(void)
     unsigned i;
     fill();
     check(room_delay_start(&state, memory, ROOM, 8000.0, MAXIMUM, 0.9, 0u) == 0, "start for an echo", 0);
-    check(room_delay_silent(&state, memory, ROOM, &yes) == 0 && yes == 1, "silent after the start", 0);
+    check(room_delay_silent(&state, &yes) == 0 && yes == 1, "silent after the start", 0);
     t.feedback = room_set(0.5);
     for (i = 0; i < 1100u; i++) {
         const double should = i > 0u && i % 16u == 0u ? ldexp(1.0, 1 - (int)(i / 16u)) : 0.0;
         check(ticked(&state, ROOM, &t, out, &age) == 0, "tick of an echo", i);
         check(same(out[0], should), "echo", i);
-        check(room_delay_silent(&state, memory, ROOM, &yes) == 0 && yes == 0, "an echo sounds", i);
+        check(room_delay_silent(&state, &yes) == 0 && yes == 0, "an echo sounds", i);
         t.audio = room_set(0.0);
     }
     t.feedback = room_unset();
     for (i = 0; i < LENGTH; i++) {
         check(ticked(&state, ROOM, &t, out, &age) == 0, "tick without feedback", i);
     }
-    check(room_delay_silent(&state, memory, ROOM, &yes) == 0 && yes == 1, "silent a round later", 0);
+    check(room_delay_silent(&state, &yes) == 0 && yes == 1, "silent a round later", 0);
     check(room_delay_reset(&state, memory, ROOM) == 0 && state.delay_primed == 0u && same(state.smoothed_delay, 0.0),
           "reset", 0);
 }
@@ -314,17 +325,17 @@ static void echo(void)
 static void mask(void)
 {
     const double nan_ = (double)NAN;
-    uint32_t write_pos = 3;
+    uint32_t write_pos = 3, count = LENGTH;
     double smoothed_delay = 0.0;
     uint32_t delay_primed = 0;
     double out = JUNK;
     uint32_t age = JUNK_AGE;
     line_with(3u, 16u, 12.0);
-    check(room_raw_delay_tick(&write_pos, &smoothed_delay, 8000.0, 0.5, MAXIMUM, &delay_primed, 0u, memory, LENGTH,
-                              UINT32_C(0xfffffff1), 1.0, nan_, nan_, nan_, 2.0, &out, &age) == 0,
+    check(room_raw_delay_tick(&write_pos, &count, &smoothed_delay, 8000.0, 0.5, MAXIMUM, &delay_primed, 0u, memory, LENGTH,
+                              UINT32_C(0xfffffff1), -0.0, nan_, nan_, nan_, 2.0, &out, &age) == 0,
           "audio and the other bits", 0);
-    check(same(out, 6.5) && age == 16u, "audio and the other bits: controls are unset", 0);
-    check(write_pos == 4u && same(smoothed_delay, 16.0) && delay_primed == 1u && same(memory[3], 1.0),
+    check(same(out, 6.0) && age == 16u, "audio and the other bits: controls are unset", 0);
+    check(write_pos == 4u && count == LENGTH - 1u && same(smoothed_delay, 16.0) && delay_primed == 1u && same(memory[3], 0.0),
           "audio and the others: it leaves", 0);
 }
 

@@ -31,6 +31,20 @@ int effect_aged(int effect)
     return (effect >= ROOM_DELAY && effect <= ROOM_VIBRATO) || effect == ROOM_TAPE_DELAY;
 }
 
+uint32_t *effect_count(int effect, struct effect_state *state)
+{
+    uint32_t *const counts[EFFECTS_END] = {NULL,
+                                           &state->delay.nonzero_places,
+                                           &state->chorus.nonzero_places,
+                                           &state->flanger.nonzero_places,
+                                           &state->vibrato.nonzero_places,
+                                           NULL,
+                                           &state->reverb.nonzero_places,
+                                           NULL,
+                                           &state->tape_delay.nonzero_places};
+    return counts[effect];
+}
+
 int effect_has(int effect, int call)
 {
     return call == STORE ? effect == ROOM_TAPE_DELAY : effect_lined(effect) || call != RETUNE;
@@ -87,7 +101,7 @@ static uint32_t made_delay(room_delay *s, const struct effect_call *c, double *o
     case TICK:
         return room_delay_tick(s, c->lent, c->places, p[0], p[1], p[2], p[3], c->curves[0], out, age);
     default:
-        return room_delay_silent(s, c->lent, c->places, yes);
+        return room_delay_silent(s, yes);
     }
 }
 
@@ -104,7 +118,7 @@ static uint32_t made_chorus(room_chorus *s, const struct effect_call *c, double 
     case TICK:
         return room_chorus_tick(s, c->lent, c->places, p[0], p[1], p[2], c->curves[0], c->curves + 1, out, age);
     default:
-        return room_chorus_silent(s, c->lent, c->places, yes);
+        return room_chorus_silent(s, yes);
     }
 }
 
@@ -121,7 +135,7 @@ static uint32_t made_flanger(room_flanger *s, const struct effect_call *c, doubl
     case TICK:
         return room_flanger_tick(s, c->lent, c->places, p[0], p[1], p[2], p[3], c->curves[0], c->curves + 1, out, age);
     default:
-        return room_flanger_silent(s, c->lent, c->places, yes);
+        return room_flanger_silent(s, yes);
     }
 }
 
@@ -138,7 +152,7 @@ static uint32_t made_vibrato(room_vibrato *s, const struct effect_call *c, doubl
     case TICK:
         return room_vibrato_tick(s, c->lent, c->places, p[0], p[1], p[2], c->curves[0], c->curves[1], out, age);
     default:
-        return room_vibrato_silent(s, c->lent, c->places, yes);
+        return room_vibrato_silent(s, yes);
     }
 }
 
@@ -170,7 +184,7 @@ static uint32_t made_reverb(room_reverb *s, const struct effect_call *c, double 
     case TICK:
         return room_reverb_tick(s, c->lent, c->places, p[0], p[1], p[2], p[3], p[4], out);
     default:
-        return room_reverb_silent(s, c->lent, c->places, yes);
+        return room_reverb_silent(s, yes);
     }
 }
 
@@ -204,7 +218,7 @@ static uint32_t made_tape_delay(room_tape_delay *s, const struct effect_call *c,
     case STORE:
         return room_tape_delay_store_half(s, c->lent, c->places, c->curves[0], out);
     default:
-        return room_tape_delay_silent(s, c->lent, c->places, yes);
+        return room_tape_delay_silent(s, yes);
     }
 }
 

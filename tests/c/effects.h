@@ -45,6 +45,9 @@ unsigned effect_samples(int effect);
 int effect_lined(int effect);
 int effect_aged(int effect);
 
+/* Where a state keeps the count of its places that are neither +0 nor -0; NULL of an effect without lines. */
+uint32_t *effect_count(int effect, struct effect_state *state);
+
 /* Whether the effect has the call: one without lines has no retune. */
 int effect_has(int effect, int call);
 

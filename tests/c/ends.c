@@ -45,7 +45,7 @@ static void numbered(struct effect_state *state, const struct effect_call *c, ui
     }
 }
 
-/* Enough places, and one short, for each call at this rate. */
+/* Enough places, and one short, for each call at this rate. The question takes none. */
 static void memory_at(unsigned which, double *lent, double rate, uint64_t places)
 {
     const int effect = units[which].effect;
@@ -58,7 +58,7 @@ static void memory_at(unsigned which, double *lent, double rate, uint64_t places
         if (!effect_has(effect, call)) {
             continue;
         }
-        if (places > 0u && call != START) {
+        if (places > 0u && call != START && call != SILENT) {
             struct effect_state kept;
             c.places = places - 1u;
             memcpy(&kept, &state, sizeof kept);
@@ -91,7 +91,8 @@ static void outside(unsigned which, double *lent, double rate)
     numbered(&state, &c, 1, "a start at the next float outside", which);
 }
 
-/* No memory at all, at no address: every call refuses it as too short, and leaves the state; a start leaves zeros. */
+/* No memory at all, at no address: every call but the question, which takes none, refuses it as too short, and leaves the
+   state; a start leaves zeros. */
 static void lent_nothing(int effect)
 {
     struct effect_call c = effect_good(effect, START, NULL, 0, 8000.0, 0.001);
@@ -106,10 +107,12 @@ static void lent_nothing(int effect)
     memset(&zeros, 0, sizeof zeros);
     check(c.lent != NULL && effect_make(&started, &c, out, &age) == ROOM_ACCEPTED, "a start in memory", (unsigned)effect);
     free(c.lent);
+    c.call = SILENT;
+    check(effect_make(&started, &c, out, &age) == ROOM_ACCEPTED && out[0] == 1.0, "a question takes none", (unsigned)effect);
     for (call = START; call < CALLS; call++) {
         const unsigned i = 10u * (unsigned)effect + (unsigned)call;
         const unsigned answers = effect_answers(effect, call);
-        if (!effect_has(effect, call)) {
+        if (!effect_has(effect, call) || call == SILENT) {
             continue;
         }
         c = effect_good(effect, call, NULL, 0, 8000.0, 0.001);
@@ -119,7 +122,7 @@ static void lent_nothing(int effect)
         age = JUNK_AGE;
         check(effect_make(&state, &c, out, &age) == ROOM_REFUSED_MEMORY, "no memory, at NULL", i);
         check(memcmp(&state, call == START ? &zeros : &started, sizeof state) == 0, "no memory: the state is left", i);
-        check(all_same(out, none, answers), "no memory: it plays +0 and answers no", i);
+        check(all_same(out, none, answers), "no memory: it plays +0", i);
         check(call != TICK || !effect_aged(effect) || age == 0u, "no memory: a tick answers the age 0", i);
     }
     c = effect_good(effect, START, NULL, 0, nearer(8000.0), 0.001);

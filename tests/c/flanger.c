@@ -189,35 +189,36 @@ static void echo(void)
     t.feedback = room_set(0.5);
     t.sines[1] = 1.0;
     check(start(&unit, memory, 2 * 90, 8000.0) == 0, "start for an echo", 0);
-    check(silent(&unit, memory, 2 * 90, &yes) == 0 && yes == 1, "silent after the start", 0);
+    check(silent(&unit, &yes) == 0 && yes == 1, "silent after the start", 0);
     for (i = 0; i < 250u; i++) {
         const double left = echoed(i, 8u);
         check(tick(&unit, memory, 2 * 90, &t, out, &age) == 0, "tick of an echo", i);
         check(same(out[0], left) && same(out[1], left) && same(out[2], echoed(i, 80u)), "echo", i);
-        check(silent(&unit, memory, 2 * 90, &yes) == 0 && yes == 0, "an echo sounds", i);
+        check(silent(&unit, &yes) == 0 && yes == 0, "an echo sounds", i);
         t.audio = room_set(0.0);
     }
     t.feedback = room_unset();
     for (i = 0; i < 90u; i++) {
         check(tick(&unit, memory, 2 * 90, &t, out, &age) == 0, "tick without feedback", i);
     }
-    check(silent(&unit, memory, 2 * 90, &yes) == 0 && yes == 1, "silent a round later", 0);
+    check(silent(&unit, &yes) == 0 && yes == 1, "silent a round later", 0);
 }
 
 /* The exported function by itself: bits of the mask beyond the four ports are not read. */
 static void mask(void)
 {
-    uint32_t pos = 3;
+    uint32_t pos = 3, count = 178;
     double phase = 0.0;
     double out[3] = {JUNK, JUNK, JUNK};
     uint32_t age = JUNK_AGE;
     const double nan_ = (double)NAN;
     lines_with(44u, 12.0, 24.0);
-    check(room_raw_flanger_tick(&pos, &phase, 8000.0, memory, 2 * 90, UINT32_C(0xfffffff1), 1.0, nan_, nan_, nan_, 0.0, 1.0,
-                                1.0, out, &age) == 0,
+    memory[3] = memory[93] = 0.0;
+    check(room_raw_flanger_tick(&pos, &count, &phase, 8000.0, memory, 2 * 90, UINT32_C(0xfffffff1), 1.0, nan_, nan_, nan_,
+                                0.0, 1.0, 1.0, out, &age) == 0,
           "audio and the other bits", 0);
     check(same(out[0], 6.5) && same(out[1], 6.5) && same(out[2], 12.5), "audio and the other bits: controls are unset", 0);
-    check(pos == 4u && same(phase, 0.0) && same(memory[3], 1.0), "audio and the other bits: what is left", 0);
+    check(pos == 4u && count == 180u && same(phase, 0.0) && same(memory[3], 1.0), "audio and the other bits: what is left", 0);
     check(age == 44u, "audio and the other bits: the age", 0);
 }
 

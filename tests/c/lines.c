@@ -33,7 +33,7 @@ int cleared(unsigned places)
 
 struct unit unit_at(uint32_t write_pos)
 {
-    const struct unit unit = {write_pos, {0.25, 0.5, 0.75}, 8000.0};
+    const struct unit unit = {write_pos, 7u, {0.25, 0.5, 0.75}, 8000.0};
     return unit;
 }
 
@@ -41,8 +41,15 @@ struct unit unit_of(uint32_t write_pos, const double phases[MOST], double sample
 {
     struct unit unit;
     unit.write_pos = write_pos;
+    unit.nonzero_places = 0u;
     memcpy(unit.phases, phases, sizeof unit.phases);
     unit.sample_rate = sample_rate;
+    return unit;
+}
+
+struct unit counting(struct unit unit, uint32_t count)
+{
+    unit.nonzero_places = count;
     return unit;
 }
 
@@ -50,14 +57,14 @@ static const double no_phases[MOST] = {0.0, 0.0, 0.0};
 
 static struct unit junk_unit(void)
 {
-    const struct unit unit = {12345u, {JUNK, JUNK, JUNK}, JUNK};
+    const struct unit unit = {12345u, 12345u, {JUNK, JUNK, JUNK}, JUNK};
     return unit;
 }
 
 int unit_is(const struct lined *e, const struct unit *is, struct unit should)
 {
-    return is->write_pos == should.write_pos && all_same(is->phases, should.phases, e->phases) &&
-           same(is->sample_rate, should.sample_rate);
+    return is->write_pos == should.write_pos && is->nonzero_places == should.nonzero_places &&
+           all_same(is->phases, should.phases, e->phases) && same(is->sample_rate, should.sample_rate);
 }
 
 unsigned length_of(const struct lined *e)
@@ -68,6 +75,16 @@ unsigned length_of(const struct lined *e)
 unsigned needed(const struct lined *e)
 {
     return e->lines * length_of(e);
+}
+
+uint32_t nonzero_now(const struct lined *e)
+{
+    return nonzero_in(memory, needed(e));
+}
+
+uint32_t counted(const struct lined *e, uint32_t before)
+{
+    return count_after(unit_at(0).nonzero_places, before, nonzero_now(e), needed(e));
 }
 
 /* Refusals: each number, and everything left as it was. */
@@ -97,7 +114,7 @@ static void start_accepted(const struct lined *e, double rate, unsigned places, 
     struct unit unit = junk_unit();
     fill();
     check(e->start(&unit, memory, places, rate) == 0, "start is accepted", i);
-    check(unit_is(e, &unit, unit_of(0, e->start_phases, rate)), "start leaves position 0, the start phases, the rate", i);
+    check(unit_is(e, &unit, unit_of(0, e->start_phases, rate)), "start leaves position, count, start phases, rate", i);
     check(cleared(places), "start puts +0 into every place that it is lent, and into no other", i);
 }
 
@@ -141,7 +158,7 @@ static void retune_accepted(const struct lined *e, struct unit unit, unsigned pl
     const struct unit should = unit_of(0, e->retune_keeps_phases ? unit.phases : no_phases, rate);
     fill();
     check(e->retune(&unit, memory, places, rate) == 0, "retune is accepted", i);
-    check(unit_is(e, &unit, should), "retune leaves position 0, its phases, the new rate", i);
+    check(unit_is(e, &unit, should), "retune leaves position and count 0, its phases, the rate", i);
     check(cleared(places), "retune puts +0 into every place that it is lent, and into no other", i);
 }
 
@@ -191,8 +208,7 @@ static void state_refused(const struct lined *e, struct unit unit, unsigned i)
 {
     reset_refused(e, unit, ROOM, 4, "reset is refused with 4", i);
     reset_refused(e, unit, 0, 4, "reset: 4 before 3", i);
-    silent_refused(e, unit, ROOM, 4, "silent is refused with 4", i);
-    silent_refused(e, unit, 0, 4, "silent: 4 before 3", i);
+    silent_refused(e, unit, 4, "silent is refused with 4", i);
     retune_refused(e, unit, ROOM, 44100.0, 4, "retune is refused with 4", i);
     retune_refused(e, unit, ROOM, 0.0, 4, "retune: 4 before 1", i);
     retune_refused(e, unit, 0, 44100.0, 4, "retune: 4 before 3", i);
@@ -228,34 +244,62 @@ static void states_refused(const struct lined *e)
     }
 }
 
+/* What the test lets pass: each call accepts it. */
+static void state_accepted(const struct lined *e, struct unit unit, uint64_t places, unsigned i)
+{
+    const struct tick t = good_tick();
+    struct unit given = unit;
+    double out[MOST];
+    uint32_t age;
+    int silent = 7;
+    fill();
+    check(e->silent(&given, &silent) == 0, "silent accepts the state", i);
+    check(e->tick(&given, memory, places, &t, out, &age) == 0, "tick accepts the state", i);
+    given = unit;
+    check(e->reset(&given, memory, places) == 0, "reset accepts the state", i);
+    given = unit;
+    check(e->retune(&given, memory, places, 8000.0) == 0, "retune accepts the state", i);
+}
+
 static void states_accepted(const struct lined *e)
 {
     const struct numbers phases = phases_accepted();
-    const struct tick t = good_tick();
     unsigned i;
     for (i = 0; i < phases.count * e->phases; i++) {
         struct unit unit = unit_at(length_of(e) - 1u);
-        double out[MOST];
-        uint32_t age;
-        int silent = 7;
         unit.phases[i % e->phases] = phases.list[i / e->phases];
-        fill();
-        check(e->silent(&unit, memory, needed(e), &silent) == 0, "silent accepts the state", i);
-        check(e->tick(&unit, memory, needed(e), &t, out, &age) == 0, "tick accepts the state", i);
-        unit.phases[i % e->phases] = phases.list[i / e->phases];
-        check(e->reset(&unit, memory, needed(e)) == 0, "reset accepts the state", i);
-        unit.phases[i % e->phases] = phases.list[i / e->phases];
-        check(e->retune(&unit, memory, needed(e), 8000.0) == 0, "retune accepts the state", i);
+        state_accepted(e, unit, needed(e), i);
+    }
+}
+
+/* A count goes up to all places in use, whatever the memory holds. */
+static void counts_tested(const struct lined *e, const struct length *at, unsigned which)
+{
+    const uint32_t all = e->lines * at->length;
+    const uint32_t within[] = {0, 1, all - 1u, all};
+    const uint32_t above[] = {all + 1u, all + 2u, 2u * all, UINT32_C(1) << 31, UINT32_MAX};
+    struct unit unit = unit_at(3u);
+    unsigned i;
+    unit.sample_rate = at->rate;
+    for (i = 0; i < COUNT(within); i++) {
+        state_accepted(e, counting(unit, within[i]), all, 100u * (which + 1u) + i);
+    }
+    for (i = 0; i < COUNT(above); i++) {
+        state_refused(e, counting(unit, above[i]), 300u + 10u * which + i);
     }
 }
 
 void lines(const struct lined *e)
 {
+    unsigned i;
     starts(e);
     retunes(e);
     resets(e);
     lines_questions(e);
     states_refused(e);
     states_accepted(e);
+    for (i = 0; i < COUNT(e->lengths); i++) {
+        counts_tested(e, &e->lengths[i], i);
+    }
     lines_ticks(e);
 }

@@ -9,7 +9,7 @@
 
 /* The fields of a state; of the phases, the effect's own come first. */
 struct unit {
-    uint32_t write_pos;
+    uint32_t write_pos, nonzero_places;
     double phases[MOST];
     double sample_rate;
 };
@@ -37,7 +37,7 @@ struct lined {
     uint32_t (*retune)(struct unit *unit, double *memory, uint64_t places, double sample_rate);
     uint32_t (*reset)(struct unit *unit, double *memory, uint64_t places);
     uint32_t (*tick)(struct unit *unit, double *memory, uint64_t places, const struct tick *t, double out[MOST], uint32_t *age);
-    uint32_t (*silent)(const struct unit *unit, const double *memory, uint64_t places, int *silent);
+    uint32_t (*silent)(const struct unit *unit, int *silent);
 };
 
 /* Start, retune, reset and silent of the effect E in that form, by a `state_of` and a `put` that copy its fields. */
@@ -57,10 +57,10 @@ struct lined {
         room_##E state = state_of(unit);                                                                                \
         return put(unit, &state, room_##E##_reset(&state, lent, places));                                               \
     }                                                                                                                   \
-    static uint32_t silent(const struct unit *unit, const double *lent, uint64_t places, int *yes)                      \
+    static uint32_t silent(const struct unit *unit, int *yes)                                                           \
     {                                                                                                                   \
         const room_##E state = state_of(unit);                                                                          \
-        return room_##E##_silent(&state, lent, places, yes);                                                            \
+        return room_##E##_silent(&state, yes);                                                                          \
     }
 
 /* `state_of` and `put` of an effect with one phase. */
@@ -69,6 +69,7 @@ struct lined {
     {                                                                                                                   \
         room_##E state;                                                                                                 \
         state.write_pos = unit->write_pos;                                                                              \
+        state.nonzero_places = unit->nonzero_places;                                                                    \
         state.lfo_phase = unit->phases[0];                                                                              \
         state.sample_rate = unit->sample_rate;                                                                          \
         return state;                                                                                                   \
@@ -76,6 +77,7 @@ struct lined {
     static uint32_t put(struct unit *unit, const room_##E *state, uint32_t number)                                      \
     {                                                                                                                   \
         unit->write_pos = state->write_pos;                                                                             \
+        unit->nonzero_places = state->nonzero_places;                                                                   \
         unit->phases[0] = state->lfo_phase;                                                                             \
         unit->sample_rate = state->sample_rate;                                                                         \
         return number;                                                                                                  \
@@ -95,13 +97,13 @@ int memory_kept(void);
 /* Whether these places hold +0, and those beyond them what `fill` left. */
 int cleared(unsigned places);
 
-/* A state at 8,000 with this position, its phases 0.25, 0.5 and 0.75. */
+/* A state at 8,000 with this position, its phases 0.25, 0.5 and 0.75, and a count of 7, whatever the memory holds. */
 struct unit unit_at(uint32_t write_pos);
 
 /* A tick with every port set, feedback to 0, and all sines the same. */
 struct tick tick_of(double audio, double depth, double mix, double frequency, double sine);
 
-/* Runs the tick from this position at 8,000, in the memory as it is: the samples, a NaN standing for any. */
+/* Runs the tick from this position at 8,000, in the memory as it is: the samples, a NaN standing for any, and the count. */
 void tick_plays(const struct lined *e, uint32_t write_pos, struct tick t, const double samples[MOST], const char *what,
                 unsigned i);
 

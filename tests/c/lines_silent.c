@@ -1,69 +1,31 @@
-/* The question whether a unit is silent, of every effect with sweeps. */
+/* The question whether a unit is silent, of every effect with sweeps: it is answered by the count that the state keeps. */
 #include "lines_parts.h"
 
-#include <string.h>
-
-void silent_refused(const struct lined *e, struct unit before, uint64_t places, uint32_t number, const char *what, unsigned i)
+void silent_refused(const struct lined *e, struct unit unit, uint32_t number, const char *what, unsigned i)
 {
-    const struct unit unit = before;
     int silent = 7;
-    fill();
-    check(e->silent(&unit, memory, places, &silent) == number && silent == 0, what, i);
-    check(unit_is(e, &unit, before) && memory_kept(), what, i);
+    check(e->silent(&unit, &silent) == number && silent == 0, what, i);
 }
 
-static void silent_is(const struct lined *e, unsigned places, int yes, const char *what, unsigned i)
+static void silent_is(const struct lined *e, struct unit unit, int yes, const char *what, unsigned i)
 {
-    const struct unit unit = unit_at(5u);
     int silent = 7;
-    memcpy(kept, memory, sizeof kept);
-    check(e->silent(&unit, memory, places, &silent) == 0 && silent == yes, what, i);
-    check(unit_is(e, &unit, unit_at(5u)) && memory_kept(), "silent changes nothing", i);
+    check(e->silent(&unit, &silent) == 0 && silent == yes, what, i);
 }
 
-/* One place sounds, at the end of those in use or right behind it, and as much is lent as is needed or more. */
-static void questions_at_the_end(const struct lined *e, double sound, unsigned i)
-{
-    const unsigned lent[] = {needed(e), needed(e) + 1u, 2u * needed(e), 3u * needed(e), ROOM};
-    unsigned k;
-    memset(memory, 0, sizeof memory);
-    for (k = 0; k < COUNT(lent); k++) {
-        memory[needed(e) - 1u] = sound;
-        silent_is(e, lent[k], 0, "the last place in use sounds", 10u * i + k);
-        memory[needed(e) - 1u] = 0.0;
-        memory[needed(e)] = sound;
-        silent_is(e, lent[k], 1, "the first spare place does not count", 10u * i + k);
-        memory[needed(e)] = 0.0;
-    }
-}
-
+/* At each rate, whose places in use are as many as a count may be. */
 void lines_questions(const struct lined *e)
 {
-    const double sounds[] = {SMALLEST, -SMALLEST, 1.0, (double)INFINITY, (double)NAN, ODD_NAN};
     unsigned i, k;
-    fill();
-    for (i = 0; i < needed(e); i++) {
-        memory[i] = 0.0;
-    }
-    silent_is(e, needed(e), 1, "+0 in every place in use is silent", 0);
-    silent_is(e, needed(e) + 1u, 1, "whatever the next one holds", 0);
-    silent_is(e, ROOM, 1, "whatever all the spare ones hold", 0);
-    for (i = 0; i < needed(e); i += 3u) {
-        memory[i] = -0.0;
-    }
-    silent_is(e, needed(e) + 1u, 1, "-0 is silent too", 0);
-    for (i = 0; i < COUNT(sounds); i++) {
-        for (k = 0; k < 2u * e->lines; k++) {
-            /* The first and the last place of each line. */
-            const unsigned place = k / 2u * length_of(e) + k % 2u * (length_of(e) - 1u);
-            memory[place] = sounds[i];
-            silent_is(e, needed(e) + 1u, 0, "one place sounds", 10u * i + k);
-            memory[place] = -0.0;
+    for (i = 0; i < COUNT(e->lengths); i++) {
+        const uint32_t all = e->lines * e->lengths[i].length;
+        const uint32_t sounds[] = {1, 2, 256, all / 2u, all - 1u, all};
+        struct unit unit = unit_at(e->lengths[i].length - 1u);
+        unit.sample_rate = e->lengths[i].rate;
+        silent_is(e, counting(unit, 0), 1, "a count of 0 is silent", i);
+        for (k = 0; k < COUNT(sounds); k++) {
+            silent_is(e, counting(unit, sounds[k] <= all ? sounds[k] : all), 0, "any other sounds", 10u * i + k);
         }
+        silent_refused(e, counting(unit, all + 1u), 4, "more than there are is refused", i);
     }
-    for (i = 0; i < COUNT(sounds); i++) {
-        questions_at_the_end(e, sounds[i], i);
-    }
-    silent_refused(e, unit_at(0), needed(e) - 1u, 3, "silent wants its places", 0);
-    silent_refused(e, unit_at(0), 0, 3, "silent wants places", 0);
 }

@@ -16,6 +16,7 @@ struct tick tick_of(double audio, double depth, double mix, double frequency, do
 void tick_plays(const struct lined *e, uint32_t write_pos, struct tick t, const double samples[MOST], const char *what,
                 unsigned i)
 {
+    const uint32_t before = nonzero_now(e);
     struct unit unit = unit_at(write_pos);
     double out[MOST] = {JUNK, JUNK, JUNK};
     uint32_t age;
@@ -24,17 +25,19 @@ void tick_plays(const struct lined *e, uint32_t write_pos, struct tick t, const 
     for (k = 0; k < e->samples; k++) {
         check(plays(out[k], samples[k]), what, i);
     }
+    check(unit.nonzero_places == counted(e, before), what, i);
 }
 
 void tick_moves(const struct lined *e, double phase, double frequency, const double next[MOST], const char *what, unsigned i)
 {
     const double phases[MOST] = {phase, phase, phase};
     const struct tick t = tick_of(0.0, 0.5, 0.5, frequency, 0.0);
-    struct unit unit = unit_of(0, phases, 8000.0);
+    const uint32_t before = nonzero_now(e);
+    struct unit unit = counting(unit_of(0, phases, 8000.0), unit_at(0).nonzero_places);
     double out[MOST];
     uint32_t age;
     check(e->tick(&unit, memory, needed(e), &t, out, &age) == 0, what, i);
-    check(unit_is(e, &unit, unit_of(1, next, 8000.0)), what, i);
+    check(unit_is(e, &unit, counting(unit_of(1, next, 8000.0), counted(e, before))), what, i);
 }
 
 void tick_refused(const struct lined *e, struct unit before, uint64_t places, struct tick t, uint32_t number, const char *what,
@@ -77,11 +80,13 @@ static void fill_to_store(const struct lined *e)
 static void tick_stores(const struct lined *e, uint32_t write_pos, unsigned places, struct tick t, double stored, unsigned i)
 {
     struct unit unit = unit_at(write_pos);
+    uint32_t before, age;
     double out[MOST];
-    uint32_t age;
     unsigned k;
     fill_to_store(e);
+    before = nonzero_now(e);
     check(e->tick(&unit, memory, places, &t, out, &age) == 0, "tick is accepted", i);
+    check(unit.nonzero_places == counted(e, before), "the count goes by the places in use, the spare ones apart", i);
     for (k = 0; k < e->lines; k++) {
         const unsigned place = k * length_of(e) + write_pos;
         check(plays(memory[place], stored), "a tick stores its audio at the position", i);

@@ -49,7 +49,7 @@ int main(void)
     test("tape delay", tape);
     test("places", places);
     test("order of causes", order_of_causes);
-    test("layout", layout);
+    test("counts", counts);
     test("ends", ends);
     test("ages", ages);
     test("what never falls silent", stuck);

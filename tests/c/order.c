@@ -1,24 +1,38 @@
 /* Where several causes of a refusal apply at once the first in the call's order is given: every set of causes, for every call
    of every effect, each cause brought about in several ways. */
-#include "order.h"
+#include "effects.h"
 
 #include <string.h>
 
 #define RATE 8000.0
 #define MAXIMUM 0.0625
 
-double order_lent[ORDER_ROOM];
+/* A call about to be made, and the number that it must return. Its unit, at 8,000, has ticked, in memory that sounds. */
+struct attempt {
+    struct effect_call call;
+    struct effect_state state;
+    uint32_t number;
+    unsigned which; /* of all attempts, for what a failure says */
+};
+
+/* The memory that all of them are lent: the most that one needs, and some more. */
+#define ORDER_ROOM 96100u
+static double order_lent[ORDER_ROOM];
 
 /* The places at 8,000 by document 01, of chorus, phaser and tape delay by document 02; the delay's with that maximum. */
-const uint64_t places_at_8000[EFFECTS_END] = {0, 501, 266, 180, 170, 0, 87136, 0, 96001};
+static const uint64_t places_at_8000[EFFECTS_END] = {0, 501, 266, 180, 170, 0, 87136, 0, 96001};
 
-/* "start 1, 2, 3; retune 4, 1, 2, 3; reset and silent 4, 3; tick 4, 3, 5, 6", and of the tape delay the read half 4, 7, 3, 5
-   and the store half 4, 7, 3, 6. */
+/* "start 1, 2, 3; retune 4, 1, 2, 3; reset 4, 3; tick 4, 3, 5, 6", of the tape delay the read half 4, 7, 3, 5 and the store
+   half 4, 7, 3, 6, and of the question, which takes no memory, 4 alone. */
 static const char *order_of(int effect, int call)
 {
-    static const char *const orders[CALLS] = {"123", "4123", "43", "4356", "43", "4736"};
+    static const char *const orders[CALLS] = {"123", "4123", "43", "4356", "4", "4736"};
     return effect == ROOM_TAPE_DELAY && call == TICK ? "4735" : orders[call];
 }
+
+/* In how many ways each set of causes is brought about, and from which of them on the wrong state is one by its count. */
+#define WAYS 11u
+#define COUNTS_FROM 8u
 
 static void set_wrong_reverb(room_reverb *state, unsigned way)
 {
@@ -76,13 +90,23 @@ static void set_wrong_turn(room_tape_delay *state)
     state->kept_mix = state->waiting != 0u ? 0.5 : 0.0;
 }
 
-/* Cause 4: one number of the state that no start leads to. */
+/* A count above all places in use: 14,200 of the reverb, of the others all that they need. */
+static void set_wrong_count(int effect, struct effect_state *s, unsigned way)
+{
+    const uint32_t all = effect == ROOM_REVERB ? 14200u : (uint32_t)places_at_8000[effect];
+    const uint32_t above[] = {all + 1u, 2u * all, UINT32_MAX};
+    *effect_count(effect, s) = above[way % 3u];
+}
+
+/* Cause 4: one number of the state that no start leads to; in the last ways of an effect with lines the count. */
 static void set_wrong_state(int effect, struct effect_state *s, unsigned way)
 {
     const double phases[] = {1.0, -SMALLEST, ODD_NAN};
     const double phase = phases[way % 3u];
     const uint32_t position = UINT32_C(6154) << way;
-    if (effect == ROOM_DELAY) {
+    if (effect_lined(effect) && way >= COUNTS_FROM) {
+        set_wrong_count(effect, s, way);
+    } else if (effect == ROOM_DELAY) {
         set_wrong_delay(&s->delay, way);
     } else if (effect == ROOM_TAPE_DELAY) {
         set_wrong_tape(&s->tape_delay, way);
@@ -171,33 +195,6 @@ static uint32_t bring_about(struct effect_call *c, struct effect_state *state, u
     return number;
 }
 
-/* Makes the call with these causes ready, and hands it over. */
-static void with_causes(int effect, int call, unsigned set, unsigned way, void (*made)(const struct attempt *a))
-{
-    struct attempt a;
-    a.places = places_at_8000[effect];
-    a.call = effect_good(effect, call, order_lent, a.places, RATE, MAXIMUM);
-    a.which = 10000u * (unsigned)effect + 1000u * (unsigned)call + 10u * set + way;
-    begin(effect, call, &a.state);
-    a.number = bring_about(&a.call, &a.state, set, way);
-    if (a.number != NONE) {
-        made(&a);
-    }
-}
-
-void each_attempt(int effect, void (*made)(const struct attempt *a))
-{
-    int call;
-    unsigned set, way;
-    for (call = START; call < CALLS; call++) {
-        for (set = 0; effect_has(effect, call) && set < 1u << strlen(order_of(effect, call)); set++) {
-            for (way = 0; way < 8u; way++) {
-                with_causes(effect, call, set, way, made);
-            }
-        }
-    }
-}
-
 /* Makes the call, and looks at what it left. */
 static void first_is_given(const struct attempt *a)
 {
@@ -223,10 +220,36 @@ static void first_is_given(const struct attempt *a)
     }
 }
 
+static void with_causes(int effect, int call, unsigned set, unsigned way)
+{
+    struct attempt a;
+    a.call = effect_good(effect, call, order_lent, places_at_8000[effect], RATE, MAXIMUM);
+    a.which = 100000u * (unsigned)effect + 10000u * (unsigned)call + 100u * set + way;
+    begin(effect, call, &a.state);
+    a.number = bring_about(&a.call, &a.state, set, way);
+    if (a.number != NONE) {
+        first_is_given(&a);
+    }
+}
+
+static void each_set(int effect, int call)
+{
+    unsigned set, way;
+    for (set = 0; set < 1u << strlen(order_of(effect, call)); set++) {
+        for (way = 0; way < WAYS; way++) {
+            with_causes(effect, call, set, way);
+        }
+    }
+}
+
 void order_of_causes(void)
 {
-    int effect;
+    int effect, call;
     for (effect = ROOM_DELAY; effect < EFFECTS_END; effect++) {
-        each_attempt(effect, first_is_given);
+        for (call = START; call < CALLS; call++) {
+            if (effect_has(effect, call)) {
+                each_set(effect, call);
+            }
+        }
     }
 }

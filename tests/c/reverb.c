@@ -41,14 +41,15 @@ static int tank_cleared(unsigned places)
 
 /* States */
 
-/* Every number of it the same. */
-static room_reverb even_reverb(uint32_t position, double store, double rate)
+/* Every number of it the same, but for the rate. */
+static room_reverb even_reverb(uint32_t whole, double store, double rate)
 {
     room_reverb state;
     unsigned i;
     for (i = 0; i < LINES; i++) {
-        *line_pos(&state, i) = position;
+        *line_pos(&state, i) = whole;
     }
+    state.nonzero_places = whole;
     for (i = 0; i < 8u; i++) {
         state.comb_filter_state_l[i] = state.comb_filter_state_r[i] = store;
     }
@@ -78,6 +79,12 @@ room_reverb varied_reverb(const struct tuning *at)
         state.comb_filter_state_l[i] = stores[i];
         state.comb_filter_state_r[i] = stores[7u - i];
     }
+    return reverb_counting(state, 77u);
+}
+
+room_reverb reverb_counting(room_reverb state, uint32_t count)
+{
+    state.nonzero_places = count;
     return state;
 }
 
@@ -91,7 +98,7 @@ int reverb_is(const room_reverb *is, const room_reverb *should)
             return 0;
         }
     }
-    return all_same(a.comb_filter_state_l, b.comb_filter_state_l, 8u) &&
+    return a.nonzero_places == b.nonzero_places && all_same(a.comb_filter_state_l, b.comb_filter_state_l, 8u) &&
            all_same(a.comb_filter_state_r, b.comb_filter_state_r, 8u) && same(a.sample_rate, b.sample_rate);
 }
 
@@ -163,7 +170,7 @@ static void start_accepted(double rate, unsigned places, unsigned i)
     room_reverb state = junk_reverb();
     fill_tank();
     check(room_reverb_start(&state, tank, places, rate) == 0, "start is accepted", i);
-    check(reverb_is(&state, &should), "start leaves positions 0 and stores +0", i);
+    check(reverb_is(&state, &should), "start leaves positions and count 0 and stores +0", i);
     check(tank_cleared(places), "start puts +0 into every place that it is lent, and into no other", i);
 }
 
@@ -250,8 +257,7 @@ static void state_refused(room_reverb state, unsigned i)
 {
     reset_refused(state, TANK_ROOM, 4, "reset is refused with 4", i);
     reset_refused(state, TANK - 1u, 4, "reset: 4 before 3", i);
-    reverb_silent_refused(state, TANK_ROOM, 4, "silent is refused with 4", i);
-    reverb_silent_refused(state, TANK - 1u, 4, "silent: 4 before 3", i);
+    reverb_silent_refused(state, 4, "silent is refused with 4", i);
     retune_refused(state, TANK_ROOM, 44100.0, 4, "retune is refused with 4", i);
     retune_refused(state, TANK_ROOM, 0.0, 4, "retune: 4 before 1", i);
     retune_refused(state, TANK - 1u, 44100.0, 4, "retune: 4 before 3", i);
@@ -270,7 +276,7 @@ static void state_accepted(room_reverb state, unsigned i)
     double out[2];
     int silent = 7;
     fill_tank();
-    check(room_reverb_silent(&given, tank, TANK, &silent) == 0 && silent == 0, "silent accepts the state", i);
+    check(room_reverb_silent(&given, &silent) == 0, "silent accepts the state", i);
     check(reverb_ticked(&given, TANK, &t, out) == 0, "tick accepts the state", i);
     given = state;
     check(room_reverb_reset(&given, tank, TANK) == 0, "reset accepts the state", i);
@@ -301,13 +307,30 @@ static void states_at(const struct tuning *at, unsigned which)
     state_accepted(cleared_reverb(at->rate), 1000u * which + 998u);
 }
 
+/* A count goes up to all places in use, which are those of the lines together. */
+static void counts_at(const struct tuning *at, unsigned which)
+{
+    const uint32_t all = tank_in_use(at);
+    const uint32_t above[] = {all + 1u, all + 2u, 2u * all, TANK, UINT32_C(1) << 31, UINT32_MAX};
+    unsigned i;
+    state_accepted(reverb_counting(varied_reverb(at), 0u), 1000u * which + 997u);
+    state_accepted(reverb_counting(varied_reverb(at), all), 1000u * which + 996u);
+    state_accepted(reverb_counting(cleared_reverb(at->rate), all), 1000u * which + 995u);
+    for (i = 0; i < COUNT(above); i++) {
+        state_refused(reverb_counting(varied_reverb(at), above[i]), 1000u * which + 300u + i);
+        state_refused(reverb_counting(cleared_reverb(at->rate), above[i]), 1000u * which + 310u + i);
+    }
+}
+
 static void states(void)
 {
     const struct numbers wrong = rates_refused();
     unsigned i;
     for (i = 0; i < TUNINGS; i++) {
         states_at(&tunings[i], i);
+        counts_at(&tunings[i], i);
     }
+    check(tank_in_use(&tunings[0]) == 14200u && tank_in_use(&tunings[TUNINGS - 1u]) == 86157u, "the places in use", 0);
     state_refused(cleared_reverb(0.0), 0);
     for (i = 0; i < wrong.count; i++) {
         room_reverb state = varied_reverb(&tunings[0]);

@@ -20,8 +20,10 @@ int tank_kept(void);
 /* A state after a clearing at this rate. */
 room_reverb cleared_reverb(double rate);
 
-/* A state at this rate with other positions and stores, NaNs and infinities among them. */
+/* A state at this rate with other positions and stores, NaNs and infinities among them, and a count of 77, whatever the tank
+   holds; and a state with another count. */
 room_reverb varied_reverb(const struct tuning *at);
+room_reverb reverb_counting(room_reverb state, uint32_t count);
 
 int reverb_is(const room_reverb *is, const room_reverb *should);
 
@@ -37,8 +39,8 @@ uint32_t reverb_ticked(room_reverb *state, uint64_t places, const struct tick_of
 /* The accepted ticks: what they read, play, store and leave. */
 void reverb_ticks(void);
 
-/* The question, and one that is refused with this number and leaves everything as it was. */
+/* The question, and one that is refused with this number and leaves the state as it was. */
 void reverb_questions(void);
-void reverb_silent_refused(room_reverb before, uint64_t places, uint32_t number, const char *what, unsigned i);
+void reverb_silent_refused(room_reverb before, uint32_t number, const char *what, unsigned i);
 
 #endif

@@ -60,7 +60,8 @@ static void bench_cases(void)
     check(same(state.comb_filter_state_l[3], 5.0) && same(tank[3u * 4096u], 2.5), "4 x 0.75 + 8 x 0.25, fed back", 1);
 }
 
-/* Each line written at its position and nowhere else; each position one on, and from the last place in use back to 0. */
+/* Each line written at its position and nowhere else; each position one on, and from the last place in use back to 0; and the
+   count by the places in use, of which all that are written sound before. */
 static void moves_at(const struct tuning *at, unsigned which)
 {
     const struct tick_of_reverb t = reverb_tick(4.0, 0.5, 0.25, 0.5);
@@ -75,11 +76,15 @@ static void moves_at(const struct tuning *at, unsigned which)
     for (i = 0; i < COUNT(states); i++) {
         room_reverb state = states[i];
         double out[2] = {JUNK, JUNK};
+        uint32_t count;
         fill_tank();
         for (line = 0; line < LINES; line++) {
             *at_pos(&states[i], line) = 0.25;
         }
+        count = nonzero_in_tank(at, tank);
         check(reverb_ticked(&state, TANK + 1u, &t, out) == 0, "tick at positions", 10u * which + i);
+        count = count_after(states[i].nonzero_places, count, nonzero_in_tank(at, tank), tank_in_use(at));
+        check(state.nonzero_places == count, "the count goes by the places in use", 10u * which + i);
         for (line = 0; line < LINES; line++) {
             const uint32_t next = (*line_pos(&states[i], line) + 1u) % line_length(at, line);
             check(*line_pos(&state, line) == next, "a position moves on", 1000u * which + 10u * line + i);
@@ -329,7 +334,7 @@ static void echo(void)
         fill_tank();
         t.predelay = room_set(controls[k]);
         check(room_reverb_start(&state, tank, TANK, 8000.0) == 0, "start for an echo", k);
-        check(room_reverb_silent(&state, tank, TANK, &yes) == 0 && yes == 1, "silent after the start", k);
+        check(room_reverb_silent(&state, &yes) == 0 && yes == 1, "silent after the start", k);
         for (i = 0; i <= 206u + later; i++) {
             const double left = i == 202u + later ? 0.125 : 0.0;
             const double right = i == 206u + later ? 0.125 : 0.0;
@@ -337,7 +342,7 @@ static void echo(void)
             check(same(out[0], left) && same(out[1], right), "an impulse comes out by the shortest comb", i);
             t.audio = room_set(0.0);
         }
-        check(room_reverb_silent(&state, tank, TANK, &yes) == 0 && yes == 0, "an echo sounds", k);
+        check(room_reverb_silent(&state, &yes) == 0 && yes == 0, "an echo sounds", k);
         for (i = 0; i < 1000u && yes == 0; i++) {
             unsigned n;
             uint32_t refused = 0;
@@ -345,7 +350,7 @@ static void echo(void)
                 refused |= reverb_ticked(&state, TANK, &t, out);
             }
             check(refused == 0, "ticks of a dying echo", i);
-            check(room_reverb_silent(&state, tank, TANK, &yes) == 0, "whether it still sounds", i);
+            check(room_reverb_silent(&state, &yes) == 0, "whether it still sounds", i);
         }
         check(yes == 1 && i > 100u, "it dies away", i);
         check(room_reverb_reset(&state, tank, TANK) == 0, "reset of an echo", k);
@@ -359,11 +364,13 @@ static void mask(void)
     room_reverb state = playing();
     double out[2] = {JUNK, JUNK};
     check(room_raw_reverb_tick(state.comb_pos_l, state.comb_pos_r, state.allpass_pos_l, state.allpass_pos_r,
-                               &state.predelay_pos, state.comb_filter_state_l, state.comb_filter_state_r, 8000.0, tank, TANK,
-                               UINT32_C(0xffffffe1), 1.0, nan_, nan_, nan_, nan_, out) == 0,
+                               &state.predelay_pos, &state.nonzero_places, state.comb_filter_state_l,
+                               state.comb_filter_state_r, 8000.0, tank, TANK, UINT32_C(0xffffffe1), 1.0, nan_, nan_, nan_,
+                               nan_, out) == 0,
           "audio and the other bits", 0);
     check(same(out[0], 6.5) && same(out[1], 10.5), "audio and the other bits: controls are unset", 0);
     check(state.predelay_pos == 1u && same(tank[77536], 1.0), "audio and the others: it leaves", 0);
+    check(state.nonzero_places == 23u, "of the 25 places written two sounded before", 0);
 }
 
 void reverb_ticks(void)

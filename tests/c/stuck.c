@@ -25,7 +25,7 @@ static double echoes(room_delay *state, double feedback, unsigned repeats)
 static int delay_sounds(const room_delay *state)
 {
     int silent = 7;
-    check(room_delay_silent(state, lent, DELAY_PLACES, &silent) == 0, "silent after an echo", 0);
+    check(room_delay_silent(state, &silent) == 0, "silent after an echo", 0);
     return silent == 0;
 }
 
@@ -78,10 +78,10 @@ static void tape_stuck_at(double feedback, double distance, uint64_t steps, unsi
     room_tape_delay state;
     int silent = 7;
     check(bits(tape_echoes(&state, 1.0, feedback, distance, 200000u)) == steps, "where a tape's echo stays", i);
-    check(room_tape_delay_silent(&state, tape_memory, TAPE_LINE, &silent) == 0 && silent == (steps == 0u),
+    check(room_tape_delay_silent(&state, &silent) == 0 && silent == (steps == 0u),
           "a tape is silent only if it came to 0", i);
     check(room_tape_delay_reset(&state, tape_memory, TAPE_LINE) == 0, "reset of a tape that rings on", i);
-    check(room_tape_delay_silent(&state, tape_memory, TAPE_LINE, &silent) == 0 && silent == 1, "it is silent", i);
+    check(room_tape_delay_silent(&state, &silent) == 0 && silent == 1, "it is silent", i);
 }
 
 /* In steps of the smallest float: 15 x 0.5 is 7.5, which goes to 8; a fifth of it is 2; x t 2, / t 3; x 5 is 15 again. And 55 x
@@ -123,7 +123,7 @@ static int tank_silent(room_reverb *state, double size, unsigned seconds)
                                     out);
     }
     check(refused == 0u, "ticks of a room that may ring on", 0);
-    check(room_reverb_silent(state, lent, TANK_PLACES, &silent) == 0, "silent after a room rang", 0);
+    check(room_reverb_silent(state, &silent) == 0, "silent after a room rang", 0);
     return silent;
 }
 
@@ -134,7 +134,7 @@ static void rooms_stick(void)
     check(tank_silent(&state, 0.3, 70), "a feedback of 0.49 falls silent", 0);
     check(!tank_silent(&state, 0.5, 120), "the default size, a feedback of 0.63, does not", 1);
     check(room_reverb_reset(&state, lent, TANK_PLACES) == 0, "reset of a room that rings on", 2);
-    check(room_reverb_silent(&state, lent, TANK_PLACES, &silent) == 0 && silent == 1, "a reset makes it silent", 3);
+    check(room_reverb_silent(&state, &silent) == 0 && silent == 1, "a reset makes it silent", 3);
 }
 
 /* An impulse, and so many ticks of audio 0, through six all-passes a side. */

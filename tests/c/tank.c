@@ -44,6 +44,35 @@ unsigned line_length(const struct tuning *at, unsigned line)
     return 9600u;
 }
 
+const struct tuning *tuning_at(double rate)
+{
+    unsigned i = 0;
+    while (i < TUNINGS - 1u && !same(tunings[i].rate, rate)) {
+        i++;
+    }
+    return &tunings[i];
+}
+
+uint32_t tank_in_use(const struct tuning *at)
+{
+    uint32_t sum = 0;
+    unsigned line;
+    for (line = 0; line < LINES; line++) {
+        sum += line_length(at, line);
+    }
+    return sum;
+}
+
+uint32_t nonzero_in_tank(const struct tuning *at, const double *places)
+{
+    uint32_t sum = 0;
+    unsigned line;
+    for (line = 0; line < LINES; line++) {
+        sum += nonzero_in(places + line_start(line), line_length(at, line));
+    }
+    return sum;
+}
+
 uint32_t *line_pos(room_reverb *state, unsigned line)
 {
     return line < RIGHT_COMB      ? &state->comb_pos_l[line]

@@ -25,8 +25,13 @@ struct tuning {
 #define TUNINGS 8u
 extern const struct tuning tunings[TUNINGS];
 
-/* How long a line is there. */
+/* The one at this rate. */
+const struct tuning *tuning_at(double rate);
+
+/* How long a line is there; how many places that are in all, and how many of them are neither +0 nor -0. */
 unsigned line_length(const struct tuning *at, unsigned line);
+uint32_t tank_in_use(const struct tuning *at);
+uint32_t nonzero_in_tank(const struct tuning *at, const double *places);
 
 /* A line's position in a state, and a comb's damping store. */
 uint32_t *line_pos(room_reverb *state, unsigned line);

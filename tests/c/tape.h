@@ -18,9 +18,16 @@ void tape_put(uint64_t place, double value);
 int tape_left(void);
 int tape_wrote(uint64_t place, double value);
 
-/* States at 8,000 with a coefficient of 0.5 in which no read waits: at this position, and with a glide at this distance. */
+/* How many places of the line are neither +0 nor -0. */
+uint32_t tape_nonzero(void);
+
+/* States at 8,000 with a coefficient of 0.5 in which no read waits: at this position, with a count of 0, and with a glide at
+   this distance and a count of 7, whatever the memory holds. */
 room_tape_delay unread_at(uint32_t write_pos);
 room_tape_delay read_from(uint32_t write_pos, double distance);
+
+/* The state with another count. */
+room_tape_delay tape_counting(room_tape_delay state, uint32_t count);
 
 /* The state with a read that waits, which has kept these. */
 room_tape_delay waits_with(room_tape_delay state, double audio, double read, double mix);

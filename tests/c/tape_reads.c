@@ -24,7 +24,7 @@ static void reads(room_tape_delay state, struct tape_ports p, struct reading r, 
     check(read_tape(&state, TAPE_LINE, &p, &sum, &ages[1]) == 0, what, i);
     check(plays(sum, r.audio + r.read * r.feedback), what, i);
     check(ages[1] == age_at(r.distance) && ages[0] == JUNK_AGE && ages[2] == JUNK_AGE, "the age is that of the distance", i);
-    check(tape_is(&state, should), "it leaves the position and the settings, its distance, and what it keeps", i);
+    check(tape_is(&state, should), "it leaves position, count and settings, its distance, and what it keeps", i);
     check(tape_left(), "it writes no place", i);
 }
 
@@ -215,8 +215,9 @@ static void unset_ports(void)
         p.audio.set = p.time.set = p.feedback.set = p.mix.set = 0;
         reads(unread_at(3u), p, r, "the numbers of unset ports are not read", i);
     }
-    check(room_raw_tape_delay_read_half(3u, &distance, &audio, &read, &mix, 8000.0, 0.5, &primed, &waiting, tape_memory,
-                                        TAPE_LINE, UINT32_C(0xfffffff5), 2.0, ODD_NAN, 1.0, ODD_NAN, &sum, &age) == 0,
+    check(room_raw_tape_delay_read_half(3u, TAPE_LINE, &distance, &audio, &read, &mix, 8000.0, 0.5, &primed, &waiting,
+                                        tape_memory, TAPE_LINE, UINT32_C(0xfffffff5), 2.0, ODD_NAN, 1.0, ODD_NAN, &sum,
+                                        &age) == 0,
           "audio and feedback, and the other bits", 0);
     check(same(sum, 6.0) && age == 4000u && same(distance, 4000.0) && primed == 1u && waiting == 1u && same(audio, 2.0) &&
               same(read, 4.0) && same(mix, 0.5),

@@ -5,8 +5,8 @@
 
 static void start_refused(double rate, double coefficient, uint64_t places, uint32_t number, unsigned i)
 {
-    const room_tape_delay blank = {0, 0.0, 0.0, 0.0, 0.0, 0.0, 0.0, 0, 0};
-    room_tape_delay state = {12345u, JUNK, JUNK, JUNK, JUNK, JUNK, JUNK, 12345u, 12345u};
+    const room_tape_delay blank = {0, 0, 0.0, 0.0, 0.0, 0.0, 0.0, 0.0, 0, 0};
+    room_tape_delay state = {12345u, 12345u, JUNK, JUNK, JUNK, JUNK, JUNK, JUNK, 12345u, 12345u};
     check(room_tape_delay_start(&state, tape_memory, places, rate, coefficient) == number, "start is refused", i);
     check(tape_is(&state, blank), "a refused start writes a state of zeros", i);
     check(tape_left(), "a refused start leaves the memory", i);
@@ -27,13 +27,13 @@ static void reset_refused(room_tape_delay before, uint64_t places, uint32_t numb
     check(tape_is(&state, before) && tape_left(), "a refused reset changes nothing", i);
 }
 
-static void silent_refused(room_tape_delay before, uint64_t places, uint32_t number, unsigned i)
+static void silent_refused(room_tape_delay before, uint32_t number, unsigned i)
 {
     room_tape_delay state = before;
     int silent = 7;
-    check(room_tape_delay_silent(&state, tape_memory, places, &silent) == number, "silent is refused", i);
+    check(room_tape_delay_silent(&state, &silent) == number, "silent is refused", i);
     check(silent == 0, "a refused question is answered no", i);
-    check(tape_is(&state, before) && tape_left(), "a refused question changes nothing", i);
+    check(tape_is(&state, before), "a refused question changes nothing", i);
 }
 
 static void read_refused(room_tape_delay before, uint64_t places, struct tape_ports p, uint32_t number, const char *what,
@@ -95,8 +95,7 @@ static void state_refused(room_tape_delay state, unsigned i)
     const double nan_ = (double)NAN;
     reset_refused(state, TAPE_LENT, 4, i);
     reset_refused(state, 0, 4, i);
-    silent_refused(state, TAPE_LENT, 4, i);
-    silent_refused(state, 0, 4, i);
+    silent_refused(state, 4, i);
     retune_refused(state, TAPE_LENT, 8000.0, 0.5, 4, i);
     retune_refused(state, TAPE_LENT, 0.0, 0.5, 4, i);
     retune_refused(state, TAPE_LENT, 8000.0, 1.0, 4, i);
@@ -124,7 +123,7 @@ static void settings_and_positions_refused(void)
     const uint32_t positions[] = {TAPE_LINE, TAPE_LINE + 1u, 2u * TAPE_LINE, UINT32_C(1) << 31, UINT32_MAX};
     const struct numbers rates = rates_refused();
     const struct numbers coefficients = coefficients_refused();
-    const room_tape_delay blank = {0, 0.0, 0.0, 0.0, 0.0, 0.0, 0.0, 0, 0};
+    const room_tape_delay blank = {0, 0, 0.0, 0.0, 0.0, 0.0, 0.0, 0.0, 0, 0};
     room_tape_delay state;
     unsigned i;
     refused_either_way(blank, 0);
@@ -142,6 +141,20 @@ static void settings_and_positions_refused(void)
         state.delay_smooth_coef = coefficients.list[i];
         refused_either_way(state, 200u + i);
     }
+}
+
+/* More than the line's places. */
+static void counts_refused(void)
+{
+    const uint32_t above[] = {TAPE_LINE + 1u, TAPE_LINE + 2u, 2u * TAPE_LINE, UINT32_C(1) << 31, UINT32_MAX};
+    room_tape_delay higher = read_from(3u, 250.0);
+    unsigned i;
+    for (i = 0; i < COUNT(above); i++) {
+        refused_either_way(tape_counting(unread_at(3u), above[i]), 700u + i);
+        refused_either_way(tape_counting(read_from(3u, 250.0), above[i]), 710u + i);
+    }
+    higher.sample_rate = 44100.0;
+    refused_either_way(tape_counting(higher, 529202u), 720u);
 }
 
 static void glides_refused(void)
@@ -213,8 +226,6 @@ static void turns(void)
         store_refused(none, TAPE_LENT, 2.0, 7, "store half: 7 before 6", i);
         reset_refused(waits, TAPE_LINE - 1u, 3, i);
         reset_refused(none, 0, 3, i);
-        silent_refused(waits, TAPE_LINE - 1u, 3, i);
-        silent_refused(none, 0, 3, i);
     }
 }
 
@@ -279,6 +290,7 @@ void tape_refusals(void)
     tape_fill();
     starts_refused();
     settings_and_positions_refused();
+    counts_refused();
     glides_refused();
     kept_refused();
     turns();

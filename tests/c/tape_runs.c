@@ -57,7 +57,7 @@ static room_tape_delay unit;
 static int says_silent(void)
 {
     int silent = 7;
-    check(room_tape_delay_silent(&unit, tape_memory, TAPE_LENT, &silent) == 0, "a question in a run", 0);
+    check(room_tape_delay_silent(&unit, &silent) == 0, "a question in a run", 0);
     return silent;
 }
 
@@ -73,11 +73,16 @@ static void both(double audio, double time, double feedback, double mix, unsigne
     check(read_tape(&unit, TAPE_LENT, &p, &sum, &age) == 0 && same(sum, t.sum) && age == t.age, "sum and age", i);
     if (i % 500u == 0u) {
         check(says_silent() == 0, "not silent while a read waits", i);
+        check(unit.nonzero_places == tape_nonzero(), "the count is that of the line, at a read half too", i);
     }
     check(store_tape(&unit, TAPE_LENT, saturated(sum), out) == 0 && same(out[0], t.sample), "the sample", i);
     check(same(tape_memory[place], t.stored), "the place that is stored", i);
     check(unit.write_pos == model.position && same(unit.smoothed_delay, model.distance) && unit.waiting == 0u,
           "position and glide", i);
+    if (i % 500u == 1u) {
+        check(unit.nonzero_places == tape_nonzero(), "the count is that of the line after a store half", i);
+        check(says_silent() == (tape_nonzero() == 0u), "and by it the unit is silent", i);
+    }
 }
 
 /* Numbers from -1 to 1, all over. */
@@ -98,6 +103,7 @@ static void line_as_model(unsigned i)
 {
     unsigned k, outside = 0, spare = 0;
     check(all_same(tape_memory, model.line, TAPE_LINE), "the whole line", i);
+    check(unit.nonzero_places == nonzero_in(model.line, TAPE_LINE), "the count at the end of a run", i);
     for (k = 0; k < TAPE_LINE; k++) {
         outside += !(tape_memory[k] >= -5.0 && tape_memory[k] <= 5.0);
     }

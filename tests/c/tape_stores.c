@@ -11,8 +11,9 @@ static void stores(room_tape_delay state, double value, double sample, const cha
     should.write_pos = (place + 1u) % TAPE_LINE;
     tape_lay(0.5);
     check(store_tape(&state, TAPE_LINE, value, &out[1]) == 0, what, i);
+    should.nonzero_places = count_after(should.nonzero_places, TAPE_LINE, tape_nonzero(), TAPE_LINE);
     check(plays(out[1], sample) && same(out[0], JUNK) && same(out[2], JUNK), what, i);
-    check(tape_is(&state, should), "it leaves the next position, the glide and the settings, and no read that waits", i);
+    check(tape_is(&state, should), "it leaves the next position and count, glide and settings, and no read that waits", i);
     check(tape_wrote(place, value * 5.0), "it stores 5 times the value, there alone", i);
 }
 
@@ -115,7 +116,7 @@ static void foreign_nan(void)
         p.feedback = i == 0u ? room_unset() : room_set(1.5); /* 0 x NaN is NaN too */
         check(read_tape(&state, TAPE_LINE, &p, &sum, &age) == 0 && isnan(sum) && age == 16u, "the sum is NaN", i);
         check(store_tape(&state, TAPE_LINE, saturated(sum), out) == 6 && state.waiting == 1u, "it goes on waiting", i);
-        check(room_tape_delay_silent(&state, tape_memory, TAPE_LINE, &silent) == 0 && silent == 0, "it is not silent", i);
+        check(room_tape_delay_silent(&state, &silent) == 0 && silent == 0, "it is not silent", i);
         check(read_tape(&state, TAPE_LINE, &p, &sum, &age) == 7, "no other read half", i);
         check((i != 1u ? room_tape_delay_reset(&state, tape_memory, TAPE_LINE)
                        : room_tape_delay_retune(&state, tape_memory, TAPE_LINE, 8000.0, 0.5)) == 0,
@@ -130,16 +131,16 @@ static void foreign_nan(void)
 /* The exported function by itself: it leaves the glide and the settings, which it is handed by value. */
 static void raw(void)
 {
-    uint32_t write_pos = TAPE_LINE - 1u;
+    uint32_t write_pos = TAPE_LINE - 1u, count = TAPE_LINE;
     uint32_t waiting = 7;
     double audio = 1.0, read = 4.0, mix = 1.0, out = JUNK;
     tape_lay(0.5);
-    check(room_raw_tape_delay_store_half(&write_pos, 250.0, &audio, &read, &mix, 8000.0, 0.5, 7u, &waiting, tape_memory,
-                                         TAPE_LINE, -1.0, &out) == 0,
+    check(room_raw_tape_delay_store_half(&write_pos, &count, 250.0, &audio, &read, &mix, 8000.0, 0.5, 7u, &waiting,
+                                         tape_memory, TAPE_LINE, -0.0, &out) == 0,
           "the store half by itself", 0);
     check(write_pos == 0u && waiting == 0u && same(audio, 0.0) && same(read, 0.0) && same(mix, 0.0) && same(out, 4.0),
           "what it leaves", 0);
-    check(tape_wrote(TAPE_LINE - 1u, -5.0), "what it stores", 0);
+    check(tape_wrote(TAPE_LINE - 1u, -0.0) && count == TAPE_LINE - 1u, "what it stores, and counts", 0);
 }
 
 void tape_stores(void)

@@ -126,12 +126,12 @@ static void echo(void)
     int yes = 7;
     unsigned i;
     check(start(&unit, memory, 170, 8000.0) == 0, "start for an echo", 0);
-    check(silent(&unit, memory, 170, &yes) == 0 && yes == 1, "silent after the start", 0);
+    check(silent(&unit, &yes) == 0 && yes == 1, "silent after the start", 0);
     for (i = 0; i < 171u; i++) {
         double out[MOST] = {JUNK};
         uint32_t age;
         check(tick(&unit, memory, 170, &t, out, &age) == 0 && same(out[0], i == 80u ? 1.0 : 0.0), "echo", i);
-        check(silent(&unit, memory, 170, &yes) == 0 && yes == (i == 170u), "sounds until the line has gone round", i);
+        check(silent(&unit, &yes) == 0 && yes == (i == 170u), "sounds until the line has gone round", i);
         t.audio = room_set(0.0);
     }
 }
@@ -139,15 +139,16 @@ static void echo(void)
 /* The exported function by itself: bits of the mask beyond the three ports are not read. */
 static void mask(void)
 {
-    uint32_t pos = 3;
+    uint32_t pos = 3, count = 3;
     double phase = 0.0;
     double out = JUNK;
     uint32_t age = JUNK_AGE;
     line_with(80u, 4.0);
-    check(room_raw_vibrato_tick(&pos, &phase, 8000.0, memory, 170, UINT32_C(0xfffffff9), 1.0, (double)NAN, (double)NAN, 0.0,
-                                0.0, &out, &age) == 0,
+    check(room_raw_vibrato_tick(&pos, &count, &phase, 8000.0, memory, 170, UINT32_C(0xfffffff9), -0.0, (double)NAN,
+                                (double)NAN, 0.0, 0.0, &out, &age) == 0,
           "audio and the other bits", 0);
     check(same(out, 4.0) && pos == 4u && same(phase, 0.0), "audio and the other bits: controls are unset", 0);
+    check(count == 2u, "audio and the other bits: a place that sounded is a zero", 0);
     check(age == 80u, "audio and the other bits: the age", 0);
 }
 

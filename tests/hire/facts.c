@@ -5,7 +5,7 @@
 #include <stdio.h>
 #include <string.h>
 
-#define FACTS 48u
+#define FACTS 64u
 
 static struct {
     const char *name;
@@ -55,6 +55,18 @@ int plus_zero(const double *from, uint64_t count)
         }
     }
     return 1;
+}
+
+uint32_t nonzero(const double *from, uint64_t count)
+{
+    const uint64_t all_but_the_sign = UINT64_MAX >> 1;
+    uint64_t i, sum = 0;
+    for (i = 0; i < count; i++) {
+        uint64_t bits;
+        memcpy(&bits, &from[i], sizeof bits);
+        sum += (bits & all_but_the_sign) != 0u;
+    }
+    return (uint32_t)sum;
 }
 
 /* A line read newest to oldest, at (w + L - d) mod L for d from 1 to L, beside the recent past: +0 before the clearing. */
@@ -182,6 +194,45 @@ void line_facts(const struct room *room)
     spare_facts(room);
 }
 
+/* Of the reverb's tank the lines alone are in use, of the others' memory all but the spare places. */
+static uint32_t nonzero_in_use(const struct room *room, unsigned unit)
+{
+    uint32_t sum = 0;
+    unsigned line;
+    if (unit != REVERB) {
+        return nonzero(room->lent[unit], room->places[unit] - SPARE);
+    }
+    for (line = 0; line < 25u; line++) {
+        sum += nonzero(room->lent[REVERB] + tank_start(line), tank_length(line));
+    }
+    return sum;
+}
+
+void count_facts(const struct room *room)
+{
+    const room_reverb *r = &room->reverb;
+    const int stores = nonzero(r->comb_filter_state_l, 8) + nonzero(r->comb_filter_state_r, 8) != 0u;
+    int yes[LINED] = {0}, counted = 1, answered = 1;
+    unsigned i;
+    ask_units(room, yes);
+    for (i = 0; i < LINED; i++) {
+        const uint32_t reading = nonzero_in_use(room, i);
+        const int sounds = reading != 0u || (i == REVERB && stores) || (i == TAPE && room->tape.waiting != 0u);
+        counted = counted && room_count(room, i) == reading;
+        answered = answered && yes[i] == !sounds;
+    }
+    fact(counted, "each unit's count is how many of its places in use are neither +0 nor -0");
+    fact(answered, "each unit's question is answered as these places, stores and waiting read say");
+}
+
+static int counts_zero(const struct room *room)
+{
+    unsigned i;
+    for (i = 0; i < LINED && room_count(room, i) == 0u; i++) {
+    }
+    return i == LINED;
+}
+
 static int delay_cleared(const room_delay *s)
 {
     return s->write_pos == 0u && plus_zero(&s->smoothed_delay, 1) && s->delay_primed == 0u && s->sample_rate == RATE &&
@@ -197,6 +248,7 @@ void cleared_facts(const struct room *room)
         good = good && plus_zero(room->lent[i], room->places[i]);
     }
     fact(good, "after a reset every place is +0, spare ones too");
+    fact(counts_zero(room), "after a reset each count is 0");
     fact(delay_cleared(&room->delay) && delay_cleared(&room->linear) && room->delay.linear_time == 0u &&
              room->linear.linear_time == 1u && plus_zero(&room->tape.smoothed_delay, 1) && room->tape.delay_primed == 0u,
          "after a reset the delays are not primed, their distances +0");
@@ -210,4 +262,5 @@ void cleared_facts(const struct room *room)
              plus_zero(room->phaser.allpass_y1_l, 6) && plus_zero(room->phaser.allpass_y1_r, 6),
          "after a reset the phaser's last inputs and outputs are +0");
     line_facts(room);
+    count_facts(room);
 }

@@ -86,14 +86,18 @@ void open_room(struct room *room); /* every effect started in memory that held s
 void tick_room(struct room *room, const struct controls *c);
 void leave_in_a_tick(struct room *room); /* the tape delay's next tick is begun, and its read waits */
 void reset_room(struct room *room);
+uint32_t room_count(const struct room *room, unsigned unit); /* of a unit with lines, as its state keeps it */
+void ask_units(const struct room *room, int yes[LINED]); /* which units with lines say that they are silent */
 int room_sounds(const struct room *room); /* whether every effect but the tremolo says that it sounds */
 int room_silent(const struct room *room); /* whether every effect says that it is silent */
 
 /* facts.c */
 void fact(int holds, const char *name);
 void line_facts(const struct room *room);
+void count_facts(const struct room *room); /* each count beside all places in use, and each answer */
 void cleared_facts(const struct room *room); /* after a clearing: every place +0, every state as a start leaves it */
 int plus_zero(const double *from, uint64_t count); /* by their bits */
+uint32_t nonzero(const double *from, uint64_t count); /* how many are neither +0 nor -0 */
 int say_facts(void); /* prints them and the last line, `N passed, M failed`; the exit status */
 
 /* tape.c: a tape delay's hirers, who leave after a tick or in the middle of one, and what the next one hears */

@@ -12,6 +12,9 @@
 /* Prime, so that the lines stand elsewhere at every look. */
 #define EVERY 9973u
 
+/* All places in use, 3,172,024 of them, are read at every tenth look. */
+#define COUNT_EVERY (10u * EVERY)
+
 /* More than the longest line but the tape delay's, which tape.c goes round. */
 #define TAKE 400000u
 
@@ -31,6 +34,7 @@ static void silent_take(void)
     fact(good, "a silent take after the reset plays +0 in every sample");
     fact(room_silent(&room), "after a silent take every unit is silent");
     line_facts(&room);
+    count_facts(&room);
 }
 
 /* A NaN's bits are free. */
@@ -58,10 +62,14 @@ static void next_take(void)
         tick_room(&fresh, &c);
         good = good && plays_alike(room.samples, fresh.samples);
         aged_alike = aged_alike && memcmp(room.ages, fresh.ages, sizeof room.ages) == 0;
+        if (i % COUNT_EVERY == 0u) {
+            count_facts(&room);
+        }
     }
     fact(good, "a take after the reset plays what fresh units play, sample by sample");
     fact(aged_alike, "a take after the reset answers the ages that fresh units answer");
     line_facts(&room);
+    count_facts(&room);
 }
 
 int main(int argc, char **argv)
@@ -82,9 +90,13 @@ int main(int argc, char **argv)
         if (i < 3u || i % EVERY == 0u) {
             line_facts(&room);
         }
+        if (i < 3u || i % COUNT_EVERY == 0u) {
+            count_facts(&room);
+        }
     }
     line_facts(&room);
     leave_in_a_tick(&room);
+    count_facts(&room);
     fact(room_sounds(&room), "at the end of the hire every unit but the tremolo sounds");
     reset_room(&room);
     cleared_facts(&room);

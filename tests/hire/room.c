@@ -182,21 +182,31 @@ void reset_room(struct room *room)
     room->aged = 0;
 }
 
+uint32_t room_count(const struct room *room, unsigned unit)
+{
+    const uint32_t counts[LINED] = {room->delay.nonzero_places,   room->linear.nonzero_places,  room->chorus.nonzero_places,
+                                    room->flanger.nonzero_places, room->vibrato.nonzero_places, room->tape.nonzero_places,
+                                    room->reverb.nonzero_places};
+    return counts[unit];
+}
+
+void ask_units(const struct room *room, int yes[LINED])
+{
+    const uint32_t refused =
+        room_delay_silent(&room->delay, &yes[DELAY]) | room_delay_silent(&room->linear, &yes[LINEAR]) |
+        room_chorus_silent(&room->chorus, &yes[CHORUS]) | room_flanger_silent(&room->flanger, &yes[FLANGER]) |
+        room_vibrato_silent(&room->vibrato, &yes[VIBRATO]) | room_tape_delay_silent(&room->tape, &yes[TAPE]) |
+        room_reverb_silent(&room->reverb, &yes[REVERB]);
+    fact(refused == 0u, "every question is accepted");
+}
+
 /* How many of the units with lines, and of the phaser, say that they are silent; the tremolo, which keeps no sound, must. */
 static int silent_units(const struct room *room)
 {
-    double *const *m = room->lent;
-    const uint64_t *n = room->places;
     int yes[LINED] = {0}, phaser = 0, tremolo = 0;
-    const uint32_t refused = room_delay_silent(&room->delay, m[DELAY], n[DELAY], &yes[DELAY]) |
-                             room_delay_silent(&room->linear, m[LINEAR], n[LINEAR], &yes[LINEAR]) |
-                             room_chorus_silent(&room->chorus, m[CHORUS], n[CHORUS], &yes[CHORUS]) |
-                             room_flanger_silent(&room->flanger, m[FLANGER], n[FLANGER], &yes[FLANGER]) |
-                             room_vibrato_silent(&room->vibrato, m[VIBRATO], n[VIBRATO], &yes[VIBRATO]) |
-                             room_reverb_silent(&room->reverb, m[REVERB], n[REVERB], &yes[REVERB]) |
-                             room_tremolo_silent(&room->tremolo, &tremolo) | room_phaser_silent(&room->phaser, &phaser) |
-                             room_tape_delay_silent(&room->tape, m[TAPE], n[TAPE], &yes[TAPE]);
-    fact(refused == 0u && tremolo == 1, "every question is accepted, and the tremolo is silent");
+    const uint32_t refused = room_tremolo_silent(&room->tremolo, &tremolo) | room_phaser_silent(&room->phaser, &phaser);
+    fact(refused == 0u && tremolo == 1, "so are those of tremolo and phaser, and the tremolo is silent");
+    ask_units(room, yes);
     return yes[DELAY] + yes[LINEAR] + yes[CHORUS] + yes[FLANGER] + yes[VIBRATO] + yes[TAPE] + yes[REVERB] + phaser;
 }
 

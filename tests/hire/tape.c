@@ -31,7 +31,6 @@ struct hired {
     uint64_t length;
 };
 
-/* States are compared whole, with the bytes that belong to no field: those are 0 from here on. */
 static void make_hired(struct hired *h)
 {
     uint64_t i;
@@ -63,7 +62,12 @@ static uint32_t tick(struct hired *h, room_port audio, double time, double feedb
 static int is_silent(const struct hired *h)
 {
     int yes = 7;
-    return room_tape_delay_silent(&h->state, h->lent, LENT, &yes) == ROOM_ACCEPTED ? yes : -1;
+    return room_tape_delay_silent(&h->state, &yes) == ROOM_ACCEPTED ? yes : -1;
+}
+
+static int counts_right(const struct hired *h)
+{
+    return h->state.nonzero_places == nonzero(h->lent, h->length);
 }
 
 /* As long as the line, so that every place holds a part of it. */
@@ -76,6 +80,7 @@ static void play_song(struct hired *h)
         refused |= tick(h, noise(), 0.7, 1.5, &out, &age);
     }
     fact(refused == 0u && is_silent(h) == 0, "a song is played through a tape, which sounds after it");
+    fact(counts_right(h), "after a song a tape's count is how many of its places are neither +0 nor -0");
 }
 
 static void leave(struct hired *h, int leaving)
@@ -115,8 +120,8 @@ static void clear(struct hired *h, int clearing)
 
 static int nothing_kept(const room_tape_delay *s)
 {
-    return s->write_pos == 0u && plus_zero(&s->smoothed_delay, 1) && s->delay_primed == 0u && s->waiting == 0u &&
-           plus_zero(&s->kept_audio, 1) && plus_zero(&s->kept_read, 1) && plus_zero(&s->kept_mix, 1);
+    return s->write_pos == 0u && s->nonzero_places == 0u && plus_zero(&s->smoothed_delay, 1) && s->delay_primed == 0u &&
+           s->waiting == 0u && plus_zero(&s->kept_audio, 1) && plus_zero(&s->kept_read, 1) && plus_zero(&s->kept_mix, 1);
 }
 
 /* The read that waited is dropped: its store half comes too late. */
@@ -130,7 +135,7 @@ static void look_after_clearing(struct hired *h)
     fact(number == ROOM_REFUSED_TURN && plus_zero(&out, 1) && memcmp(&before, &h->state, sizeof before) == 0,
          "after a clearing no read of a tape waits for a store half");
     fact(nothing_kept(&h->state) && plus_zero(h->lent, LENT) && is_silent(h) == 1,
-         "after a clearing a tape's places, spare ones too, and what it keeps are +0, and it is silent");
+         "after a clearing a tape's places, spare ones too, and what it keeps are +0, its count 0, and it is silent");
 }
 
 /* At 12 s each read is of the oldest place, just before it is written. */
@@ -161,7 +166,7 @@ static void take_beside(struct hired *h, struct hired *fresh)
         refused |= tick(fresh, audio, 1e-5 * (double)i, 1.5, &outs[1], &ages[1]);
         good = good && memcmp(&outs[0], &outs[1], sizeof outs[0]) == 0 && ages[0] == ages[1];
     }
-    good = good && memcmp(&h->state, &fresh->state, sizeof h->state) == 0;
+    good = good && counts_right(h) && memcmp(&h->state, &fresh->state, sizeof h->state) == 0;
     fact(good && refused == 0u && memcmp(h->lent, fresh->lent, LENT * sizeof *h->lent) == 0,
          "the next hirer's take plays and leaves on a tape what a fresh one would");
 }

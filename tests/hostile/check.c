@@ -17,14 +17,26 @@ static int state_is(int effect, const struct state *is, const struct state *shou
     return 1;
 }
 
-/* A short memory is compared as a whole after every call. A long one is after a clearing, and else now and then: what a call
-   changed out of turn is still there by then, as the copy has only what calls may change. Around the positions and at the
-   ends of what was lent it is compared at once. */
+/* Whether all of the memory is looked at, a short one at every call and a long one now and then. */
+static int looks_at_all(const struct unit *unit)
+{
+    return unit->arena->places <= 4096u || one_in(unit->arena->places / 2048u);
+}
+
+/* Whether all places in use are read before the call and after it, of a question in a run always. It may come with fewer. */
+static int reads_all(const struct unit *unit, const struct call *c)
+{
+    return c->kind > RESET && lines_of(c->effect) > 0u && c->places >= call_needs(c) &&
+           (looks_at_all(unit) || (c->kind == SILENT && in_a_run(unit, c)));
+}
+
+/* All of it is compared after a clearing too. What a call changed out of turn is still there by the next time, as the copy has
+   only what calls may change. Around the positions and at the ends of what was lent it is compared at once. */
 static int memory_is(const struct unit *unit, const struct call *c, int whole)
 {
     const uint64_t offset = (uint64_t)(c->memory - unit->arena->first);
     unsigned i;
-    if (whole || unit->arena->places <= 4096u || one_in(unit->arena->places / 2048u)) {
+    if (whole || looks_at_all(unit)) {
         return arena_as_it_should(unit->arena);
     }
     for (i = 0; i < words_of(c->effect); i++) {
@@ -76,6 +88,7 @@ static const char *check_tick(const struct unit *unit, const struct call *c, con
         }
         should[t->place[i]] = c->memory[t->place[i]];
     }
+    count_ends(c, t);
     return memory_is(unit, c, 0) ? NULL : "memory that a tick must leave";
 }
 
@@ -89,9 +102,9 @@ static const char *check_clearing(const struct unit *unit, const struct call *c,
     return memory_is(unit, c, 1) ? NULL : "memory after a clearing";
 }
 
-static const char *check_silent(const struct unit *unit, const struct call *c, const struct answer *a, uint32_t should)
+static const char *check_silent(const struct unit *unit, const struct call *c, const struct answer *a)
 {
-    if (a->silent != should) {
+    if (a->silent != (uint32_t)silent_by_the_paper(c)) {
         return "the answer to silent";
     }
     if (!state_is(c->effect, &a->state, &c->state, 0)) {
@@ -100,36 +113,35 @@ static const char *check_silent(const struct unit *unit, const struct call *c, c
     return memory_is(unit, c, 0) ? NULL : "memory changed by silent";
 }
 
-/* What an accepted call must answer is worked out before it is made: it depends on the memory. */
+/* What an accepted tick must answer is worked out before it is made: it depends on the memory. */
 const char *check_call(struct unit *unit, const struct call *c, struct answer *a)
 {
     const uint32_t number = number_for(c);
     const int clears = number == 0u && c->kind <= RESET;
+    const int reads = number == 0u && reads_all(unit, c);
+    const uint64_t before = reads ? nonzero_places(c) : 0u;
     struct ticked t;
-    uint32_t silent = 0, age = c->kind == TICK && has_ages(c->effect) ? 0u : UNTOUCHED;
     const char *wrong;
     if (clears && unit->arena->places > 4096u && !arena_as_it_should(unit->arena)) {
         return "memory, seen before a clearing";
     }
+    t.age = 0u;
     if (number == 0u && plays_samples(c)) {
         t = tick_by_the_paper(c);
-        age = c->kind == TICK && has_ages(c->effect) ? t.age : UNTOUCHED;
-    } else if (number == 0u && c->kind == SILENT) {
-        silent = (uint32_t)silent_by_the_paper(c);
     }
     *a = make(c);
     if (a->number != number) {
         return "the number";
     }
-    if (a->age != age) {
+    if (a->age != (c->kind == TICK && has_ages(c->effect) ? t.age : UNTOUCHED)) {
         return "the age";
     }
     wrong = number != 0u        ? check_refused(unit, c, a)
             : clears            ? check_clearing(unit, c, a)
             : plays_samples(c)  ? check_tick(unit, c, a, &t)
-                                : check_silent(unit, c, a, silent);
+                                : check_silent(unit, c, a);
     if (wrong == NULL && number == 0u && !state_passes(c->effect, &a->state)) {
         wrong = "an accepted call returned a state that the test refuses";
     }
-    return wrong;
+    return wrong == NULL && reads ? check_count(unit, c, a, before) : wrong;
 }

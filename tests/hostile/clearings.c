@@ -10,19 +10,20 @@ static double phase_after(const struct call *c, unsigned word)
     if (c->kind == RETUNE && (c->effect == CHORUS || c->effect == FLANGER)) {
         return of_bits(c->state.word[word]);
     }
-    return c->effect != CHORUS || word == 1u ? 0.0 : word == 2u ? 0.33 : 0.67;
+    return c->effect != CHORUS || word == word_of(CHORUS, 'p') ? 0.0 : word == word_of(CHORUS, 'p') + 1u ? 0.33 : 0.67;
 }
 
 /* "Start, reset and retune all set positions to 0, unprime the delay's glide with distance +0, and set the reverb's damping
    stores to +0", of the phaser "all 24 stored numbers of its chains, +0 after start and reset", and of the tape delay "reset
-   and retune drop a waiting read", with what it kept "+0 while none waits"; what is no setting of the call stays. */
+   and retune drop a waiting read", with what it kept "+0 while none waits". The count is that of a memory of +0. What is no
+   setting of the call stays. */
 struct state cleared_by_the_paper(const struct call *c)
 {
     struct state s = c->state;
     unsigned i;
     for (i = 0; i < words_of(c->effect); i++) {
         const char letter = state_words[c->effect][i];
-        if (strchr("wdsfqk", letter) != NULL) {
+        if (strchr("wndsfqk", letter) != NULL) {
             s.word[i] = 0;
         } else if (letter == 'p') {
             s.word[i] = bits(phase_after(c, i));
@@ -39,17 +40,6 @@ struct state cleared_by_the_paper(const struct call *c)
     return s;
 }
 
-static int all_zero(const double *from, uint64_t count)
-{
-    uint64_t i;
-    for (i = 0; i < count; i++) {
-        if (from[i] != 0.0) {
-            return 0;
-        }
-    }
-    return 1;
-}
-
 /* Document 02, of the phaser: "silent exactly when all 24 stored numbers of its chains .. are +0 or -0", and of the reverb:
    "silent only if its sixteen damping stores are also +0 or -0". */
 static int stores_zero(const struct call *c)
@@ -63,24 +53,15 @@ static int stores_zero(const struct call *c)
     return 1;
 }
 
-/* "yes when every place in use of the unit's lines is +0 or -0. The tremolo has no line and is always silent." */
-int lines_zero_by_the_paper(const struct call *c)
+/* "A tape unit with a read waiting isn't silent." */
+int keeps_no_sound(const struct call *c)
 {
-    const double rate = rate_of(c->effect, &c->state);
-    unsigned line;
-    if (c->effect != REVERB) {
-        return all_zero(c->memory, needed(c->effect, rate, maximum_of(c->effect, &c->state)));
-    }
-    for (line = 0; line < TANK_LINES; line++) {
-        if (!all_zero(c->memory + tank_start(line), tank_length(line, rate))) {
-            return 0;
-        }
-    }
-    return 1;
+    return stores_zero(c) && !read_waits(c->effect, &c->state);
 }
 
-/* "A tape unit with a read waiting isn't silent." */
+/* By document 01 "yes when every place in use of the unit's lines is +0 or -0", which the count answers: "The answer then needs
+   only the state". Tremolo and phaser have no lines. */
 int silent_by_the_paper(const struct call *c)
 {
-    return lines_zero_by_the_paper(c) && stores_zero(c) && !read_waits(c->effect, &c->state);
+    return keeps_no_sound(c) && (lines_of(c->effect) == 0u || value_of(c->effect, &c->state, 'n') == 0u);
 }

@@ -14,7 +14,7 @@ static double unit_rate(int effect)
 /* A unit has no state yet: its first call is a start. Memory enough for one at some rate, and a long line if so asked. */
 struct unit draw_unit(int effect, int long_line)
 {
-    struct unit unit = {0, {{0}}, 0, 0, 0};
+    struct unit unit = {0, {{0}}, 0, 0, 0, 0};
     const uint64_t places = long_line ? 11520001u : needed(effect, unit_rate(effect), good_maximum());
     unit.effect = effect;
     unit.arena = arena_for(places + below(20));
@@ -181,6 +181,25 @@ static uint32_t wrong_position(const struct call *c, unsigned word)
     }
 }
 
+/* Counts at both ends and around them, at the end of 32 bits, and anywhere. */
+static uint32_t wrong_count(const struct call *c)
+{
+    const int has_length = rate_holds(rate_of(c->effect, &c->state));
+    const uint32_t all = has_length ? (uint32_t)places_in_use(c->effect, &c->state) : 4096u;
+    switch (below(6)) {
+    case 0:
+        return (uint32_t)any_bits() >> below(32);
+    case 1:
+        return all + 1u;
+    case 2:
+        return UINT32_MAX - (one_in(4) ? (uint32_t)below(all) : 0u);
+    case 3:
+        return (uint32_t)below(2);
+    default:
+        return all + (uint32_t)below(5) - 2u;
+    }
+}
+
 /* Distances at the line's end and at 1, of either sign, and anywhere. */
 static double wrong_distance(const struct call *c)
 {
@@ -217,6 +236,8 @@ static void set_wrong_word(struct call *c, unsigned word)
     const char letter = state_words[c->effect][word];
     if (is_position(c->effect, word)) {
         c->state.word[word] = wrong_position(c, word);
+    } else if (is_count(c->effect, word)) {
+        c->state.word[word] = wrong_count(c);
     } else if (letter == 'k') {
         c->state.word[word] = bits(wrong_kept());
     } else if (is_flag(c->effect, word)) {
@@ -261,6 +282,14 @@ static void draw_state(struct call *c)
     if (one_in(2)) {
         c->state.word[word_of(c->effect, 'r')] = bits(good_rate());
     }
+}
+
+/* A count that passes the state test and need not be the memory's: none, one, all places in use, all but one, any. */
+static void draw_count(struct call *c)
+{
+    const uint64_t all = rate_holds(rate_of(c->effect, &c->state)) ? places_in_use(c->effect, &c->state) : 1u;
+    const uint64_t counts[] = {0u, 0u, 1u, all, all - 1u, below(all + 1u)};
+    c->state.word[word_of(c->effect, 'n')] = counts[below(COUNT(counts))];
 }
 
 /* A state of a tape delay in which a read waits, with any floats kept and a mix of 0 to 1. */
@@ -313,6 +342,9 @@ struct call draw_call(const struct unit *unit)
     }
     if (c.effect == TAPE && one_in(5)) {
         draw_waiting(&c);
+    }
+    if (lines_of(c.effect) > 0u && one_in(12)) {
+        draw_count(&c);
     }
     if (c.effect == TAPE && c.kind == TICK) {
         c.kind = draw_half(&c.state);

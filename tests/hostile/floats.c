@@ -27,6 +27,11 @@ int is_nan(double x)
     return (bits(x) & UINT64_C(0x7fffffffffffffff)) > UINT64_C(0x7ff0000000000000);
 }
 
+int is_nonzero(double x)
+{
+    return (bits(x) & UINT64_C(0x7fffffffffffffff)) != 0u;
+}
+
 int is_finite(double x)
 {
     return (bits(x) & UINT64_C(0x7ff0000000000000)) != UINT64_C(0x7ff0000000000000);

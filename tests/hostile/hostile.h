@@ -22,18 +22,18 @@ extern const char *const effect_names[EFFECTS];
 const char *call_name(int effect, int kind);
 
 /* The most words of a state, ports and curve numbers of a tick, samples of an answer, and places that a tick writes. */
-#define WORDS 42
+#define WORDS 43
 #define PORTS 5
 #define CURVES 4
 #define SAMPLES 3
 #define WRITES 25
 
 /*
- * A state in one form for all effects: its fields in the order of the header's struct, and nothing of the bytes that belong to
- * none. What each word is stands in a string: w a position, p a phase, r the rate, d a delay's distance, k a number that a read
- * that waits keeps, c the coefficient, m the maximum, s a store that may be any float: a damping store, an all-pass's last
+ * A state in one form for all effects: its fields in the order of the header's struct. What each word is stands in a string: w
+ * a position, n the count of places that are neither +0 nor -0, p a phase, r the rate, d a delay's distance, k a number that a
+ * read that waits keeps, c the coefficient, m the maximum, s a store that may be any float: a damping store, an all-pass's last
  * input or output; and the flags: f whether a delay is primed, q whether a read waits, l whether the time is linear. A word is
- * a float by its bits, or a number of 32 bits: a position, a flag.
+ * a float by its bits, or a number of 32 bits: a position, the count, a flag.
  */
 struct state {
     uint64_t word[WORDS];
@@ -47,6 +47,7 @@ unsigned word_of(int effect, char letter);
 uint64_t value_of(int effect, const struct state *state, char letter);
 
 int is_position(int effect, unsigned word);
+int is_count(int effect, unsigned word);
 int is_flag(int effect, unsigned word);
 int has_coefficient(int effect);
 int read_waits(int effect, const struct state *state);
@@ -84,6 +85,7 @@ uint64_t bits(double x);
 double of_bits(uint64_t u);
 int same(double a, double b);  /* to the bit */
 int plays(double a, double b); /* to the bit, or both NaN: document 01's equality */
+int is_nonzero(double x);      /* neither +0 nor -0 */
 int is_nan(double x);
 int is_finite(double x);
 
@@ -94,6 +96,7 @@ uint64_t line_length(int effect, double rate, double maximum);
 uint64_t length_at(int effect, const struct state *state, unsigned position); /* of the line whose position this word is */
 unsigned lines_of(int effect); /* 0: it is lent no memory and has no retune */
 uint64_t needed(int effect, double rate, double maximum);
+uint64_t places_in_use(int effect, const struct state *state); /* at a rate that is accepted */
 int state_passes(int effect, const struct state *state);
 uint32_t number_for(const struct call *c);
 
@@ -111,6 +114,8 @@ struct ticked {
     unsigned writes;
     uint64_t place[WRITES];
     double value[WRITES];
+    /* Whether the count's net change went below 0 or above the places in use; whether an end at each write would leave another. */
+    int below, above, apart;
 };
 unsigned samples_of(int effect);
 unsigned ports_of(int effect);
@@ -121,12 +126,11 @@ double clamped(double x, double low, double high);
 double input_rule(double audio);
 double blended(double audio, double wet, double mix);
 struct ticked tick_by_the_paper(const struct call *c); /* ticks.c */
-struct ticked reverb_tick_by_the_paper(const struct call *c); /* tank.c */
+void reverb_tick(struct ticked *t, const struct call *c); /* tank.c */
 
-/* clearings.c: the state that an accepted start, retune or reset leaves, whether the places in use are zeros, and whether the
-   unit is silent. */
+/* clearings.c: the state that an accepted start, retune or reset leaves, and whether the unit is silent. */
 struct state cleared_by_the_paper(const struct call *c);
-int lines_zero_by_the_paper(const struct call *c);
+int keeps_no_sound(const struct call *c); /* in its state */
 int silent_by_the_paper(const struct call *c);
 
 /* lent.c: memory between guard pages, and beside it a copy of what it must hold. */
@@ -142,7 +146,7 @@ int window_as_it_should(const struct arena *arena, uint64_t place); /* the place
 
 /* A small object between guard pages, close to the higher or to the lower one. */
 void *spot(unsigned which, unsigned bytes, int high);
-#define SPOTS 12
+#define SPOTS 13
 
 /* make.c: makes the call, its numbers in spots. */
 struct answer make(const struct call *c);
@@ -154,18 +158,30 @@ struct unit {
     struct arena *arena;
     double *memory; /* what it was lent by the last clearing */
     uint64_t places;
+    int untouched; /* whether state and memory are as the calls since then left them */
 };
 struct unit draw_unit(int effect, int long_line);
 struct call draw_call(const struct unit *unit);
 uint64_t call_needs(const struct call *c); /* how many places, if nothing else is wrong with it */
 
-/* reached.c: what calls of the tape delay, and ages, came to; how much of it was reached and how much was not. positions.c:
-   the same of positions. */
+/* counts.c: the count that a tick leaves by its writes; how many places in use are neither +0 nor -0, by a reading of them all;
+   whether a call finds the unit untouched; and of one that is accepted and no clearing, what is wrong with the count that it
+   leaves, by such a reading before it and another after it. */
+void count_writes(struct ticked *t, const struct call *c);
+uint64_t nonzero_places(const struct call *c);
+int in_a_run(const struct unit *unit, const struct call *c);
+const char *check_count(const struct unit *unit, const struct call *c, const struct answer *a, uint64_t before);
+
+/* reached.c: what calls of the tape delay, and ages, came to; how much of it was reached and how much was not. positions.c: the
+   same of positions, counts.c of counts. */
 void count_reached(const struct call *c, const struct answer *a);
 void count_age(const struct call *c, const struct answer *a);
 void print_reached(unsigned *passed, unsigned *failed);
 void count_positions(const struct call *c, const struct answer *a);
 void print_positions(unsigned *passed, unsigned *failed);
+void count_ends(const struct call *c, const struct ticked *t);
+void count_counts(const struct call *c, const struct answer *a);
+void print_counts(unsigned *passed, unsigned *failed);
 void count(unsigned *passed, unsigned *failed, int good, const char *name);
 
 /* check.c: makes the call and holds all that it left against the paper; the words say what is wrong, NULL if nothing. */

@@ -3,7 +3,7 @@
  *
  * Units come one after another, each with a chain of calls. The table printed at the end says how often each call was accepted
  * and refused by each number; a cell that the table of refusals has and that no call came to is a failure. The last line is
- * `N passed, M failed`, counted in cells, and in what reached.c and positions.c count.
+ * `N passed, M failed`, counted in cells, and in what reached.c, positions.c and counts.c count.
  */
 #define _POSIX_C_SOURCE 200809L
 #include "hostile.h"
@@ -22,7 +22,7 @@ static struct {
     uint64_t wrong[NUMBERS];
     uint64_t silent;
 } tally[EFFECTS][CALLS];
-static uint64_t by_stores; /* questions of a reverb whose tank is zero and whose stores are not */
+static uint64_t by_stores; /* questions of a reverb whose count is 0 and whose stores are not */
 static uint64_t made, places_made, places_wrong;
 
 /* How many places calls were lent, beside what they need where nothing else is wrong. */
@@ -73,13 +73,16 @@ static void show_wrong(const struct call *c, const struct answer *a, const char 
     printf(" curves %a %a %a %a\n", c->curves[0], c->curves[1], c->curves[2], c->curves[3]);
 }
 
-/* A place at one of the ends of a line of the unit: its first, its last, the one behind. */
-static uint64_t at_an_end(const struct unit *unit)
+/* A place of a line of the unit: its first, its last, the one behind, or the one that the next tick writes. Of the reverb's
+   lines it is the predelay half of the time: that holds the audio, and so may lose a sound and gain none. */
+static uint64_t place_of_a_line(const struct unit *unit)
 {
-    const unsigned line = (unsigned)below(lines_of(unit->effect));
+    const unsigned lines = lines_of(unit->effect);
+    const unsigned line = one_in(2) ? lines - 1u : (unsigned)below(lines);
     const uint64_t length = length_at(unit->effect, &unit->state, line);
     const uint64_t start = unit->effect == REVERB ? tank_start(line) : line * length;
-    return start + (one_in(3) ? 0u : length - below(2));
+    const uint64_t ends[] = {0u, length - 1u, length, unit->state.word[unit->effect == REVERB ? line : 0u]};
+    return start + ends[below(COUNT(ends))];
 }
 
 /* The host's own hand: a place of the memory, a number of the phaser's chains or a damping store holds something else from now
@@ -90,12 +93,13 @@ static void disturb(struct unit *unit)
     const int has_lines = lines_of(unit->effect) > 0u && state_passes(unit->effect, &unit->state);
     uint64_t place = below(unit->arena->places);
     const double x = one_in(2) ? of_bits(any_bits() & UINT64_C(0x8000000000000001)) : any_float();
+    unit->untouched = 0;
     if (unit->effect == PHASER || (unit->effect == REVERB && one_in(2))) {
         unit->state.word[word_of(unit->effect, 's') + below(unit->effect == PHASER ? 24u : 16u)] = bits(x);
         return;
     }
     if (has_lines && !one_in(4)) {
-        place = (offset + at_an_end(unit)) % unit->arena->places;
+        place = (offset + place_of_a_line(unit)) % unit->arena->places;
     }
     unit->arena->first[place] = x;
     unit->arena->should[place] = x;
@@ -114,7 +118,25 @@ static void count_length(const struct call *c)
     }
 }
 
-/* One call, counted; the unit goes on with what it left. */
+/* The unit goes on with what the call left, at times with the zeros of a refused start. Then the host's hand may come, and come
+   again. */
+static void go_on(struct unit *unit, const struct call *c, const struct answer *a)
+{
+    const int clears = a->number == 0u && c->kind <= RESET;
+    if (a->number == 0u || (c->kind == START && one_in(4))) {
+        unit->untouched = clears || (a->number == 0u && in_a_run(unit, c));
+        unit->state = a->state;
+    }
+    if (clears) {
+        unit->memory = c->memory;
+        unit->places = c->places;
+    }
+    while (one_in(clears ? 2 : 40)) {
+        disturb(unit);
+    }
+}
+
+/* One call, counted. */
 static void one_call(struct unit *unit)
 {
     const struct call c = draw_call(unit);
@@ -128,6 +150,7 @@ static void one_call(struct unit *unit)
     count_age(&c, &a);
     count_reached(&c, &a);
     count_positions(&c, &a);
+    count_counts(&c, &a);
     if (wrong != NULL) {
         show_wrong(&c, &a, wrong);
         tally[c.effect][c.kind].wrong[number_for(&c)]++;
@@ -136,17 +159,9 @@ static void one_call(struct unit *unit)
     }
     tally[c.effect][c.kind].made[a.number]++;
     tally[c.effect][c.kind].silent += c.kind == SILENT && a.silent != 0u;
-    by_stores += c.effect == REVERB && c.kind == SILENT && a.number == 0u && a.silent == 0u && lines_zero_by_the_paper(&c);
-    if (a.number == 0u || (c.kind == START && one_in(4))) {
-        unit->state = a.state;
-    }
-    if (a.number == 0u && c.kind <= RESET) {
-        unit->memory = c.memory;
-        unit->places = c.places;
-    }
-    if (one_in(a.number == 0u && c.kind <= RESET ? 2 : 40)) {
-        disturb(unit);
-    }
+    by_stores += c.effect == REVERB && c.kind == SILENT && a.number == 0u && a.silent == 0u &&
+                 value_of(REVERB, &c.state, 'n') == 0u;
+    go_on(unit, &c, &a);
 }
 
 /* The question at power-up. */
@@ -169,7 +184,7 @@ static void one_places_call(void)
 /* The numbers that a call of an effect can return, 0 among them. */
 static int has_cell(int effect, int kind, int number)
 {
-    static const char *const numbers[CALLS] = {"0123", "04123", "043", "047356", "043", "04736"};
+    static const char *const numbers[CALLS] = {"0123", "04123", "043", "047356", "04", "04736"};
     if ((kind == RETUNE && lines_of(effect) == 0u) || (kind == STORE && effect != TAPE)) {
         return 0;
     }
@@ -207,7 +222,7 @@ static void print_row(int effect, int kind)
         printf("   %llu yes", (unsigned long long)tally[effect][kind].silent);
     }
     if (kind == SILENT && effect == REVERB) {
-        printf(", %llu no of a zero tank%s", (unsigned long long)by_stores, by_stores == 0u ? ": FAILED, never asked" : "");
+        printf(", %llu no of a count of 0%s", (unsigned long long)by_stores, by_stores == 0u ? ": FAILED, never asked" : "");
         passed += by_stores > 0u;
         failed += by_stores == 0u;
     }
@@ -264,6 +279,7 @@ int main(int argc, char **argv)
     print_table();
     print_reached(&passed, &failed);
     print_positions(&passed, &failed);
+    print_counts(&passed, &failed);
     printf("%u passed, %u failed\n", passed, failed);
     return failed != 0u;
 }

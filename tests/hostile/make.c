@@ -3,9 +3,9 @@
 
 #include <string.h>
 
-#define OUT_SPOT 9u
-#define SILENT_SPOT 10u
-#define AGE_SPOT 11u
+#define OUT_SPOT 10u
+#define SILENT_SPOT 11u
+#define AGE_SPOT 12u
 
 /* The words of the state that the call is handed by an address. */
 static struct {
@@ -14,10 +14,10 @@ static struct {
 } lent[SPOTS];
 static unsigned lents;
 
-/* Positions and flags have 32 bits, all else 64. */
+/* Positions, counts and flags have 32 bits, all else 64. */
 static unsigned bytes_of(int effect, unsigned word)
 {
-    return is_position(effect, word) || is_flag(effect, word) ? 4u : 8u;
+    return is_position(effect, word) || is_count(effect, word) || is_flag(effect, word) ? 4u : 8u;
 }
 
 static void *lend(const struct call *c, unsigned first, unsigned count)
@@ -93,16 +93,18 @@ static uint32_t vibrato(const struct call *c, double *out, uint32_t *yes, uint32
 {
     switch (c->kind) {
     case START:
-        return room_raw_vibrato_start(c->rate, c->memory, c->places, lend(c, 0, 1), lend(c, 1, 1), lend(c, 2, 1));
+        return room_raw_vibrato_start(c->rate, c->memory, c->places, lend(c, 0, 1), lend(c, 1, 1), lend(c, 2, 1),
+                                      lend(c, 3, 1));
     case RETUNE:
-        return room_raw_vibrato_retune(c->rate, c->memory, c->places, lend(c, 0, 1), lend(c, 1, 1), lend(c, 2, 1));
+        return room_raw_vibrato_retune(c->rate, c->memory, c->places, lend(c, 0, 1), lend(c, 1, 1), lend(c, 2, 1),
+                                       lend(c, 3, 1));
     case RESET:
-        return room_raw_vibrato_reset(c->memory, c->places, lend(c, 0, 1), lend(c, 1, 1), number(c, 2));
+        return room_raw_vibrato_reset(c->memory, c->places, lend(c, 0, 1), lend(c, 1, 1), lend(c, 2, 1), number(c, 3));
     case TICK:
-        return room_raw_vibrato_tick(lend(c, 0, 1), lend(c, 1, 1), number(c, 2), c->memory, c->places, c->set, c->ports[0],
-                                     c->ports[1], c->ports[2], c->curves[0], c->curves[1], out, age);
+        return room_raw_vibrato_tick(lend(c, 0, 1), lend(c, 1, 1), lend(c, 2, 1), number(c, 3), c->memory, c->places, c->set,
+                                     c->ports[0], c->ports[1], c->ports[2], c->curves[0], c->curves[1], out, age);
     default:
-        return room_raw_vibrato_silent(whole(c, 0), number(c, 1), number(c, 2), c->memory, c->places, yes);
+        return room_raw_vibrato_silent(whole(c, 0), whole(c, 1), number(c, 2), number(c, 3), yes);
     }
 }
 
@@ -110,17 +112,19 @@ static uint32_t chorus(const struct call *c, double *out, uint32_t *yes, uint32_
 {
     switch (c->kind) {
     case START:
-        return room_raw_chorus_start(c->rate, c->memory, c->places, lend(c, 0, 1), lend(c, 1, 3), lend(c, 4, 1));
+        return room_raw_chorus_start(c->rate, c->memory, c->places, lend(c, 0, 1), lend(c, 1, 1), lend(c, 2, 3),
+                                     lend(c, 5, 1));
     case RETUNE:
-        return room_raw_chorus_retune(c->rate, c->memory, c->places, lend(c, 0, 1), lend(c, 1, 3), lend(c, 4, 1));
+        return room_raw_chorus_retune(c->rate, c->memory, c->places, lend(c, 0, 1), lend(c, 1, 1), lend(c, 2, 3),
+                                      lend(c, 5, 1));
     case RESET:
-        return room_raw_chorus_reset(c->memory, c->places, lend(c, 0, 1), lend(c, 1, 3), number(c, 4));
+        return room_raw_chorus_reset(c->memory, c->places, lend(c, 0, 1), lend(c, 1, 1), lend(c, 2, 3), number(c, 5));
     case TICK:
-        return room_raw_chorus_tick(lend(c, 0, 1), lend(c, 1, 3), number(c, 4), c->memory, c->places, c->set, c->ports[0],
-                                    c->ports[1], c->ports[2], c->curves[0], c->curves[1], c->curves[2], c->curves[3], out,
-                                    age);
+        return room_raw_chorus_tick(lend(c, 0, 1), lend(c, 1, 1), lend(c, 2, 3), number(c, 5), c->memory, c->places, c->set,
+                                    c->ports[0], c->ports[1], c->ports[2], c->curves[0], c->curves[1], c->curves[2],
+                                    c->curves[3], out, age);
     default:
-        return room_raw_chorus_silent(whole(c, 0), lend(c, 1, 3), number(c, 4), c->memory, c->places, yes);
+        return room_raw_chorus_silent(whole(c, 0), whole(c, 1), lend(c, 2, 3), number(c, 5), yes);
     }
 }
 
@@ -128,17 +132,19 @@ static uint32_t flanger(const struct call *c, double *out, uint32_t *yes, uint32
 {
     switch (c->kind) {
     case START:
-        return room_raw_flanger_start(c->rate, c->memory, c->places, lend(c, 0, 1), lend(c, 1, 1), lend(c, 2, 1));
+        return room_raw_flanger_start(c->rate, c->memory, c->places, lend(c, 0, 1), lend(c, 1, 1), lend(c, 2, 1),
+                                      lend(c, 3, 1));
     case RETUNE:
-        return room_raw_flanger_retune(c->rate, c->memory, c->places, lend(c, 0, 1), lend(c, 1, 1), lend(c, 2, 1));
+        return room_raw_flanger_retune(c->rate, c->memory, c->places, lend(c, 0, 1), lend(c, 1, 1), lend(c, 2, 1),
+                                       lend(c, 3, 1));
     case RESET:
-        return room_raw_flanger_reset(c->memory, c->places, lend(c, 0, 1), lend(c, 1, 1), number(c, 2));
+        return room_raw_flanger_reset(c->memory, c->places, lend(c, 0, 1), lend(c, 1, 1), lend(c, 2, 1), number(c, 3));
     case TICK:
-        return room_raw_flanger_tick(lend(c, 0, 1), lend(c, 1, 1), number(c, 2), c->memory, c->places, c->set, c->ports[0],
-                                     c->ports[1], c->ports[2], c->ports[3], c->curves[0], c->curves[1], c->curves[2], out,
-                                     age);
+        return room_raw_flanger_tick(lend(c, 0, 1), lend(c, 1, 1), lend(c, 2, 1), number(c, 3), c->memory, c->places, c->set,
+                                     c->ports[0], c->ports[1], c->ports[2], c->ports[3], c->curves[0], c->curves[1],
+                                     c->curves[2], out, age);
     default:
-        return room_raw_flanger_silent(whole(c, 0), number(c, 1), number(c, 2), c->memory, c->places, yes);
+        return room_raw_flanger_silent(whole(c, 0), whole(c, 1), number(c, 2), number(c, 3), yes);
     }
 }
 
@@ -147,21 +153,21 @@ static uint32_t delay(const struct call *c, double *out, uint32_t *yes, uint32_t
     switch (c->kind) {
     case START:
         return room_raw_delay_start(c->rate, c->maximum, c->coefficient, c->linear, c->memory, c->places, lend(c, 0, 1),
-                                    lend(c, 1, 1), lend(c, 2, 1), lend(c, 3, 1), lend(c, 4, 1), lend(c, 5, 1),
-                                    lend(c, 6, 1));
+                                    lend(c, 1, 1), lend(c, 2, 1), lend(c, 3, 1), lend(c, 4, 1), lend(c, 5, 1), lend(c, 6, 1),
+                                    lend(c, 7, 1));
     case RETUNE:
         return room_raw_delay_retune(c->rate, c->coefficient, c->memory, c->places, lend(c, 0, 1), lend(c, 1, 1),
-                                     lend(c, 2, 1), lend(c, 3, 1), number(c, 4), lend(c, 5, 1), whole(c, 6));
+                                     lend(c, 2, 1), lend(c, 3, 1), lend(c, 4, 1), number(c, 5), lend(c, 6, 1), whole(c, 7));
     case RESET:
-        return room_raw_delay_reset(c->memory, c->places, lend(c, 0, 1), lend(c, 1, 1), number(c, 2), number(c, 3),
-                                    number(c, 4), lend(c, 5, 1), whole(c, 6));
+        return room_raw_delay_reset(c->memory, c->places, lend(c, 0, 1), lend(c, 1, 1), lend(c, 2, 1), number(c, 3),
+                                    number(c, 4), number(c, 5), lend(c, 6, 1), whole(c, 7));
     case TICK:
-        return room_raw_delay_tick(lend(c, 0, 1), lend(c, 1, 1), number(c, 2), number(c, 3), number(c, 4), lend(c, 5, 1),
-                                   whole(c, 6), c->memory, c->places, c->set, c->ports[0], c->ports[1], c->ports[2],
-                                   c->ports[3], c->curves[0], out, age);
+        return room_raw_delay_tick(lend(c, 0, 1), lend(c, 1, 1), lend(c, 2, 1), number(c, 3), number(c, 4), number(c, 5),
+                                   lend(c, 6, 1), whole(c, 7), c->memory, c->places, c->set, c->ports[0], c->ports[1],
+                                   c->ports[2], c->ports[3], c->curves[0], out, age);
     default:
-        return room_raw_delay_silent(whole(c, 0), number(c, 1), number(c, 2), number(c, 3), number(c, 4), whole(c, 5),
-                                     whole(c, 6), c->memory, c->places, yes);
+        return room_raw_delay_silent(whole(c, 0), whole(c, 1), number(c, 2), number(c, 3), number(c, 4), number(c, 5),
+                                     whole(c, 6), whole(c, 7), yes);
     }
 }
 
@@ -169,25 +175,25 @@ static uint32_t reverb(const struct call *c, double *out, uint32_t *yes, uint32_
 {
     uint32_t *comb_l = lend(c, 0, 8), *comb_r = lend(c, 8, 8);
     uint32_t *pass_l = lend(c, 16, 4), *pass_r = lend(c, 20, 4);
-    double *store_l = lend(c, 25, 8), *store_r = lend(c, 33, 8);
+    double *store_l = lend(c, 26, 8), *store_r = lend(c, 34, 8);
     (void)age;
     switch (c->kind) {
     case START:
-        return room_raw_reverb_start(c->rate, c->memory, c->places, comb_l, comb_r, pass_l, pass_r, lend(c, 24, 1), store_l,
-                                     store_r, lend(c, 41, 1));
+        return room_raw_reverb_start(c->rate, c->memory, c->places, comb_l, comb_r, pass_l, pass_r, lend(c, 24, 1),
+                                     lend(c, 25, 1), store_l, store_r, lend(c, 42, 1));
     case RETUNE:
-        return room_raw_reverb_retune(c->rate, c->memory, c->places, comb_l, comb_r, pass_l, pass_r, lend(c, 24, 1), store_l,
-                                      store_r, lend(c, 41, 1));
+        return room_raw_reverb_retune(c->rate, c->memory, c->places, comb_l, comb_r, pass_l, pass_r, lend(c, 24, 1),
+                                      lend(c, 25, 1), store_l, store_r, lend(c, 42, 1));
     case RESET:
-        return room_raw_reverb_reset(c->memory, c->places, comb_l, comb_r, pass_l, pass_r, lend(c, 24, 1), store_l, store_r,
-                                     number(c, 41));
+        return room_raw_reverb_reset(c->memory, c->places, comb_l, comb_r, pass_l, pass_r, lend(c, 24, 1), lend(c, 25, 1),
+                                     store_l, store_r, number(c, 42));
     case TICK:
-        return room_raw_reverb_tick(comb_l, comb_r, pass_l, pass_r, lend(c, 24, 1), store_l, store_r, number(c, 41),
-                                    c->memory, c->places, c->set, c->ports[0], c->ports[1], c->ports[2], c->ports[3],
-                                    c->ports[4], out);
+        return room_raw_reverb_tick(comb_l, comb_r, pass_l, pass_r, lend(c, 24, 1), lend(c, 25, 1), store_l, store_r,
+                                    number(c, 42), c->memory, c->places, c->set, c->ports[0], c->ports[1], c->ports[2],
+                                    c->ports[3], c->ports[4], out);
     default:
-        return room_raw_reverb_silent(comb_l, comb_r, pass_l, pass_r, whole(c, 24), store_l, store_r, number(c, 41),
-                                      c->memory, c->places, yes);
+        return room_raw_reverb_silent(comb_l, comb_r, pass_l, pass_r, whole(c, 24), whole(c, 25), store_l, store_r,
+                                      number(c, 42), yes);
     }
 }
 
@@ -215,25 +221,27 @@ static uint32_t tape(const struct call *c, double *out, uint32_t *yes, uint32_t 
     case START:
         return room_raw_tape_delay_start(c->rate, c->coefficient, c->memory, c->places, lend(c, 0, 1), lend(c, 1, 1),
                                          lend(c, 2, 1), lend(c, 3, 1), lend(c, 4, 1), lend(c, 5, 1), lend(c, 6, 1),
-                                         lend(c, 7, 1), lend(c, 8, 1));
+                                         lend(c, 7, 1), lend(c, 8, 1), lend(c, 9, 1));
     case RETUNE:
         return room_raw_tape_delay_retune(c->rate, c->coefficient, c->memory, c->places, lend(c, 0, 1), lend(c, 1, 1),
                                           lend(c, 2, 1), lend(c, 3, 1), lend(c, 4, 1), lend(c, 5, 1), lend(c, 6, 1),
-                                          lend(c, 7, 1), lend(c, 8, 1));
+                                          lend(c, 7, 1), lend(c, 8, 1), lend(c, 9, 1));
     case RESET:
         return room_raw_tape_delay_reset(c->memory, c->places, lend(c, 0, 1), lend(c, 1, 1), lend(c, 2, 1), lend(c, 3, 1),
-                                         lend(c, 4, 1), number(c, 5), number(c, 6), lend(c, 7, 1), lend(c, 8, 1));
+                                         lend(c, 4, 1), lend(c, 5, 1), number(c, 6), number(c, 7), lend(c, 8, 1),
+                                         lend(c, 9, 1));
     case TICK:
-        return room_raw_tape_delay_read_half(whole(c, 0), lend(c, 1, 1), lend(c, 2, 1), lend(c, 3, 1), lend(c, 4, 1),
-                                             number(c, 5), number(c, 6), lend(c, 7, 1), lend(c, 8, 1), c->memory, c->places,
-                                             c->set, c->ports[0], c->ports[1], c->ports[2], c->ports[3], out, age);
+        return room_raw_tape_delay_read_half(whole(c, 0), whole(c, 1), lend(c, 2, 1), lend(c, 3, 1), lend(c, 4, 1),
+                                             lend(c, 5, 1), number(c, 6), number(c, 7), lend(c, 8, 1), lend(c, 9, 1),
+                                             c->memory, c->places, c->set, c->ports[0], c->ports[1], c->ports[2],
+                                             c->ports[3], out, age);
     case STORE:
-        return room_raw_tape_delay_store_half(lend(c, 0, 1), number(c, 1), lend(c, 2, 1), lend(c, 3, 1), lend(c, 4, 1),
-                                              number(c, 5), number(c, 6), whole(c, 7), lend(c, 8, 1), c->memory, c->places,
-                                              c->curves[0], out);
+        return room_raw_tape_delay_store_half(lend(c, 0, 1), lend(c, 1, 1), number(c, 2), lend(c, 3, 1), lend(c, 4, 1),
+                                              lend(c, 5, 1), number(c, 6), number(c, 7), whole(c, 8), lend(c, 9, 1),
+                                              c->memory, c->places, c->curves[0], out);
     default:
-        return room_raw_tape_delay_silent(whole(c, 0), number(c, 1), number(c, 2), number(c, 3), number(c, 4), number(c, 5),
-                                          number(c, 6), whole(c, 7), whole(c, 8), c->memory, c->places, yes);
+        return room_raw_tape_delay_silent(whole(c, 0), whole(c, 1), number(c, 2), number(c, 3), number(c, 4), number(c, 5),
+                                          number(c, 6), number(c, 7), whole(c, 8), whole(c, 9), yes);
     }
 }
 

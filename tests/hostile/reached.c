@@ -71,8 +71,8 @@ static const char *const other_names[OTHERS] = {
     "store halves at position L - 1",
     "halves refused for position L",
     "halves refused for position 2^31",
-    "questions answered with no for the waiting read alone",
-    "questions of such a line without one answered with yes",
+    "questions at a count of 0 answered with no for the waiting read",
+    "questions at a count of 0 without one answered with yes",
     "waiting reads dropped by a retune or a reset",
     "store halves refused by 6 that left it waiting",
 };
@@ -99,7 +99,7 @@ void count_reached(const struct call *c, const struct answer *a)
     }
     count_kept(c, a);
     count_position(c, a);
-    if (c->kind == SILENT && a->number == 0u && lines_zero_by_the_paper(c)) {
+    if (c->kind == SILENT && a->number == 0u && value_of(TAPE, &c->state, 'n') == 0u) {
         others[waits ? NOT_SILENT : SILENT_AFTER] += a->silent == (waits ? 0u : 1u);
     }
     others[DROPPED] += waits && a->number == 0u && (c->kind == RETUNE || c->kind == RESET) && !read_waits(TAPE, &a->state);

@@ -1,5 +1,5 @@
-/* Document 01: lengths, places needed, the state test, and the table of refusals with its orders. Of document 02, A.1, A.4 and
-   A.6. */
+/* Document 01: lengths, places needed, the state test, and the table of refusals with its orders. Of document 02, A.1, A.4, A.6
+   and A.8. */
 #include "hostile.h"
 
 #include <string.h>
@@ -13,11 +13,11 @@ const char *call_name(int effect, int kind)
     return effect == TAPE && kind == TICK ? "read" : names[kind];
 }
 
-/* The reverb: the positions of its lines; stores, left and right; rate. The phaser: last inputs, left and right; last outputs,
+/* The reverb: the positions of its lines; the count; stores, left and right; rate. The phaser: last inputs, left and right; last outputs,
    left and right; phase; rate. */
 const char *const state_words[EFFECTS] = {
-    "", "wdrcmfl", "wpppr", "wpr", "wpr", "pr", "wwwwwwwwwwwwwwwwwwwwwwwwwssssssssssssssssr", "sssssssssssssssssssssssspr",
-    "wdkkkrcfq"};
+    "", "wndrcmfl", "wnpppr", "wnpr", "wnpr", "pr", "wwwwwwwwwwwwwwwwwwwwwwwwwnssssssssssssssssr", "sssssssssssssssssssssssspr",
+    "wndkkkrcfq"};
 
 unsigned words_of(int effect)
 {
@@ -47,6 +47,11 @@ double maximum_of(int effect, const struct state *state)
 int is_position(int effect, unsigned word)
 {
     return state_words[effect][word] == 'w';
+}
+
+int is_count(int effect, unsigned word)
+{
+    return state_words[effect][word] == 'n';
 }
 
 int is_flag(int effect, unsigned word)
@@ -131,6 +136,17 @@ uint64_t length_at(int effect, const struct state *state, unsigned position)
     return effect == REVERB ? tank_length(position, rate) : line_length(effect, rate, held_maximum(maximum_of(effect, state)));
 }
 
+/* "every place in use of the unit's lines": of the reverb as many as its lines are long, of the others all that it needs. */
+uint64_t places_in_use(int effect, const struct state *state)
+{
+    uint64_t sum = 0;
+    unsigned line;
+    for (line = 0; line < lines_of(effect); line++) {
+        sum += length_at(effect, state, line);
+    }
+    return sum;
+}
+
 /* "for the delay also coefficient as in 2, maximum 0.001 to 60, glide distance +0 while unprimed, else 1 to L - 1" */
 static int glide_passes(int effect, const struct state *state)
 {
@@ -156,6 +172,7 @@ static int kept_passes(const struct state *state)
     return same(of_bits(kept[0]), 0.0) && same(of_bits(kept[1]), 0.0) && same(of_bits(kept[2]), 0.0);
 }
 
+/* "Number 4 also names a count above the places in use." */
 int state_passes(int effect, const struct state *state)
 {
     unsigned i;
@@ -166,6 +183,9 @@ int state_passes(int effect, const struct state *state)
     for (i = 0; i < words_of(effect); i++) {
         const double x = of_bits(state->word[i]);
         if (is_position(effect, i) && state->word[i] >= length_at(effect, state, i)) {
+            return 0;
+        }
+        if (is_count(effect, i) && state->word[i] > places_in_use(effect, state)) {
             return 0;
         }
         if (state_words[effect][i] == 'p' && !(x >= 0.0 && x < 1.0)) {
@@ -226,11 +246,11 @@ static int curves_hold(const struct call *c)
     return 1;
 }
 
-/* "Order: start 1, 2, 3; retune 4, 1, 2, 3; reset and silent 4, 3; tick 4, 3, 5, 6. The first that applies is given", and of 7
-   "it comes after 4 and before 3" */
+/* "Order: start 1, 2, 3; retune 4, 1, 2, 3; reset and silent 4, 3; tick 4, 3, 5, 6. The first that applies is given"; of 7 "it
+   comes after 4 and before 3"; and by document 02 "silent takes no memory and gives no 3". */
 uint32_t number_for(const struct call *c)
 {
-    static const char *const orders[CALLS] = {"123", "4123", "43", "47356", "43", "47356"};
+    static const char *const orders[CALLS] = {"123", "4123", "43", "47356", "4", "47356"};
     const char *cause;
     for (cause = orders[c->kind]; *cause != '\0'; cause++) {
         const int holds = *cause == '1'   ? rate_holds(c->rate)

@@ -86,17 +86,11 @@ static double passed(struct ticked *t, const struct call *c, unsigned first, dou
     return input;
 }
 
-struct ticked reverb_tick_by_the_paper(const struct call *c)
+void reverb_tick(struct ticked *t, const struct call *c)
 {
-    struct ticked t;
     const double audio = input_rule(port(c, 0, 0.0));
     const double mix = clamped(port(c, 3, 0.5), 0.0, 1.0);
-    double input;
-    t.state = c->state;
-    t.age = 0;
-    t.writes = 0;
-    input = predelayed(&t, c, audio);
-    t.out[0] = blended(audio, passed(&t, c, 16, combed(&t, c, 0, input)), mix);
-    t.out[1] = blended(audio, passed(&t, c, 20, combed(&t, c, 8, input)), mix);
-    return t;
+    const double input = predelayed(t, c, audio);
+    t->out[0] = blended(audio, passed(t, c, 16, combed(t, c, 0, input)), mix);
+    t->out[1] = blended(audio, passed(t, c, 20, combed(t, c, 8, input)), mix);
 }

@@ -173,7 +173,7 @@ static void chorus_tick(struct ticked *t, const struct call *c)
     for (i = 0; i < 3u; i++) {
         const double sweep = (c->curves[1u + i] * 0.5 + 0.5) * (depth * 25.0 * rate / 1000.0);
         voice[i] = play(t, c, 0, length, 7.0 * rate / 1000.0 + sweep);
-        advance(t, 1u + i, c->curves[0] * (1.0 + ((double)i - 1.0) * 0.1) / rate);
+        advance(t, word_of(CHORUS, 'p') + i, c->curves[0] * (1.0 + ((double)i - 1.0) * 0.1) / rate);
     }
     store(t, c, 0, length, audio);
     t->out[0] = blended(audio, (0.0 + voice[0] + voice[1] + voice[2]) / 3.0, mix);
@@ -197,7 +197,7 @@ static void flanger_tick(struct ticked *t, const struct call *c)
         t->out[1u + i] = blended(audio, wet, mix);
     }
     t->out[0] = t->out[1];
-    advance(t, 1, c->curves[0] / rate);
+    advance(t, word_of(FLANGER, 'p'), c->curves[0] / rate);
 }
 
 static void vibrato_tick(struct ticked *t, const struct call *c)
@@ -209,7 +209,7 @@ static void vibrato_tick(struct ticked *t, const struct call *c)
     const double wet = play(t, c, 0, length, (10.0 + c->curves[1] * (depth * 10.0 * 0.9)) * rate / 1000.0);
     store(t, c, 0, length, audio);
     t->out[0] = blended(audio, wet, clamped(port(c, 2, 1.0), 0.0, 1.0));
-    advance(t, 1, c->curves[0] / rate);
+    advance(t, word_of(VIBRATO, 'p'), c->curves[0] / rate);
 }
 
 static void tremolo_tick(struct ticked *t, const struct call *c)
@@ -252,14 +252,12 @@ static void phaser_tick(struct ticked *t, const struct call *c)
 struct ticked tick_by_the_paper(const struct call *c)
 {
     static void (*const ticks[EFFECTS])(struct ticked *, const struct call *) = {
-        0, delay_tick, chorus_tick, flanger_tick, vibrato_tick, tremolo_tick, 0, phaser_tick, tape_half};
+        0, delay_tick, chorus_tick, flanger_tick, vibrato_tick, tremolo_tick, reverb_tick, phaser_tick, tape_half};
     struct ticked t;
-    if (c->effect == REVERB) {
-        return reverb_tick_by_the_paper(c);
-    }
     t.state = c->state;
     t.age = 0;
     t.writes = 0;
     ticks[c->effect](&t, c);
+    count_writes(&t, c);
     return t;
 }

@@ -128,10 +128,10 @@ static void refuse_coefficient(struct effect_call *c)
     c->coefficient = wrong[below(COUNT(wrong))];
 }
 
-/* A place short of what it needs, or no places. Of what comes after a start the store half is there where it is its turn. */
+/* A place short of what it needs, or no places: of a retune, a reset or a tick, or the store half where it is its turn. */
 static void refuse_memory(const struct unit *u, struct effect_call *c)
 {
-    c->call = in_turn(u, (int)(RETUNE + below(STORE - RETUNE)));
+    c->call = in_turn(u, (int)(RETUNE + below(SILENT - RETUNE)));
     c->places = one_in(8) ? 0u : needed(u, c->rate) - 1u;
 }
 
@@ -149,7 +149,7 @@ static void refuse_kept(room_tape_delay *s)
     }
 }
 
-/* The copy's rate, position or phase is one that no start leads to, or what a tape delay keeps is. */
+/* The copy's rate, count, position or phase is one that no start leads to, or what a tape delay keeps is. */
 static void refuse_state(const struct unit *u, struct effect_call *c, struct effect_state *s)
 {
     const struct numbers rates = rates_refused();
@@ -166,7 +166,9 @@ static void refuse_state(const struct unit *u, struct effect_call *c, struct eff
         &s->tremolo.lfo_phase, 0, &s->phaser.lfo_phase, 0};
     c->call = (int)(RETUNE + below(CALLS - RETUNE));
     c->call = effect_has(u->effect, c->call) ? c->call : TICK;
-    if (u->effect == ROOM_TAPE_DELAY && one_in(2)) {
+    if (effect_lined(u->effect) && one_in(4)) {
+        *effect_count(u->effect, s) = one_in(2) ? UINT32_MAX : places_in_use(u) + 1u;
+    } else if (u->effect == ROOM_TAPE_DELAY && one_in(2)) {
         refuse_kept(&s->tape_delay);
     } else if (positions[u->effect] != 0 && one_in(2)) {
         *positions[u->effect] = (uint32_t)needed(u, u->rate);

@@ -1,7 +1,9 @@
 /*
- * The lamp: a silent unit of any effect, given zero audio and accepted controls, answers only zeros, of either sign, and is
- * silent after the tick. A tape delay's tick is two halves, the second handed a zero of either sign; in the middle of it the
- * unit is not silent. What the files of this driver share.
+ * The lamp: a unit of any effect that says it is silent, given zero audio and accepted controls, answers only zeros, of either
+ * sign, and says so after the tick. A tape delay's tick is two halves, the second handed a zero of either sign; in the middle
+ * of it the unit is not silent. The lamp asks, and a state answers by its count of places: so this is of runs, which begin with
+ * a start in memory that nobody else writes, and of units that a host made up and counted right. What the files of this driver
+ * share.
  *
  * Calls are made in the form of tests/c/effects.h, numbers drawn from the stream of tests/hostile/random.h.
  */
@@ -34,12 +36,13 @@ struct unit unit_at(int effect, double rate, double maximum); /* just started, l
 int make_silent(struct unit *u, int effect, enum way way);    /* 0 where a call on the way went wrong */
 void lay_zeros(struct unit *u);         /* zeros of either sign in all places in use, sounds in the others */
 int holds_zeros(const struct unit *u);  /* places in use and stores, read with no call */
-double *any_number(struct unit *u);     /* one of those; NULL of a tremolo, which has none */
-double any_sound(void);                 /* no zero */
+void put_place(struct unit *u, uint64_t place, double x); /* a host writes there, and counts it: a sound, where a zero was */
+int put_sound(struct unit *u);          /* such a sound in any place in use or store; 0 of a tremolo, which has none */
 double any_rate(int effect);
 uint64_t needed(const struct unit *u, double rate);
+uint32_t places_in_use(const struct unit *u);
 struct effect_call call_of(const struct unit *u, int call); /* of all that it is lent */
-int silent(const struct unit *u); /* 1 or 0; -1 where the question is refused or leaves another state */
+int silent(const struct unit *u); /* what it answers, 1 or 0; -1 where the question is refused or leaves another state */
 int is_zero(double x);
 
 /* draw.c: ticks, and calls that are refused. */
@@ -51,12 +54,13 @@ struct effect_call draw_store(const struct unit *u); /* a store half, handed a z
 uint32_t draw_refused(const struct unit *u, struct effect_call *c, struct effect_state *state); /* the number */
 
 /* tally.c: the facts, how often each was seen of each effect, and what was reached. */
-enum fact { MADE_SILENT, ACCEPTED, ANSWERS_ZEROS, STAYS_SILENT, CLEARS, REFUSED, HOLDS_ZEROS, SOUNDS, WAITS, FACTS };
+enum fact { MADE_SILENT, ACCEPTED, ANSWERS_ZEROS, STAYS_SILENT, CLEARS, REFUSED, HOLDS_ZEROS, SOUNDS, WAITS, AS_READ, FACTS };
 int fact(const struct unit *u, enum fact which, int holds, const struct effect_call *c); /* whether it holds */
 unsigned facts_broken(void);
 void count_tick(const struct unit *u, enum way way, enum audio audio);
 void count_samples(const struct unit *u, const double *out);
 void count_refusal(int effect, uint32_t number);
+void count_fade(const struct unit *u, int silent); /* whether it fell silent after a sound */
 void check_tally(void); /* prints the table and makes a test of each of its cells */
 
 /* not_silent.c: units that are not silent, and audio that is no zero. */

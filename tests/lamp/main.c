@@ -3,9 +3,9 @@
  * is not silent.
  *
  * Units come one after another, each with a list of calls: ticks, and between them calls that are refused, resets and retunes,
- * of the tape delay also in the middle of a tick. After each the unit is asked whether it is silent. The last line is
- * `N passed, M failed`, counted in facts of each effect, in what each effect must have come to, and in the cases of
- * not_silent.c and tape.c.
+ * of the tape delay also in the middle of a tick; at the end a sound. After each the unit is asked whether it is silent, and
+ * its places are read. The last line is `N passed, M failed`, counted in facts of each effect, in what each effect must have
+ * come to, and in the cases of not_silent.c and tape.c.
  */
 #include "lamp.h"
 
@@ -34,8 +34,9 @@ static int answers_zeros(struct unit *u, const struct effect_call *c)
     return fact(u, ACCEPTED, number == ROOM_ACCEPTED, c) && fact(u, ANSWERS_ZEROS, zeros, c);
 }
 
-/* A reset or a retune in between. The host may then lay other zeros into the places in use, and sounds into spare ones. */
-static int clear(struct unit *u)
+/* A reset or a retune in between. A host that made up the unit may then lay other zeros into the places in use, and sounds into
+   spare ones, which leaves the count right; in a run nobody does. */
+static int clear(struct unit *u, enum way way)
 {
     const int call = one_in(2) && effect_has(u->effect, RETUNE) ? RETUNE : RESET;
     const double rate = any_rate(u->effect);
@@ -49,7 +50,7 @@ static int clear(struct unit *u)
     if (!fact(u, CLEARS, effect_make(&u->state, &c, out, &age) == ROOM_ACCEPTED && silent(u) == 1, &c)) {
         return 0;
     }
-    if (one_in(2)) {
+    if (way == HANDED_IN && one_in(2)) {
         lay_zeros(u);
     }
     return 1;
@@ -76,13 +77,13 @@ static int refused(const struct unit *u)
 }
 
 /* While a read waits: its store half, or a clearing that drops it, and before it perhaps a call that is refused. */
-static int end_tick(struct unit *u)
+static int end_tick(struct unit *u, enum way way)
 {
     const struct effect_call c = draw_store(u);
     if (!fact(u, WAITS, silent(u) == 0, NULL) || (one_in(12) && !refused(u))) {
         return 0;
     }
-    return one_in(30) ? clear(u) : answers_zeros(u, &c);
+    return one_in(30) ? clear(u, way) : answers_zeros(u, &c);
 }
 
 /* One tick with zero audio. */
@@ -92,22 +93,48 @@ static int tick(struct unit *u, enum way way)
     const struct effect_call c = draw_tick(u, audio);
     ticks_made++;
     count_tick(u, way, audio);
-    return answers_zeros(u, &c) && (!waits(u) || end_tick(u)) && fact(u, STAYS_SILENT, silent(u) == 1, &c);
+    return answers_zeros(u, &c) && (!waits(u) || end_tick(u, way)) && fact(u, STAYS_SILENT, silent(u) == 1, &c);
 }
 
-/* The other side, at the end of a list: one place in use or store that is no zero, and the unit is not silent. */
-static void sound(struct unit *u)
+/* A tick, after which the unit is asked: what it answers must be what its places say. */
+static int heard(struct unit *u, const struct effect_call *c)
 {
-    double *number = any_number(u);
-    if (number != NULL) {
-        *number = any_sound();
+    double out[3];
+    uint32_t age;
+    return fact(u, ACCEPTED, whole_tick(u, c, out, &age) == ROOM_ACCEPTED, c) && silent(u) == 1;
+}
+
+/* A tick that sounds, and ticks of zero audio, which write over what it left, until the unit is silent or for so many. */
+static void fade(struct unit *u)
+{
+    const uint64_t most = u->effect == ROOM_TAPE_DELAY ? 20u : u->effect == ROOM_REVERB ? 60u : 400u;
+    struct effect_call c = draw_sounding_tick(u);
+    int is_silent = heard(u, &c);
+    uint64_t ticks;
+    if (u->effect != ROOM_TREMOLO) {
+        fact(u, SOUNDS, !is_silent, &c);
+    }
+    for (ticks = 0; ticks < most && !is_silent; ticks++) {
+        c = draw_tick(u, (enum audio)below(zero_audios(u->effect)));
+        is_silent = heard(u, &c);
+    }
+    count_fade(u, is_silent);
+}
+
+/* The other side, at the end of a list: a sound, and the unit is not silent. In a run it comes with a tick; who made up the
+   unit puts it into a place in use, and counts it, or into a store. */
+static void sound(struct unit *u, enum way way)
+{
+    if (way != HANDED_IN) {
+        fade(u);
+    } else if (put_sound(u)) {
         fact(u, SOUNDS, silent(u) == 0, NULL);
     }
 }
 
 /* One unit's list. It ends early where a fact is broken: the unit may sound from then on. Long lists, in which a line is gone
-   round more than once, are rarer for the reverb, whose question takes long, and the tape delay's lists are short: its question
-   takes longest. */
+   round more than once, are rarer for the reverb, whose places take long to read, and the tape delay's lists are short: its
+   places take longest. */
 static void list(int effect, enum way way)
 {
     const uint64_t most = effect == ROOM_TAPE_DELAY ? 80u : one_in(effect == ROOM_REVERB ? 12 : 4) ? 1500u : 150u;
@@ -117,7 +144,7 @@ static void list(int effect, enum way way)
     const int in_a_tick = way == HANDED_IN && waits(&u); /* it is silent after that */
     good = fact(&u, MADE_SILENT, good && silent(&u) == !in_a_tick, NULL);
     if (good && in_a_tick) {
-        good = end_tick(&u) && fact(&u, STAYS_SILENT, silent(&u) == 1, NULL);
+        good = end_tick(&u, way) && fact(&u, STAYS_SILENT, silent(&u) == 1, NULL);
     }
     for (; good && ticks > 0u; ticks--) {
         good = tick(&u, way);
@@ -125,12 +152,12 @@ static void list(int effect, enum way way)
             good = refused(&u);
         }
         if (good && one_in(100)) {
-            good = clear(&u);
+            good = clear(&u, way);
         }
     }
     if (good) {
         fact(&u, HOLDS_ZEROS, holds_zeros(&u), NULL);
-        sound(&u);
+        sound(&u, way);
     }
 }
 

@@ -1,5 +1,5 @@
 /* Units that are not silent: those that would sound again by themselves, and audio that is no zero. Each is a unit just
-   started in which one number is changed by hand. */
+   started in which one number is changed by hand, and counted where it is a place. */
 #include "lamp.h"
 
 /* The first tick, counted from 0, that answers anything but zeros, and its samples; NEVER if none of so many does. */
@@ -120,7 +120,7 @@ static void place_returns(unsigned place, unsigned distance)
     struct effect_call c = plain_tick(&u);
     double out[3];
     c.curves[0] = distance / 8.0;
-    u.lent[place] = 1.0;
+    put_place(&u, place, 1.0);
     check(u.places == 501u && silent(&u) == 0, "a delay is not silent with one place that sounds", number);
     check(first_sound(&u, &c, place + 1u, out) == first, "it sounds when that is read", number);
     check(first_sound(&u, &c, 501u, out) == NEVER && silent(&u) == 1, "and then no more, as it is written over", number);

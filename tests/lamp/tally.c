@@ -18,11 +18,12 @@ static const char *const fact_names[FACTS] = {
     "at the end places in use and stores hold zeros",
     "with a sound in one of them the unit is not silent",
     "while a read waits the unit is not silent",
+    "the answer is what places in use, stores and a waiting read say",
 };
 
 static struct {
     uint64_t held[FACTS], broken[FACTS];
-    uint64_t by_way[WAYS], by_audio[AUDIOS], by_sign[2], by_number[8];
+    uint64_t by_way[WAYS], by_audio[AUDIOS], by_sign[2], by_number[8], by_fade[2];
 } tally[EFFECTS_END];
 static unsigned broken;
 
@@ -77,6 +78,11 @@ void count_refusal(int effect, uint32_t number)
     tally[effect].by_number[number]++;
 }
 
+void count_fade(const struct unit *u, int silent)
+{
+    tally[u->effect].by_fade[silent != 0]++;
+}
+
 static void print_counts(const char *name, const uint64_t *counts, unsigned count)
 {
     unsigned i;
@@ -96,13 +102,20 @@ static void print_tables(void)
         print_counts("", tally[effect].by_audio, AUDIOS);
         puts("");
     }
-    printf("samples   %9s %9s   refused %2s %9s %9s %9s %9s %9s %9s\n", "+0", "-0", "by 1", "by 2", "by 3", "by 4", "by 5",
-           "by 6", "by 7");
+    printf("samples   %9s %9s   refused %2s %9s %9s %9s %9s %9s %9s   fade %4s %9s\n", "+0", "-0", "by 1", "by 2", "by 3",
+           "by 4", "by 5", "by 6", "by 7", "not", "to silent");
     for (effect = ROOM_DELAY; effect < EFFECTS_END; effect++) {
         print_counts(effect_names[effect], tally[effect].by_sign, 2);
         print_counts("", tally[effect].by_number + 1, 7);
+        print_counts("", tally[effect].by_fade, 2);
         puts("");
     }
+}
+
+/* The effects whose lines have no feedback are silent again once they have gone round. */
+static int fades(int effect)
+{
+    return effect == ROOM_CHORUS || effect == ROOM_VIBRATO || effect == ROOM_TREMOLO;
 }
 
 /* A fact that was seen and never broken, and what every effect must have come to. */
@@ -122,6 +135,8 @@ static void check_effect(int effect)
     }
     check(tally[e].by_sign[0] > 0u, "samples of +0", e);
     check(tally[e].by_sign[1] > 0u, "samples of -0", e);
+    check(tally[e].by_fade[0] > 0u || effect == ROOM_TREMOLO, "runs that still sound some ticks after a sound", e);
+    check(tally[e].by_fade[1] > 0u || !fades(effect), "runs that fall silent after a sound", e);
     for (i = 1; i <= 7u; i++) {
         const int can = effect_can_refuse(effect, i) && (i != 1u || effect_has(effect, RETUNE)) &&
                         (i != 7u || effect == ROOM_TAPE_DELAY);

@@ -144,7 +144,7 @@ static void place_returns(unsigned place, unsigned distance)
     struct effect_call c = plain_tick(&u);
     double out[3];
     c.ports[1] = room_set(distance / RATE);
-    u.lent[place] = 1.0;
+    put_place(&u, place, 1.0);
     u.state.tape_delay.write_pos = (place + LENGTH - AHEAD) % LENGTH;
     check(u.places == LENGTH && silent(&u) == 0, "a tape is not silent with one place that sounds", number);
     check(first_sound(&u, &c, AHEAD + 1u, out) == first, "it sounds when that is read", number);

@@ -1,4 +1,4 @@
-/* Silent units: just started, cleared after they sounded, or handed in by a host that made up their state. */
+/* Silent units: just started, cleared after they sounded, or handed in by a host that made up their state and memory. */
 #include "lamp.h"
 
 #include <string.h>
@@ -34,17 +34,20 @@ struct effect_call call_of(const struct unit *u, int call)
     return c;
 }
 
+/* The state alone answers, and the places in use, the stores and a read that waits must say the same. */
 int silent(const struct unit *u)
 {
     const struct effect_call c = call_of(u, SILENT);
     struct effect_state state;
     double out[3] = {JUNK, JUNK, JUNK};
     uint32_t age = JUNK_AGE;
+    int answer = -1;
     memcpy(&state, &u->state, sizeof state);
-    if (effect_make(&state, &c, out, &age) != ROOM_ACCEPTED || memcmp(&state, &u->state, sizeof state) != 0) {
-        return -1;
+    if (effect_make(&state, &c, out, &age) == ROOM_ACCEPTED && memcmp(&state, &u->state, sizeof state) == 0) {
+        answer = same(out[0], 1.0) ? 1 : same(out[0], 0.0) ? 0 : -1;
     }
-    return same(out[0], 1.0) ? 1 : same(out[0], 0.0) ? 0 : -1;
+    fact(u, AS_READ, answer == (holds_zeros(u) && !waits(u)), NULL);
+    return answer;
 }
 
 /* The places in use: of the reverb a part of each line, of the others all that it needs. */
@@ -72,11 +75,24 @@ static uint64_t part_length(const struct unit *u, unsigned part)
     return line_length(&tunings[i], part);
 }
 
+uint32_t places_in_use(const struct unit *u)
+{
+    uint64_t sum = 0;
+    unsigned part;
+    for (part = 0; part < parts_of(u); part++) {
+        sum += part_length(u, part);
+    }
+    return (uint32_t)sum;
+}
+
+/* By parts: most are +0 throughout, which is soon seen. */
 static int all_zero(const double *at, uint64_t count)
 {
+    static const double zeros[512];
     uint64_t i;
-    for (i = 0; i < count; i++) {
-        if (!is_zero(at[i])) {
+    for (i = 0; i < count; i += COUNT(zeros)) {
+        const uint64_t part = count - i < COUNT(zeros) ? count - i : COUNT(zeros);
+        if (memcmp(at + i, zeros, part * sizeof *at) != 0 && nonzero_in(at + i, part) > 0u) {
             return 0;
         }
     }
@@ -102,11 +118,6 @@ int holds_zeros(const struct unit *u)
 
 static const double sounds[] = {1.0,     -1.0,     0x1p-1074,        -0x1p-1074,
                                 DBL_MAX, -DBL_MAX, (double)INFINITY, (double)NAN};
-
-double any_sound(void)
-{
-    return sounds[below(COUNT(sounds))];
-}
 
 /* No call may read these places. All the sounds lie there, beginning with any of them. */
 static void lay_sounds(double *at, uint64_t count)
@@ -142,25 +153,33 @@ static uint32_t any_position(uint64_t length)
     return (uint32_t)(one_in(3) ? 0u : one_in(2) ? length - 1u : below(length));
 }
 
-double *any_number(struct unit *u)
+void put_place(struct unit *u, uint64_t place, double x)
+{
+    u->lent[place] = x;
+    ++*effect_count(u->effect, &u->state);
+}
+
+int put_sound(struct unit *u)
 {
     room_phaser *p = &u->state.phaser;
     double *const numbers[] = {p->allpass_x1_l, p->allpass_x1_r, p->allpass_y1_l, p->allpass_y1_r};
+    const double sound = sounds[below(COUNT(sounds))];
     unsigned part;
     if (u->effect == ROOM_TREMOLO) {
-        return NULL;
+        return 0;
     }
     if (u->effect == ROOM_PHASER) {
-        return numbers[below(4)] + below(6);
+        numbers[below(4)][below(6)] = sound;
+    } else if (u->effect == ROOM_REVERB && one_in(2)) {
+        *comb_store(&u->state.reverb, (unsigned)below(STORES)) = sound;
+    } else {
+        part = (unsigned)below(parts_of(u));
+        put_place(u, part_start(u, part) + any_position(part_length(u, part)), sound);
     }
-    if (u->effect == ROOM_REVERB && one_in(2)) {
-        return comb_store(&u->state.reverb, (unsigned)below(STORES));
-    }
-    part = (unsigned)below(parts_of(u));
-    return u->lent + part_start(u, part) + any_position(part_length(u, part));
+    return 1;
 }
 
-/* States that pass the state test, with zeros in every store. */
+/* States that pass the state test, with zeros in every store and a count of 0. */
 
 static double any_zero(void)
 {
@@ -325,7 +344,7 @@ int make_silent(struct unit *u, int effect, enum way way)
     u->places = needed(u, u->rate) + (effect_lined(effect) && !one_in(3) ? below(100) : 0u);
     if (way == HANDED_IN) {
         hand_state(u);
-        lay_zeros(u);
+        lay_zeros(u); /* of which the state counts none */
         return 1;
     }
     return way == STARTED ? started(u) : cleared(u, way == WAS_RESET ? RESET : RETUNE);

@@ -8,13 +8,14 @@ use Rattle.std.specs.Int.{from_bool}
 use Rattle.port.specs.declared.Refusal.{Refusal}
 use Rattle.port.specs.declared.Answer.{Answer}
 use Rattle.port.specs.declared.Answer.TheVariants.{One, Two, Three, Refused}
-use Rattle.port.specs.Answer.{Reply, answer_reply, reply_number, reply_age}
+use Rattle.std.proofs.Common.{Result, Ok, Err}
+use Rattle.port.specs.Answer.{Reply, number_of, answer_reply, silence_reply, reply_number, reply_age, reply_silent}
 use Rattle.effect.specs.Effect.{Effect}
-use Rattle.effect.specs.Run.{tick, Device, number_at, step}
+use Rattle.effect.specs.Run.{tick, ask, Device, device_of, number_at, step}
 use Rattle.effect.specs.Contract.{Does}
 use Rattle.effect.proofs.Table.{if_none-both}
 use Rattle.room_effects.specs.States.{is_on, FlagWritten}
-use Rattle.room_effects.specs.Lent.{samples_from, TickReturns, AgedReturns}
+use Rattle.room_effects.specs.Lent.{samples_from, TickReturns, AgedReturns, AskReturns}
 
 -- ---- a flag that is written as its number, 0 or 1, is on where it was
 
@@ -61,3 +62,18 @@ module _ (E : Effect) {K : Type 0} (kept : E.Tick → E.State → K) (stays : (t
     -- and the age with them
     pub aged : {age' : ℕ} → age' ≡ reply_age a → AgedReturns E k t₀ u (record { state = s; memory = m' }) out' age' r
     aged age = record { ticked = ticked; age = age ∙ ap reply_age does.answer }
+
+-- ---- a question, which is handed no memory: of every memory that the unit may have
+
+question-number : (r : Result Bool Refusal) → number_of r ≡ reply_number (silence_reply r)
+question-number (Ok b) = refl
+question-number (Err cause) = refl
+
+pub asked : (E : Effect) (s : E.State) (r : Result Bool Refusal) {flag number : ℕ} → ((m : List Float) → Does E ask s m s m (silence_reply r)) → flag ≡ reply_silent (silence_reply r)
+    → number ≡ number_of r → (m : List Float) → AskReturns E (device_of s m) flag number
+asked E s r each flag number m =
+    let own = each m in
+    record {
+      called = record { state = own.state; memory = own.memory; number = number ∙ question-number r ∙ ap reply_number own.answer };
+      flag = flag ∙ ap reply_silent own.answer;
+    }

@@ -22,9 +22,9 @@ FlagLeft r n n' = n' ≡ if_none r (cond (is_on n') 1 0) n
 
 -- ---- delay and tape delay, whose settings are lent one by one, and of the tape what is kept
 
-abbrev pub delay_of : ℕ → Float → Float → Float → Float → Bool → Bool → DelayLine
-delay_of pos distance rate coefficient maximum primed linear = delay.state_of pos distance primed (delay.handing rate coefficient maximum linear)
+abbrev pub delay_of : ℕ → ℕ → Float → Float → Float → Float → Bool → Bool → DelayLine
+delay_of pos count distance rate coefficient maximum primed linear = delay.state_of pos count distance primed (delay.handing rate coefficient maximum linear)
 
-abbrev pub tape_delay_of : ℕ → Float → Float → Float → Float → Float → Float → Bool → Bool → TapeDelay
-tape_delay_of pos distance audio read mix rate coefficient primed waiting =
-    tape.state_of pos distance primed waiting (record { audio = audio; read = read; mix = mix }) (tape.handing rate coefficient)
+abbrev pub tape_delay_of : ℕ → ℕ → Float → Float → Float → Float → Float → Float → Bool → Bool → TapeDelay
+tape_delay_of pos count distance audio read mix rate coefficient primed waiting =
+    tape.state_of pos count distance primed waiting (record { audio = audio; read = read; mix = mix }) (tape.handing rate coefficient)

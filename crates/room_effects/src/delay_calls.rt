@@ -1,5 +1,5 @@
 // The delay's calls. A flag crosses as a number: 0 is off, any other is on, and what is written is 0 or 1.
-ghost use Rattle.std.specs.Prelude.{◌≡◌, [], ◌∷◌};
+ghost use Rattle.std.specs.Prelude.{◌≡◌, [], ◌∷◌, List, Float};
 ghost use Rattle.effect.specs.Run.{retune, reset, device_of};
 ghost use Rattle.effect.specs.Contract.{lent_at, from_to};
 ghost use Rattle.delay_line.specs.DelayLine.{delay_line, handing, retuning, tick_of};
@@ -9,12 +9,13 @@ ghost use Rattle.room_effects.specs.Ports.{port_at};
 
 use crate::shared::port_at;
 use delay_line::{DelayLine, Retune};
-use effect::{InMemory, InOnePart};
+use effect::{InMemory, Unit};
 use port::{Answer, number_of, silent_flag};
 
 // A delay's state from lent numbers.
 fn delay_of(
     write_pos: u32,
+    nonzero_places: u32,
     smoothed_delay: f64,
     sample_rate: f64,
     delay_smooth_coef: f64,
@@ -22,11 +23,12 @@ fn delay_of(
     delay_primed: u32,
     linear_time: u32,
 ) -> DelayLine
-    ensures { result ≡ delay_of write_pos smoothed_delay sample_rate delay_smooth_coef max_delay_secs (is_on delay_primed)
+    ensures { result ≡ delay_of write_pos nonzero_places smoothed_delay sample_rate delay_smooth_coef max_delay_secs (is_on delay_primed)
         (is_on linear_time) }
 {
     DelayLine {
         write_pos,
+        nonzero_places,
         smoothed_delay,
         sample_rate,
         delay_smooth_coef,
@@ -45,6 +47,7 @@ pub extern "C" fn room_raw_delay_start(
     new_linear_time: u32,
     memory: &mut [f64],
     write_pos: &mut u32,
+    nonzero_places: &mut u32,
     smoothed_delay: &mut f64,
     sample_rate: &mut f64,
     delay_smooth_coef: &mut f64,
@@ -53,7 +56,7 @@ pub extern "C" fn room_raw_delay_start(
     linear_time: &mut u32,
 ) -> u32
     ensures { StartReturns delay_line (handing new_sample_rate new_delay_smooth_coef new_max_delay_secs
-        (is_on new_linear_time)) memory.old (device_of (delay_of write_pos.new
+        (is_on new_linear_time)) memory.old (device_of (delay_of write_pos.new nonzero_places.new
         smoothed_delay.new sample_rate.new delay_smooth_coef.new
         max_delay_secs.new (is_on delay_primed.new) (is_on linear_time.new))
         memory.new) result × FlagWritten delay_primed.new × FlagWritten linear_time.new }
@@ -66,6 +69,7 @@ pub extern "C" fn room_raw_delay_start(
         memory,
     );
     *write_pos = started.state.write_pos;
+    *nonzero_places = started.state.nonzero_places;
     *smoothed_delay = started.state.smoothed_delay;
     *sample_rate = started.state.sample_rate;
     *delay_smooth_coef = started.state.delay_smooth_coef;
@@ -81,6 +85,7 @@ pub extern "C" fn room_raw_delay_retune(
     new_delay_smooth_coef: f64,
     memory: &mut [f64],
     write_pos: &mut u32,
+    nonzero_places: &mut u32,
     smoothed_delay: &mut f64,
     sample_rate: &mut f64,
     delay_smooth_coef: &mut f64,
@@ -88,13 +93,14 @@ pub extern "C" fn room_raw_delay_retune(
     delay_primed: &mut u32,
     linear_time: u32,
 ) -> u32
-    ensures { from_to (λ k. device_of (delay_of (lent_at write_pos k) (lent_at smoothed_delay k) (lent_at sample_rate k)
+    ensures { from_to (λ k. device_of (delay_of (lent_at write_pos k) (lent_at nonzero_places k) (lent_at smoothed_delay k) (lent_at sample_rate k)
         (lent_at delay_smooth_coef k) max_delay_secs (is_on (lent_at delay_primed k)) (is_on linear_time)) (lent_at memory k))
         (λ u u'. CallReturns delay_line (retune (retuning new_sample_rate new_delay_smooth_coef)) u u' result)
         × from_to (lent_at delay_primed) (FlagLeft result) }
 {
     let state = delay_of(
         *write_pos,
+        *nonzero_places,
         *smoothed_delay,
         *sample_rate,
         *delay_smooth_coef,
@@ -111,6 +117,7 @@ pub extern "C" fn room_raw_delay_retune(
         return u32::from(cause);
     }
     *write_pos = cleared.state.write_pos;
+    *nonzero_places = cleared.state.nonzero_places;
     *smoothed_delay = cleared.state.smoothed_delay;
     *sample_rate = cleared.state.sample_rate;
     *delay_smooth_coef = cleared.state.delay_smooth_coef;
@@ -122,6 +129,7 @@ pub extern "C" fn room_raw_delay_retune(
 pub extern "C" fn room_raw_delay_reset(
     memory: &mut [f64],
     write_pos: &mut u32,
+    nonzero_places: &mut u32,
     smoothed_delay: &mut f64,
     sample_rate: f64,
     delay_smooth_coef: f64,
@@ -129,13 +137,14 @@ pub extern "C" fn room_raw_delay_reset(
     delay_primed: &mut u32,
     linear_time: u32,
 ) -> u32
-    ensures { from_to (λ k. device_of (delay_of (lent_at write_pos k) (lent_at smoothed_delay k) sample_rate
+    ensures { from_to (λ k. device_of (delay_of (lent_at write_pos k) (lent_at nonzero_places k) (lent_at smoothed_delay k) sample_rate
         delay_smooth_coef max_delay_secs (is_on (lent_at delay_primed k)) (is_on linear_time)) (lent_at memory k))
         (λ u u'. CallReturns delay_line reset u u' result)
         × from_to (lent_at delay_primed) (FlagLeft result) }
 {
     let state = delay_of(
         *write_pos,
+        *nonzero_places,
         *smoothed_delay,
         sample_rate,
         delay_smooth_coef,
@@ -148,6 +157,7 @@ pub extern "C" fn room_raw_delay_reset(
         return u32::from(cause);
     }
     *write_pos = cleared.state.write_pos;
+    *nonzero_places = cleared.state.nonzero_places;
     *smoothed_delay = cleared.state.smoothed_delay;
     *delay_primed = u32::from(cleared.state.delay_primed);
     0
@@ -157,6 +167,7 @@ pub extern "C" fn room_raw_delay_reset(
 #[unsafe(no_mangle)]
 pub extern "C" fn room_raw_delay_tick(
     write_pos: &mut u32,
+    nonzero_places: &mut u32,
     smoothed_delay: &mut f64,
     sample_rate: f64,
     delay_smooth_coef: f64,
@@ -173,13 +184,14 @@ pub extern "C" fn room_raw_delay_tick(
     out: &mut f64,
     age: &mut u32,
 ) -> u32
-    ensures { from_to (λ k. device_of (delay_of (lent_at write_pos k) (lent_at smoothed_delay k) sample_rate
+    ensures { from_to (λ k. device_of (delay_of (lent_at write_pos k) (lent_at nonzero_places k) (lent_at smoothed_delay k) sample_rate
         delay_smooth_coef max_delay_secs (is_on (lent_at delay_primed k)) (is_on linear_time)) (lent_at memory k))
         (λ u u'. AgedReturns delay_line 1 (tick_of (port_at set 1 audio) (port_at set 2 time) (port_at set 4 feedback)
         (port_at set 8 mix) milliseconds) u u' (out.new ∷ []) age.new result) × from_to (lent_at delay_primed) (FlagLeft result) }
 {
     let state = delay_of(
         *write_pos,
+        *nonzero_places,
         *smoothed_delay,
         sample_rate,
         delay_smooth_coef,
@@ -201,6 +213,7 @@ pub extern "C" fn room_raw_delay_tick(
         return u32::from(cause);
     }
     *write_pos = ticked.state.write_pos;
+    *nonzero_places = ticked.state.nonzero_places;
     *smoothed_delay = ticked.state.smoothed_delay;
     *delay_primed = u32::from(ticked.state.delay_primed);
     0
@@ -209,20 +222,21 @@ pub extern "C" fn room_raw_delay_tick(
 #[unsafe(no_mangle)]
 pub extern "C" fn room_raw_delay_silent(
     write_pos: u32,
+    nonzero_places: u32,
     smoothed_delay: f64,
     sample_rate: f64,
     delay_smooth_coef: f64,
     max_delay_secs: f64,
     delay_primed: u32,
     linear_time: u32,
-    memory: &[f64],
     out: &mut u32,
 ) -> u32
-    ensures { AskReturns delay_line (device_of (delay_of write_pos smoothed_delay sample_rate delay_smooth_coef
-        max_delay_secs (is_on delay_primed) (is_on linear_time)) memory.now) out.new result }
+    ensures { (m : List Float) → AskReturns delay_line (device_of (delay_of write_pos nonzero_places smoothed_delay sample_rate delay_smooth_coef
+        max_delay_secs (is_on delay_primed) (is_on linear_time)) m) out.new result }
 {
     let state = delay_of(
         write_pos,
+        nonzero_places,
         smoothed_delay,
         sample_rate,
         delay_smooth_coef,
@@ -230,7 +244,7 @@ pub extern "C" fn room_raw_delay_silent(
         delay_primed,
         linear_time,
     );
-    let silence = state.silent(memory);
+    let silence = state.silent();
     *out = silent_flag(silence);
     number_of(silence)
 }

@@ -7,7 +7,7 @@ ghost use Rattle.room_effects.specs.Lent.{StartReturns, CallReturns, TickReturns
 ghost use Rattle.room_effects.specs.Ports.{port_at};
 
 use crate::shared::{port_at, put_samples};
-use effect::WithoutMemory;
+use effect::{Unit, WithoutMemory};
 use phaser::{Chain, Chains, Lent, Phaser};
 use port::{number_of, silent_flag};
 

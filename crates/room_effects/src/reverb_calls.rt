@@ -1,5 +1,5 @@
 // The reverb's calls. Its state crosses as lent arrays: the combs' and all-passes' positions, the combs' damping stores; and the predelay's position.
-ghost use Rattle.std.specs.Prelude.{◌≡◌};
+ghost use Rattle.std.specs.Prelude.{◌≡◌, List, Float};
 ghost use Rattle.effect.specs.Run.{retune, reset, device_of};
 ghost use Rattle.effect.specs.Contract.{lent_at, from_to};
 ghost use Rattle.reverb.specs.Reverb.{reverb, tick_of, state_of};
@@ -7,7 +7,7 @@ ghost use Rattle.room_effects.specs.Lent.{StartReturns, CallReturns, TickReturns
 ghost use Rattle.room_effects.specs.Ports.{port_at};
 
 use crate::shared::port_at;
-use effect::InMemory;
+use effect::{InMemory, Unit};
 use port::{number_of, silent_flag};
 use reverb::{Lent, Reverb};
 
@@ -19,11 +19,12 @@ fn put_reverb(
     allpass_pos_l: &mut [u32; 4],
     allpass_pos_r: &mut [u32; 4],
     predelay_pos: &mut u32,
+    nonzero_places: &mut u32,
     comb_filter_state_l: &mut [f64; 8],
     comb_filter_state_r: &mut [f64; 8],
 )
     ensures { state_of comb_pos_l.new comb_pos_r.new allpass_pos_l.new
-        allpass_pos_r.new predelay_pos.new comb_filter_state_l.new
+        allpass_pos_r.new predelay_pos.new nonzero_places.new comb_filter_state_l.new
         comb_filter_state_r.new state.sample_rate ≡ state }
 {
     let combs_l = state.comb_pos_l;
@@ -37,6 +38,7 @@ fn put_reverb(
     *allpass_pos_l = passes_l;
     *allpass_pos_r = passes_r;
     *predelay_pos = state.predelay_pos;
+    *nonzero_places = state.nonzero_places;
     *comb_filter_state_l = damping_l;
     *comb_filter_state_r = damping_r;
 }
@@ -51,13 +53,14 @@ pub extern "C" fn room_raw_reverb_start(
     allpass_pos_l: &mut [u32; 4],
     allpass_pos_r: &mut [u32; 4],
     predelay_pos: &mut u32,
+    nonzero_places: &mut u32,
     comb_filter_state_l: &mut [f64; 8],
     comb_filter_state_r: &mut [f64; 8],
     sample_rate: &mut f64,
 ) -> u32
     ensures { StartReturns reverb new_sample_rate memory.old (device_of (state_of comb_pos_l.new
         comb_pos_r.new allpass_pos_l.new allpass_pos_r.new
-        predelay_pos.new comb_filter_state_l.new comb_filter_state_r.new sample_rate.new)
+        predelay_pos.new nonzero_places.new comb_filter_state_l.new comb_filter_state_r.new sample_rate.new)
         memory.new) result }
 {
     let started = Reverb::new(new_sample_rate, memory);
@@ -68,6 +71,7 @@ pub extern "C" fn room_raw_reverb_start(
         allpass_pos_l,
         allpass_pos_r,
         predelay_pos,
+        nonzero_places,
         comb_filter_state_l,
         comb_filter_state_r,
     );
@@ -84,12 +88,13 @@ pub extern "C" fn room_raw_reverb_retune(
     allpass_pos_l: &mut [u32; 4],
     allpass_pos_r: &mut [u32; 4],
     predelay_pos: &mut u32,
+    nonzero_places: &mut u32,
     comb_filter_state_l: &mut [f64; 8],
     comb_filter_state_r: &mut [f64; 8],
     sample_rate: &mut f64,
 ) -> u32
     ensures { from_to (λ k. device_of (state_of (lent_at comb_pos_l k) (lent_at comb_pos_r k) (lent_at allpass_pos_l k)
-        (lent_at allpass_pos_r k) (lent_at predelay_pos k) (lent_at comb_filter_state_l k) (lent_at comb_filter_state_r k)
+        (lent_at allpass_pos_r k) (lent_at predelay_pos k) (lent_at nonzero_places k) (lent_at comb_filter_state_l k) (lent_at comb_filter_state_r k)
         (lent_at sample_rate k)) (lent_at memory k))
         (λ u u'. CallReturns reverb (retune new_sample_rate) u u' result) }
 {
@@ -99,6 +104,7 @@ pub extern "C" fn room_raw_reverb_retune(
         allpass_pos_l: *allpass_pos_l,
         allpass_pos_r: *allpass_pos_r,
         predelay_pos: *predelay_pos,
+        nonzero_places: *nonzero_places,
         comb_filter_state_l: *comb_filter_state_l,
         comb_filter_state_r: *comb_filter_state_r,
         sample_rate: *sample_rate,
@@ -114,6 +120,7 @@ pub extern "C" fn room_raw_reverb_retune(
         allpass_pos_l,
         allpass_pos_r,
         predelay_pos,
+        nonzero_places,
         comb_filter_state_l,
         comb_filter_state_r,
     );
@@ -129,12 +136,13 @@ pub extern "C" fn room_raw_reverb_reset(
     allpass_pos_l: &mut [u32; 4],
     allpass_pos_r: &mut [u32; 4],
     predelay_pos: &mut u32,
+    nonzero_places: &mut u32,
     comb_filter_state_l: &mut [f64; 8],
     comb_filter_state_r: &mut [f64; 8],
     sample_rate: f64,
 ) -> u32
     ensures { from_to (λ k. device_of (state_of (lent_at comb_pos_l k) (lent_at comb_pos_r k) (lent_at allpass_pos_l k)
-        (lent_at allpass_pos_r k) (lent_at predelay_pos k) (lent_at comb_filter_state_l k) (lent_at comb_filter_state_r k) sample_rate)
+        (lent_at allpass_pos_r k) (lent_at predelay_pos k) (lent_at nonzero_places k) (lent_at comb_filter_state_l k) (lent_at comb_filter_state_r k) sample_rate)
         (lent_at memory k))
         (λ u u'. CallReturns reverb reset u u' result) }
 {
@@ -144,6 +152,7 @@ pub extern "C" fn room_raw_reverb_reset(
         allpass_pos_l: *allpass_pos_l,
         allpass_pos_r: *allpass_pos_r,
         predelay_pos: *predelay_pos,
+        nonzero_places: *nonzero_places,
         comb_filter_state_l: *comb_filter_state_l,
         comb_filter_state_r: *comb_filter_state_r,
         sample_rate,
@@ -159,6 +168,7 @@ pub extern "C" fn room_raw_reverb_reset(
         allpass_pos_l,
         allpass_pos_r,
         predelay_pos,
+        nonzero_places,
         comb_filter_state_l,
         comb_filter_state_r,
     );
@@ -174,6 +184,7 @@ pub extern "C" fn room_raw_reverb_tick<'a>(
     allpass_pos_l: &'a mut [u32; 4],
     allpass_pos_r: &'a mut [u32; 4],
     predelay_pos: &'a mut u32,
+    nonzero_places: &'a mut u32,
     comb_filter_state_l: &'a mut [f64; 8],
     comb_filter_state_r: &'a mut [f64; 8],
     sample_rate: f64,
@@ -187,7 +198,7 @@ pub extern "C" fn room_raw_reverb_tick<'a>(
     out: &mut [f64; 2],
 ) -> u32
     ensures { from_to (λ k. device_of (state_of (lent_at comb_pos_l k) (lent_at comb_pos_r k) (lent_at allpass_pos_l k)
-        (lent_at allpass_pos_r k) (lent_at predelay_pos k) (lent_at comb_filter_state_l k) (lent_at comb_filter_state_r k) sample_rate)
+        (lent_at allpass_pos_r k) (lent_at predelay_pos k) (lent_at nonzero_places k) (lent_at comb_filter_state_l k) (lent_at comb_filter_state_r k) sample_rate)
         (lent_at memory k))
         (λ u u'. TickReturns reverb 2 (tick_of (port_at set 1 audio) (port_at set 2 size) (port_at set 4 damping) (port_at set 8 mix)
         (port_at set 16 predelay)) u u' out.new result) }
@@ -198,6 +209,7 @@ pub extern "C" fn room_raw_reverb_tick<'a>(
         allpass_pos_l,
         allpass_pos_r,
         predelay_pos,
+        nonzero_places,
         comb_filter_state_l,
         comb_filter_state_r,
         sample_rate,
@@ -221,15 +233,15 @@ pub extern "C" fn room_raw_reverb_silent(
     allpass_pos_l: &[u32; 4],
     allpass_pos_r: &[u32; 4],
     predelay_pos: u32,
+    nonzero_places: u32,
     comb_filter_state_l: &[f64; 8],
     comb_filter_state_r: &[f64; 8],
     sample_rate: f64,
-    memory: &[f64],
     out: &mut u32,
 ) -> u32
-    ensures { AskReturns reverb (device_of (state_of comb_pos_l.now comb_pos_r.now
-        allpass_pos_l.now allpass_pos_r.now predelay_pos
-        comb_filter_state_l.now comb_filter_state_r.now sample_rate) memory.now) out.new result }
+    ensures { (m : List Float) → AskReturns reverb (device_of (state_of comb_pos_l.now comb_pos_r.now
+        allpass_pos_l.now allpass_pos_r.now predelay_pos nonzero_places
+        comb_filter_state_l.now comb_filter_state_r.now sample_rate) m) out.new result }
 {
     let state = Reverb {
         comb_pos_l: *comb_pos_l,
@@ -237,11 +249,12 @@ pub extern "C" fn room_raw_reverb_silent(
         allpass_pos_l: *allpass_pos_l,
         allpass_pos_r: *allpass_pos_r,
         predelay_pos,
+        nonzero_places,
         comb_filter_state_l: *comb_filter_state_l,
         comb_filter_state_r: *comb_filter_state_r,
         sample_rate,
     };
-    let silence = state.silent(memory);
+    let silence = state.silent();
     *out = silent_flag(silence);
     number_of(silence)
 }

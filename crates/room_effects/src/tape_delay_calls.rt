@@ -1,5 +1,5 @@
 // The tape delay's calls: a tick is two, the read half and the store half, between which the host saturates the sum. A flag crosses as the delay's do.
-ghost use Rattle.std.specs.Prelude.{◌≡◌, [], ◌∷◌};
+ghost use Rattle.std.specs.Prelude.{◌≡◌, [], ◌∷◌, List, Float};
 ghost use Rattle.effect.specs.Run.{tick, retune, reset, device_of};
 ghost use Rattle.effect.specs.Contract.{lent_at, from_to};
 ghost use Rattle.tape_delay.specs.TapeDelay.{tape_delay, handing, ports_of, read_half, store_half};
@@ -9,13 +9,14 @@ ghost use Rattle.room_effects.specs.Ports.{port_at};
 
 use crate::shared::port_at;
 use delay_line::Kept;
-use effect::{InMemory, InOnePart};
+use effect::{InMemory, Unit};
 use port::{Answer, number_of, silent_flag};
 use tape_delay::{Settings, TapeDelay};
 
 // A tape delay's state from lent numbers.
 fn tape_delay_of(
     write_pos: u32,
+    nonzero_places: u32,
     smoothed_delay: f64,
     kept_audio: f64,
     kept_read: f64,
@@ -25,11 +26,12 @@ fn tape_delay_of(
     delay_primed: u32,
     waiting: u32,
 ) -> TapeDelay
-    ensures { result ≡ tape_delay_of write_pos smoothed_delay kept_audio kept_read kept_mix sample_rate delay_smooth_coef
+    ensures { result ≡ tape_delay_of write_pos nonzero_places smoothed_delay kept_audio kept_read kept_mix sample_rate delay_smooth_coef
         (is_on delay_primed) (is_on waiting) }
 {
     TapeDelay {
         write_pos,
+        nonzero_places,
         smoothed_delay,
         kept: Kept {
             audio: kept_audio,
@@ -51,7 +53,7 @@ fn put_kept(
     kept_mix: &mut f64,
     waiting: &mut u32,
 )
-    ensures { tape_delay_of state.write_pos state.smoothed_delay kept_audio.new kept_read.new kept_mix.new state.sample_rate
+    ensures { tape_delay_of state.write_pos state.nonzero_places state.smoothed_delay kept_audio.new kept_read.new kept_mix.new state.sample_rate
         state.delay_smooth_coef state.delay_primed (is_on waiting.new) ≡ state × FlagWritten waiting.new }
 {
     *kept_audio = state.kept.audio;
@@ -67,6 +69,7 @@ pub extern "C" fn room_raw_tape_delay_start(
     new_delay_smooth_coef: f64,
     memory: &mut [f64],
     write_pos: &mut u32,
+    nonzero_places: &mut u32,
     smoothed_delay: &mut f64,
     kept_audio: &mut f64,
     kept_read: &mut f64,
@@ -76,7 +79,7 @@ pub extern "C" fn room_raw_tape_delay_start(
     delay_primed: &mut u32,
     waiting: &mut u32,
 ) -> u32
-    ensures { StartReturns tape_delay (handing new_sample_rate new_delay_smooth_coef) memory.old (device_of (tape_delay_of write_pos.new
+    ensures { StartReturns tape_delay (handing new_sample_rate new_delay_smooth_coef) memory.old (device_of (tape_delay_of write_pos.new nonzero_places.new
         smoothed_delay.new kept_audio.new kept_read.new kept_mix.new sample_rate.new delay_smooth_coef.new (is_on delay_primed.new)
         (is_on waiting.new)) memory.new) result × FlagWritten delay_primed.new × FlagWritten waiting.new }
 {
@@ -86,6 +89,7 @@ pub extern "C" fn room_raw_tape_delay_start(
     };
     let started = TapeDelay::new(handed, memory);
     *write_pos = started.state.write_pos;
+    *nonzero_places = started.state.nonzero_places;
     *smoothed_delay = started.state.smoothed_delay;
     *sample_rate = started.state.sample_rate;
     *delay_smooth_coef = started.state.delay_smooth_coef;
@@ -100,6 +104,7 @@ pub extern "C" fn room_raw_tape_delay_retune(
     new_delay_smooth_coef: f64,
     memory: &mut [f64],
     write_pos: &mut u32,
+    nonzero_places: &mut u32,
     smoothed_delay: &mut f64,
     kept_audio: &mut f64,
     kept_read: &mut f64,
@@ -109,7 +114,7 @@ pub extern "C" fn room_raw_tape_delay_retune(
     delay_primed: &mut u32,
     waiting: &mut u32,
 ) -> u32
-    ensures { from_to (λ k. device_of (tape_delay_of (lent_at write_pos k) (lent_at smoothed_delay k) (lent_at kept_audio k)
+    ensures { from_to (λ k. device_of (tape_delay_of (lent_at write_pos k) (lent_at nonzero_places k) (lent_at smoothed_delay k) (lent_at kept_audio k)
         (lent_at kept_read k) (lent_at kept_mix k) (lent_at sample_rate k) (lent_at delay_smooth_coef k) (is_on (lent_at delay_primed k))
         (is_on (lent_at waiting k))) (lent_at memory k))
         (λ u u'. CallReturns tape_delay (retune (handing new_sample_rate new_delay_smooth_coef)) u u' result)
@@ -117,6 +122,7 @@ pub extern "C" fn room_raw_tape_delay_retune(
 {
     let state = tape_delay_of(
         *write_pos,
+        *nonzero_places,
         *smoothed_delay,
         *kept_audio,
         *kept_read,
@@ -135,6 +141,7 @@ pub extern "C" fn room_raw_tape_delay_retune(
         return u32::from(cause);
     }
     *write_pos = cleared.state.write_pos;
+    *nonzero_places = cleared.state.nonzero_places;
     *smoothed_delay = cleared.state.smoothed_delay;
     *sample_rate = cleared.state.sample_rate;
     *delay_smooth_coef = cleared.state.delay_smooth_coef;
@@ -147,6 +154,7 @@ pub extern "C" fn room_raw_tape_delay_retune(
 pub extern "C" fn room_raw_tape_delay_reset(
     memory: &mut [f64],
     write_pos: &mut u32,
+    nonzero_places: &mut u32,
     smoothed_delay: &mut f64,
     kept_audio: &mut f64,
     kept_read: &mut f64,
@@ -156,7 +164,7 @@ pub extern "C" fn room_raw_tape_delay_reset(
     delay_primed: &mut u32,
     waiting: &mut u32,
 ) -> u32
-    ensures { from_to (λ k. device_of (tape_delay_of (lent_at write_pos k) (lent_at smoothed_delay k) (lent_at kept_audio k)
+    ensures { from_to (λ k. device_of (tape_delay_of (lent_at write_pos k) (lent_at nonzero_places k) (lent_at smoothed_delay k) (lent_at kept_audio k)
         (lent_at kept_read k) (lent_at kept_mix k) sample_rate delay_smooth_coef (is_on (lent_at delay_primed k)) (is_on (lent_at waiting k)))
         (lent_at memory k))
         (λ u u'. CallReturns tape_delay reset u u' result)
@@ -164,6 +172,7 @@ pub extern "C" fn room_raw_tape_delay_reset(
 {
     let state = tape_delay_of(
         *write_pos,
+        *nonzero_places,
         *smoothed_delay,
         *kept_audio,
         *kept_read,
@@ -178,6 +187,7 @@ pub extern "C" fn room_raw_tape_delay_reset(
         return u32::from(cause);
     }
     *write_pos = cleared.state.write_pos;
+    *nonzero_places = cleared.state.nonzero_places;
     *smoothed_delay = cleared.state.smoothed_delay;
     *delay_primed = u32::from(cleared.state.delay_primed);
     put_kept(cleared.state, kept_audio, kept_read, kept_mix, waiting);
@@ -188,6 +198,7 @@ pub extern "C" fn room_raw_tape_delay_reset(
 #[unsafe(no_mangle)]
 pub extern "C" fn room_raw_tape_delay_read_half(
     write_pos: u32,
+    nonzero_places: u32,
     smoothed_delay: &mut f64,
     kept_audio: &mut f64,
     kept_read: &mut f64,
@@ -205,7 +216,7 @@ pub extern "C" fn room_raw_tape_delay_read_half(
     sum: &mut f64,
     age: &mut u32,
 ) -> u32
-    ensures { from_to (λ k. device_of (tape_delay_of write_pos (lent_at smoothed_delay k) (lent_at kept_audio k)
+    ensures { from_to (λ k. device_of (tape_delay_of write_pos nonzero_places (lent_at smoothed_delay k) (lent_at kept_audio k)
         (lent_at kept_read k) (lent_at kept_mix k) sample_rate delay_smooth_coef (is_on (lent_at delay_primed k)) (is_on (lent_at waiting k))) memory.now)
         (λ u u'. AgedReturns tape_delay 1 (read_half (ports_of (port_at set 1 audio) (port_at set 2 time) (port_at set 4 feedback)
         (port_at set 8 mix))) u u' (sum.new ∷ []) age.new result)
@@ -213,6 +224,7 @@ pub extern "C" fn room_raw_tape_delay_read_half(
 {
     let state = tape_delay_of(
         write_pos,
+        nonzero_places,
         *smoothed_delay,
         *kept_audio,
         *kept_read,
@@ -244,6 +256,7 @@ pub extern "C" fn room_raw_tape_delay_read_half(
 #[unsafe(no_mangle)]
 pub extern "C" fn room_raw_tape_delay_store_half(
     write_pos: &mut u32,
+    nonzero_places: &mut u32,
     smoothed_delay: f64,
     kept_audio: &mut f64,
     kept_read: &mut f64,
@@ -256,13 +269,14 @@ pub extern "C" fn room_raw_tape_delay_store_half(
     saturated: f64,
     out: &mut f64,
 ) -> u32
-    ensures { from_to (λ k. device_of (tape_delay_of (lent_at write_pos k) smoothed_delay (lent_at kept_audio k) (lent_at kept_read k)
+    ensures { from_to (λ k. device_of (tape_delay_of (lent_at write_pos k) (lent_at nonzero_places k) smoothed_delay (lent_at kept_audio k) (lent_at kept_read k)
         (lent_at kept_mix k) sample_rate delay_smooth_coef (is_on delay_primed) (is_on (lent_at waiting k))) (lent_at memory k))
         (λ u u'. TickReturns tape_delay 1 (store_half saturated) u u' (out.new ∷ []) result)
         × from_to (lent_at waiting) (FlagLeft result) }
 {
     let state = tape_delay_of(
         *write_pos,
+        *nonzero_places,
         smoothed_delay,
         *kept_audio,
         *kept_read,
@@ -278,6 +292,7 @@ pub extern "C" fn room_raw_tape_delay_store_half(
         return u32::from(cause);
     }
     *write_pos = ticked.state.write_pos;
+    *nonzero_places = ticked.state.nonzero_places;
     put_kept(ticked.state, kept_audio, kept_read, kept_mix, waiting);
     0
 }
@@ -285,6 +300,7 @@ pub extern "C" fn room_raw_tape_delay_store_half(
 #[unsafe(no_mangle)]
 pub extern "C" fn room_raw_tape_delay_silent(
     write_pos: u32,
+    nonzero_places: u32,
     smoothed_delay: f64,
     kept_audio: f64,
     kept_read: f64,
@@ -293,14 +309,14 @@ pub extern "C" fn room_raw_tape_delay_silent(
     delay_smooth_coef: f64,
     delay_primed: u32,
     waiting: u32,
-    memory: &[f64],
     out: &mut u32,
 ) -> u32
-    ensures { AskReturns tape_delay (device_of (tape_delay_of write_pos smoothed_delay kept_audio kept_read kept_mix
-        sample_rate delay_smooth_coef (is_on delay_primed) (is_on waiting)) memory.now) out.new result }
+    ensures { (m : List Float) → AskReturns tape_delay (device_of (tape_delay_of write_pos nonzero_places smoothed_delay kept_audio kept_read kept_mix
+        sample_rate delay_smooth_coef (is_on delay_primed) (is_on waiting)) m) out.new result }
 {
     let state = tape_delay_of(
         write_pos,
+        nonzero_places,
         smoothed_delay,
         kept_audio,
         kept_read,
@@ -310,7 +326,7 @@ pub extern "C" fn room_raw_tape_delay_silent(
         delay_primed,
         waiting,
     );
-    let silence = state.silent(memory);
+    let silence = state.silent();
     *out = silent_flag(silence);
     number_of(silence)
 }

@@ -7,7 +7,7 @@ ghost use Rattle.room_effects.specs.Ports.{port_at};
 ghost use Rattle.std.specs.Prelude.{[], ◌∷◌};
 
 use crate::shared::port_at;
-use effect::WithoutMemory;
+use effect::{Unit, WithoutMemory};
 use port::{Answer, number_of, silent_flag};
 use tremolo::Tremolo;
 

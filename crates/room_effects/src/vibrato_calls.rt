@@ -4,10 +4,10 @@ ghost use Rattle.effect.specs.Contract.{lent_at, from_to};
 ghost use Rattle.vibrato.specs.Vibrato.{vibrato, tick_of, state_of};
 ghost use Rattle.room_effects.specs.Lent.{StartReturns, CallReturns, AgedReturns, AskReturns};
 ghost use Rattle.room_effects.specs.Ports.{port_at};
-ghost use Rattle.std.specs.Prelude.{[], ◌∷◌};
+ghost use Rattle.std.specs.Prelude.{[], ◌∷◌, List, Float};
 
 use crate::shared::port_at;
-use effect::{InMemory, InOnePart};
+use effect::{InMemory, Unit};
 use port::{Answer, number_of, silent_flag};
 use vibrato::Vibrato;
 
@@ -17,14 +17,16 @@ pub extern "C" fn room_raw_vibrato_start(
     new_sample_rate: f64,
     memory: &mut [f64],
     write_pos: &mut u32,
+    nonzero_places: &mut u32,
     lfo_phase: &mut f64,
     sample_rate: &mut f64,
 ) -> u32
-    ensures { StartReturns vibrato new_sample_rate memory.old (device_of (state_of write_pos.new
+    ensures { StartReturns vibrato new_sample_rate memory.old (device_of (state_of write_pos.new nonzero_places.new
         lfo_phase.new sample_rate.new) memory.new) result }
 {
     let started = Vibrato::new(new_sample_rate, memory);
     *write_pos = started.state.write_pos;
+    *nonzero_places = started.state.nonzero_places;
     *lfo_phase = started.state.lfo_phase;
     *sample_rate = started.state.sample_rate;
     number_of(started.outcome)
@@ -35,15 +37,17 @@ pub extern "C" fn room_raw_vibrato_retune(
     new_sample_rate: f64,
     memory: &mut [f64],
     write_pos: &mut u32,
+    nonzero_places: &mut u32,
     lfo_phase: &mut f64,
     sample_rate: &mut f64,
 ) -> u32
-    ensures { from_to (λ k. device_of (state_of (lent_at write_pos k) (lent_at lfo_phase k) (lent_at sample_rate k))
+    ensures { from_to (λ k. device_of (state_of (lent_at write_pos k) (lent_at nonzero_places k) (lent_at lfo_phase k) (lent_at sample_rate k))
         (lent_at memory k))
         (λ u u'. CallReturns vibrato (retune new_sample_rate) u u' result) }
 {
     let state = Vibrato {
         write_pos: *write_pos,
+        nonzero_places: *nonzero_places,
         lfo_phase: *lfo_phase,
         sample_rate: *sample_rate,
     };
@@ -52,6 +56,7 @@ pub extern "C" fn room_raw_vibrato_retune(
         return u32::from(cause);
     }
     *write_pos = cleared.state.write_pos;
+    *nonzero_places = cleared.state.nonzero_places;
     *lfo_phase = cleared.state.lfo_phase;
     *sample_rate = cleared.state.sample_rate;
     0
@@ -61,14 +66,16 @@ pub extern "C" fn room_raw_vibrato_retune(
 pub extern "C" fn room_raw_vibrato_reset(
     memory: &mut [f64],
     write_pos: &mut u32,
+    nonzero_places: &mut u32,
     lfo_phase: &mut f64,
     sample_rate: f64,
 ) -> u32
-    ensures { from_to (λ k. device_of (state_of (lent_at write_pos k) (lent_at lfo_phase k) sample_rate) (lent_at memory k))
+    ensures { from_to (λ k. device_of (state_of (lent_at write_pos k) (lent_at nonzero_places k) (lent_at lfo_phase k) sample_rate) (lent_at memory k))
         (λ u u'. CallReturns vibrato reset u u' result) }
 {
     let state = Vibrato {
         write_pos: *write_pos,
+        nonzero_places: *nonzero_places,
         lfo_phase: *lfo_phase,
         sample_rate,
     };
@@ -77,6 +84,7 @@ pub extern "C" fn room_raw_vibrato_reset(
         return u32::from(cause);
     }
     *write_pos = cleared.state.write_pos;
+    *nonzero_places = cleared.state.nonzero_places;
     *lfo_phase = cleared.state.lfo_phase;
     0
 }
@@ -85,6 +93,7 @@ pub extern "C" fn room_raw_vibrato_reset(
 #[unsafe(no_mangle)]
 pub extern "C" fn room_raw_vibrato_tick(
     write_pos: &mut u32,
+    nonzero_places: &mut u32,
     lfo_phase: &mut f64,
     sample_rate: f64,
     memory: &mut [f64],
@@ -97,12 +106,13 @@ pub extern "C" fn room_raw_vibrato_tick(
     out: &mut f64,
     age: &mut u32,
 ) -> u32
-    ensures { from_to (λ k. device_of (state_of (lent_at write_pos k) (lent_at lfo_phase k) sample_rate) (lent_at memory k))
+    ensures { from_to (λ k. device_of (state_of (lent_at write_pos k) (lent_at nonzero_places k) (lent_at lfo_phase k) sample_rate) (lent_at memory k))
         (λ u u'. AgedReturns vibrato 1 (tick_of (port_at set 1 audio) (port_at set 2 depth) (port_at set 4 mix) frequency sine) u u'
         (out.new ∷ []) age.new result) }
 {
     let state = Vibrato {
         write_pos: *write_pos,
+        nonzero_places: *nonzero_places,
         lfo_phase: *lfo_phase,
         sample_rate,
     };
@@ -120,6 +130,7 @@ pub extern "C" fn room_raw_vibrato_tick(
         return u32::from(cause);
     }
     *write_pos = ticked.state.write_pos;
+    *nonzero_places = ticked.state.nonzero_places;
     *lfo_phase = ticked.state.lfo_phase;
     0
 }
@@ -127,20 +138,21 @@ pub extern "C" fn room_raw_vibrato_tick(
 #[unsafe(no_mangle)]
 pub extern "C" fn room_raw_vibrato_silent(
     write_pos: u32,
+    nonzero_places: u32,
     lfo_phase: f64,
     sample_rate: f64,
-    memory: &[f64],
     out: &mut u32,
 ) -> u32
-    ensures { AskReturns vibrato (device_of (state_of write_pos lfo_phase sample_rate) memory.now)
+    ensures { (m : List Float) → AskReturns vibrato (device_of (state_of write_pos nonzero_places lfo_phase sample_rate) m)
         out.new result }
 {
     let state = Vibrato {
         write_pos,
+        nonzero_places,
         lfo_phase,
         sample_rate,
     };
-    let silence = state.silent(memory);
+    let silence = state.silent();
     *out = silent_flag(silence);
     number_of(silence)
 }

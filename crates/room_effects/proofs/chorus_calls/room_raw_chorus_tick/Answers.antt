@@ -10,9 +10,9 @@ pub returns : goal.returns
 returns c =
     let a = c.args in
     let left = c.put_chorus.new in
-    aged chorus (λ t. chorus.settings) laws.next-settings 3 (device_of (state_of a.write_pos.now a.lfo_phases.now a.sample_rate) a.memory.now)
+    aged chorus (λ t. chorus.settings) laws.next-settings 3 (device_of (state_of a.write_pos.now a.nonzero_places.now a.lfo_phases.now a.sample_rate) a.memory.now)
     (λ i. tick_of (c.port_at.ensures i) (c.port_at-2.ensures i) (c.port_at-3.ensures i) a.frequency (a.sine0 ∷ a.sine1 ∷ a.sine2 ∷ [])) c.tick-ticked.ensures
     (not-refused c.in_default.not-Refused c.tick-ticked.result.age)
-    (λ kept. ap (state_of left.write_pos left.lfo_phases) kept ∙ c.put_chorus.ensures)
+    (λ kept. ap (state_of left.write_pos left.nonzero_places left.lfo_phases) kept ∙ c.put_chorus.ensures)
     (c.put_samples.ensures c.tick-ticked.result.age)
     c.tick-ticked.result.aged

@@ -10,9 +10,9 @@ pub returns : goal.returns
 returns c =
     let a = c.args in
     let next = c.tick-ticked.result.state in
-    aged flanger (λ t. flanger.settings) laws.next-settings 3 (device_of (state_of a.write_pos.now a.lfo_phase.now a.sample_rate) a.memory.now)
+    aged flanger (λ t. flanger.settings) laws.next-settings 3 (device_of (state_of a.write_pos.now a.nonzero_places.now a.lfo_phase.now a.sample_rate) a.memory.now)
     (λ i. tick_of (c.port_at.ensures i) (c.port_at-2.ensures i) (c.port_at-3.ensures i) (c.port_at-4.ensures i) a.frequency a.sine0 a.sine1) c.tick-ticked.ensures
     (not-refused c.in_default.not-Refused c.tick-ticked.result.age)
-    (ap (state_of next.write_pos next.lfo_phase))
+    (ap (state_of next.write_pos next.nonzero_places next.lfo_phase))
     (c.put_samples.ensures c.tick-ticked.result.age)
     c.tick-ticked.result.aged
