@@ -7,25 +7,26 @@ use Rattle.std.proofs.lemmas.Bool.{and_parts}
 use Rattle.float64.proofs.Gains.{five-times}
 use Rattle.port.specs.Answer.{played}
 use Rattle.common.specs.Signal.{blended}
-use Rattle.common.specs.Line.{read_at}
+use Rattle.common.specs.Line.{read_at, next_place}
 use Rattle.common.specs.Reads.{age_at}
 use Rattle.common.proofs.Ages.{oldest-one}
 use Rattle.common.proofs.Sweep.{no-cause}
-use Rattle.effect.specs.Run.{Device, first, memory_number, number_in, number_at, is_silent, step, after, replies, start, Run, final}
+use Rattle.effect.specs.Run.{ask, Device, device_of, first, memory_number, number_in, number_at, is_silent, step, reply, after, replies, start, Run, final}
 use Rattle.effect.specs.StaysSilent.{all_play_zeros}
 use Rattle.effect.proofs.PlacesKeep.{Keeps, places-keep}
 use Rattle.effect.proofs.EachTick.{all-meet}
 use Rattle.effect.proofs.Table.{memory-enough, accepted, tick-accepted}
-use Rattle.delay_line.specs.Halves.{line_length, reader_fits, linear_ms, samples_of, glided, reads_at, delayed_by, read_by}
+use Rattle.delay_line.specs.Halves.{size, count_after, line_length, reader_fits, linear_ms, samples_of, glided, reads_at, delayed_by, read_by}
 use Rattle.delay_line.specs.DelayLine.{settings_number}
 use Rattle.delay_line.specs.DelayLine as delay
 use Rattle.tape_delay.specs.declared.TapeDelay.{TapeDelay}
-use Rattle.tape_delay.specs.TapeDelay.{Ports, read_half, store_half, tape_delay, state_fits, kept_fits, settings, places, reader, tick_number, delay_samples, half_of, stored_state, next, writes}
+use Rattle.tape_delay.specs.TapeDelay.{Ports, maximum, read_half, store_half, tape_delay, state_fits, kept_fits, settings, places, reader, tick_number, delay_samples, half_of, stored_state, next, writes}
 use Rattle.tape_delay.specs.TapeDelay as page
 use Rattle.tape_delay.proofs.Demand1.{laws}
+use Rattle.port.specs.Answer as answer
 use Rattle.tape_delay.proofs.StaysSilent as silent
 use Rattle.guarantees.specs.Lamp.{under_rule, SilentTapes}
-use Rattle.guarantees.specs.Tapes.{read, store, heard, WithinFive, ReadHalf, StoreHalf, Pair, ordinary_state, ordinary, ordinary_tick, AsOrdinary, Cases, Tapes}
+use Rattle.guarantees.specs.Tapes.{read, store, heard, stored_count, WithinFive, ReadHalf, StoreHalf, Pair, ordinary_state, ordinary, ordinary_tick, AsOrdinary, Cases, Tapes}
 
 -- ---- the line
 
@@ -79,7 +80,7 @@ pairs p v h e k =
     record {
       answers = λ i. r.answers i ∷ (s.answers ∙ (λ j. played (heard (r.state j).kept ∷ []) 0)) i ∷ [];
       memory = s.memory ∙ (λ i. set (r.memory i) (r.state i).write_pos (mul binary64 v (float_of 5)));
-      state = s.state ∙ ap (λ (s : TapeDelay). stored_state (page.stored_of s) s) r.state;
+      state = s.state ∙ (λ i. let t = r.state i in stored_state (page.stored_of (stored_count v (device_of t (r.memory i))) t) t);
     }
 
 -- ---- the ordinary delay
@@ -94,17 +95,23 @@ ordinary-accepted p h e =
     rw (fits, ← memory-enough t.enough) t.number
 
 ordinary-pairs : (p : Ports) (v : Float) (h : Device TapeDelay) → number_at tape_delay (read p) h ≡ 0 → saturated_fits v ≡ true → AsOrdinary p v h
-unfolding delay.next delay.writes delay.samples delay.delay_ms
+unfolding delay.next_counted delay.writes delay.samples delay.delay_ms
 ordinary-pairs p v h e k =
     let a = ordinary-accepted p h e in
     let pair = pairs p v h e k in
-    let kept = (half_of p h.state h.memory).kept in
+    let half = half_of p h.state h.memory in
+    let kept = half.kept in
     record {
       accepted = a;
-      state = rw a (ap ordinary_state pair.state);
+      state = rw a (ap (ordinary_state (delay.next (delay.tick_of p.audio p.time p.feedback p.mix nan) (ordinary h).state h.memory).nonzero_places) pair.state);
       answers = rw a (ap (played (heard kept ∷ [])) (oldest-one (delay.read (delay.tick_of p.audio p.time p.feedback p.mix nan) (ordinary h).state)));
-      memory = λ same clamps.
-          rw a (pair.memory ∙ (λ i. set h.memory h.state.write_pos ((same ∙ (λ j. add binary64 kept.audio (mul binary64 kept.read (sym clamps j)))) i)));
+      stored = λ same clamps.
+          let sum = same ∙ (λ j. add binary64 kept.audio (mul binary64 kept.read (sym clamps j))) in
+          let s = h.state in
+          let L = size (reader s) in
+          rw a
+          ((λ i. ordinary (device_of (pair.state i) (pair.memory i)))
+          ∙ (λ i. device_of (delay.state_of (next_place L s.write_pos) (count_after L s.write_pos (sum i) h.memory s.nonzero_places) half.smoothed_delay true (delay.handing s.sample_rate s.delay_smooth_coef maximum true)) (set h.memory s.write_pos (sum i))));
     }
 
 -- ---- whose turn it is
@@ -150,6 +157,20 @@ lamp-pairs p v h d a z k e =
     let state = (pairs p v h e k).state in
     (on.0, silent.shown.calm-silent (after tape_delay cs h) on.1 (ap (λ (s : TapeDelay). not s.waiting) state))
 
+-- a unit that waits is not quiet
+waits-told : (h : Device TapeDelay) → number_at tape_delay ask h ≡ 0 → h.state.waiting ≡ true → reply tape_delay ask h ≡ answer.silent false
+waits-told h e w = rw (e, w) refl
+
+-- after a run that is answered "silent"; the state after both halves does not wait, and is told by the count
+lamp-runs : (p : Ports) (v : Float) (x : Run tape_delay) → reply tape_delay ask (final tape_delay x) ≡ answer.silent true
+    → is_zero (under_rule p.audio) ≡ true → is_zero v ≡ true → saturated_fits v ≡ true → number_at tape_delay (read p) (final tape_delay x) ≡ 0
+    → (all_play_zeros (replies tape_delay (read p ∷ store v ∷ []) (final tape_delay x)) ≡ true)
+    × (reply tape_delay ask (after tape_delay (read p ∷ store v ∷ []) (final tape_delay x)) ≡ answer.silent true)
+lamp-runs p v x d a z k e =
+    let h = final tape_delay x in
+    let on = silent.shown.on_runs x d (read p ∷ store v ∷ []) (λ f. a, (λ f. z, tt)) in
+    (on.0, on.1 ∙ ap (λ (s : TapeDelay). answer.silent (not s.waiting)) (pairs p v h e k).state)
+
 pub tape-lamp : SilentTapes
 tape-lamp =
     record {
@@ -159,6 +180,8 @@ tape-lamp =
       stays = silent.shown;
       waits = λ h w. rw w refl;
       pairs = lamp-pairs;
+      waits-told = waits-told;
+      pairs_on_runs = lamp-runs;
     }
 
 -- ---- worked cases, by computing
@@ -183,7 +206,7 @@ tapes =
       store_row = store-row;
       retune-no-turn = λ k n s. retune-none (state_fits s) (rate_fits k.rate) (coefficient_fits k.coefficient) (ltb n (places k));
       reset-no-turn = λ n s. no-turn (state_fits s) (ltb n (places (settings s)));
-      ask-no-turn = λ n s. no-turn (state_fits s) (ltb n (places (settings s)));
+      ask-no-turn = λ n s. no-turn (state_fits s) false;
       retunes = λ k h e. rw e refl;
       resets = λ h e. rw e refl;
       cases = cases;

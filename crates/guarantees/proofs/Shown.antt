@@ -1,7 +1,7 @@
 -- The statements of specs/, each by what its effects show. Assumes nothing.
 use Rattle.std.proofs.Common.{◌≡◌, ℕ, zero, suc, ◌≤◌, [], refl, sym, ap, arith}
 use mathlib.Core.Bool.{or-false}
-use lib.Ieee.{nan, inf, fin, eq}
+use lib.Ieee.{nan, inf, fin, eq, neg, of_bits}
 use Rattle.float64.specs.Number.{is_zero}
 use Rattle.float64.proofs.Ranges.{yes, finite-parts}
 use Rattle.float64.proofs.Fields as fields
@@ -48,15 +48,25 @@ use Rattle.tape_delay.specs.TapeDelay as tape
 use Rattle.tape_delay.proofs.Demand1 as tape1
 use Rattle.tape_delay.proofs.HearsBack as tape-ages
 use Rattle.delay_line.proofs.Narrow as delay-narrow
+use Rattle.delay_line.proofs.Counts as delay-count
 use Rattle.chorus.proofs.Narrow as chorus-narrow
+use Rattle.chorus.proofs.Counts as chorus-count
 use Rattle.flanger.proofs.Narrow as flanger-narrow
+use Rattle.flanger.proofs.Counts as flanger-count
 use Rattle.vibrato.proofs.Narrow as vibrato-narrow
+use Rattle.vibrato.proofs.Counts as vibrato-count
 use Rattle.tremolo.proofs.Narrow as tremolo-narrow
+use Rattle.tremolo.proofs.Counts as tremolo-count
 use Rattle.reverb.proofs.Narrow as reverb-narrow
+use Rattle.reverb.proofs.Counts as reverb-count
 use Rattle.phaser.proofs.Narrow as phaser-narrow
+use Rattle.phaser.proofs.Counts as phaser-count
 use Rattle.tape_delay.proofs.Narrow as tape-narrow
+use Rattle.tape_delay.proofs.Counts as tape-count
 use Rattle.guarantees.proofs.Places.{places-needed}
-use Rattle.guarantees.proofs.Cases.{starred-hold}
+use Rattle.reverb.specs.Tunings.{lengths_at}
+use Rattle.reverb.proofs.Used as reverb-used
+use Rattle.guarantees.proofs.Cases.{starred-hold, reverb_at_8000, reverb_at_192000}
 use Rattle.guarantees.proofs.Pairs.{tapes, tape-lamp}
 use Rattle.guarantees.specs.CleanMemory.{CleanMemory}
 use Rattle.guarantees.specs.RecentPasts.{RecentPasts}
@@ -65,6 +75,7 @@ use Rattle.guarantees.specs.OneLine.{OneLine}
 use Rattle.guarantees.specs.IdleStages.{SameStage, IdleStages}
 use Rattle.guarantees.specs.Ages.{Ageless, Ages}
 use Rattle.guarantees.specs.Positions.{Positions}
+use Rattle.guarantees.specs.CountedSilence.{CountedSilence}
 use Rattle.guarantees.specs.Lamp.{as_it_is, under_rule, zero_as_it_is, zero_under_rule, Lamp}
 
 pub clean-memory : CleanMemory
@@ -105,6 +116,7 @@ one_line =
       calls = three.call-alike;
       runs = three.runs-alike;
       pasts = three.shown3;
+      counts = three.three-counted;
       apart = three.apart;
     }
 
@@ -199,5 +211,38 @@ positions =
       of_tape_delay = λ s. refl;
     }
 
+-- ---- the count
+
+pub counted_silence : CountedSilence
+unfolding eq neg of_bits
+counted_silence =
+    record {
+      delay-lines = record { counts = delay-count.shown; used_is = λ k. omega arith; asked = λ n s. refl };
+      choruses = record { counts = chorus-count.shown; used_is = λ k. omega arith; asked = λ n s. refl };
+      flangers = record { counts = flanger-count.shown; used_is = λ k. omega arith; asked = λ n s. refl };
+      vibratos = record { counts = vibrato-count.shown; used_is = λ k. omega arith; asked = λ n s. refl };
+      reverbs = record { counts = reverb-count.shown; used_is = λ rate. reverb-used.used-is (lengths_at rate); asked = λ n s. refl };
+      tapes = record { counts = tape-count.shown; used_is = λ k. omega arith; asked = λ n s. refl };
+      tremolos = record { counts = tremolo-count.shown; used_is = λ k. refl; asked = λ n s. refl };
+      phasers = record { counts = phaser-count.shown; used_is = λ k. refl; asked = λ n s. refl };
+      of_delay = λ s. refl;
+      of_chorus = λ s. refl;
+      of_flanger = λ s. refl;
+      of_vibrato = λ s. refl;
+      of_reverb = λ s. refl;
+      of_tape_delay = λ s. refl;
+      zero_counts_none = refl;
+      minus_zero_counts_none = refl;
+      nan_counts = refl;
+      infinity_counts = refl;
+      subnormal_counts = refl;
+      net_at_0 = refl;
+      net_at_all = refl;
+      held_at_0 = refl;
+      held_at_all = refl;
+      reverb_at_8000 = reverb_at_8000;
+      reverb_at_192000 = reverb_at_192000;
+    }
+
 -- what the functions' contracts say
-pub ruleset statements = (clean-memory, recent-pasts, places-needed, starred-hold, whole_part, one_line, idle_stages, lamp, ages, tapes, positions)
+pub ruleset statements = (clean-memory, recent-pasts, places-needed, starred-hold, whole_part, one_line, idle_stages, lamp, ages, tapes, positions, counted_silence)

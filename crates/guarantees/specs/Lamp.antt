@@ -1,15 +1,18 @@
--- What a lamp that shows "silent" is for. A silent unit of any effect, in a run or handed in, that is given zero audio and accepted controls answers only zeros
--- of either sign and is silent after the tick (of the tape delay after both halves of one); and so it is along every list of such ticks with questions, refused calls, retunes and resets among them. What
--- `StaysSilent` says is in effect/specs/StaysSilent.antt, of the definitions that the contracts of the calls cite. Definitions only. Assumes nothing.
+-- What a lamp that shows "silent" is for. Of every run of any effect, whatever the memory held before its start: where "silent?" is answered "silent", and all audio after
+-- it is zero and the controls are accepted, every sample that is answered is +0 or −0, and the question is answered "silent" again (of the tape delay after both halves of
+-- a tick); and so it is along every list of such ticks with questions, refused calls, retunes and resets among them. The question is answered by the count (`CountedSilence`).
+-- By the full reading of the places the same is said of every unit, in a run or handed in. What `StaysSilent` says is in effect/specs/StaysSilent.antt, of the
+-- definitions that the contracts of the calls cite. Definitions only. Assumes nothing.
 use Rattle.std.specs.Prelude.{◌≡◌, Bool, true, false, not, ◌||◌, [], ◌∷◌, Float}
 use Rattle.std.specs.Float.Ieee.Scale.{finite}
 use Rattle.float64.specs.Number.{plus_zero, is_zero, saturated_fits}
 use Rattle.port.specs.declared.Port.{Port}
 use Rattle.port.specs.declared.Port.TheVariants.{Set, Unset}
 use Rattle.port.specs.Port.{value_or}
+use Rattle.port.specs.Answer.{silent}
 use Rattle.common.specs.Signal.{sanitized}
 use Rattle.effect.specs.Effect.{Effect}
-use Rattle.effect.specs.Run.{tick, Device, number_at, is_silent, after, replies}
+use Rattle.effect.specs.Run.{tick, ask, Device, number_at, is_silent, reply, after, replies, Run, final}
 use Rattle.effect.specs.StaysSilent.{StaysSilent, Silence, StaysCalm, all_play_zeros}
 use Rattle.delay_line.specs.DelayLine.{delay_line}
 use Rattle.chorus.specs.Chorus.{chorus}
@@ -51,13 +54,20 @@ pub record SilentTapes : Type 0 where
   pub handed_is : (v : Float) → tape_delay.input (store_half v) ≡ v
   pub silence : Silence tape_delay
   pub stays : StaysCalm tape_delay calm
-  -- a unit in which a read waits is not silent, and the question says so
+  -- a unit in which a read waits is not silent, and the question says so, whatever the count
   pub waits : (h : Device TapeDelay) → h.state.waiting ≡ true → is_silent tape_delay h ≡ false
+  pub waits-told : (h : Device TapeDelay) → number_at tape_delay ask h ≡ 0 → h.state.waiting ≡ true → reply tape_delay ask h ≡ silent false
   -- After both halves of a tick the unit is silent, and both have answered zeros. A store half takes the zero that is handed in where that is an f64.
   pub pairs : (p : Ports) (v : Float) (h : Device TapeDelay) → is_silent tape_delay h ≡ true → is_zero (under_rule p.audio) ≡ true → is_zero v ≡ true → saturated_fits v ≡ true
       → number_at tape_delay (tick (read_half p)) h ≡ 0
       → let cs = tick (read_half p) ∷ tick (store_half v) ∷ [] in
       (all_play_zeros (replies tape_delay cs h) ≡ true) × (is_silent tape_delay (after tape_delay cs h) ≡ true)
+  -- So after a run that is answered "silent": both halves answer zeros, and the question after the store half is answered "silent" again.
+  pub pairs_on_runs : (p : Ports) (v : Float) (x : Run tape_delay) → reply tape_delay ask (final tape_delay x) ≡ silent true
+      → is_zero (under_rule p.audio) ≡ true → is_zero v ≡ true → saturated_fits v ≡ true
+      → number_at tape_delay (tick (read_half p)) (final tape_delay x) ≡ 0
+      → let cs = tick (read_half p) ∷ tick (store_half v) ∷ [] in
+      (all_play_zeros (replies tape_delay cs (final tape_delay x)) ≡ true) × (reply tape_delay ask (after tape_delay cs (final tape_delay x)) ≡ silent true)
 
 pub record Lamp : Type 0 where
   pub delay-lines : SilentUnits delay_line (λ t. t.audio) under_rule

@@ -9,3 +9,4 @@ pub mod Lamp
 pub mod Ages
 pub mod Tapes
 pub mod Positions
+pub mod CountedSilence

@@ -12,7 +12,7 @@ use Rattle.common.specs.Reads.{age_at}
 use Rattle.effect.specs.Run.{CallOf, tick, start, reply, replies}
 use Rattle.delay_line.specs.DelayLine as delay
 use Rattle.tremolo.specs.Tremolo as trem
-use Rattle.reverb.specs.Freeverb.{comb_store, comb_fed, combed, pass_output, pass_fed}
+use Rattle.reverb.specs.Freeverb.{combed, pass_output, pass_fed}
 use Rattle.reverb.specs.Tunings.{Side, left, right, predelay_size, ratio, spread, comb_lengths, allpass_lengths}
 use Rattle.reverb.specs.Reverb as rev
 use Rattle.needed.specs.Needed.{needed_by}
@@ -63,8 +63,7 @@ Holds (trembles shape x) =
     reply trem.tremolo (tick (trem.tick_of (Set (float_of 4)) (Set (float_of 1)) (Set shape) (float_of 1) plus_zero)) (record { state = trem.fresh (float_of 44100); memory = [] })
     ≡ played (x ∷ []) 0
 Holds (combs held store damping feedback input answer store' written) =
-    (combed held 2 0 store damping ≡ record { output = answer; filter_state = store'; pos = 1 })
-    × (comb_fed input (comb_store held store damping) feedback ≡ written)
+    combed held 2 0 store input damping feedback ≡ record { output = answer; filter_state = store'; fed = written; pos = 1 }
 Holds (passes held input answer written) = (pass_output input held ≡ answer) × (pass_fed input held ≡ written)
 Holds (lies w d p) = place predelay_size w d ≡ p
 Holds (waits control rate n) = rev.delay_by (rev.controls_of (rev.tick_of Unset Unset Unset Unset (Set control))) rate ≡ n

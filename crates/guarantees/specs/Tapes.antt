@@ -13,7 +13,7 @@ use Rattle.effect.specs.Run.{tick, retune, reset, ask, CallOf, Device, device_of
 use Rattle.delay_line.specs.declared.DelayLine.{DelayLine}
 use Rattle.delay_line.specs.declared.halves.Kept.{Kept}
 use Rattle.delay_line.specs.declared.halves.HalfRead.{HalfRead}
-use Rattle.delay_line.specs.Halves.{size}
+use Rattle.delay_line.specs.Halves.{size, count_after}
 use Rattle.delay_line.specs.DelayLine as delay
 use Rattle.tape_delay.specs.declared.TapeDelay.{TapeDelay}
 use Rattle.tape_delay.specs.declared.Settings.{Settings}
@@ -33,21 +33,26 @@ WithinFive y = in_range y (neg (float_of 5)) (float_of 5) ≡ true
 abbrev pub heard : Kept → Float
 heard k = blended k.audio k.read k.mix
 
--- An accepted read half, of any unit: it answers the sum and the age of its read and writes no place. The position stays, the glide has moved, and the read waits with what it keeps.
+-- An accepted read half, of any unit: it answers the sum and the age of its read and writes no place. Position and count stay, the glide has moved, and the read waits with what it
+-- keeps.
 pub record ReadHalf (p : Ports) (h : Device TapeDelay) : Type 0 where
   pub answers : let half = half_of p h.state h.memory in reply tape_delay (read p) h ≡ played (half.sum ∷ []) half.age
   pub memory : (step tape_delay (read p) h).memory ≡ h.memory
   pub state : let half = half_of p h.state h.memory in
-      (step tape_delay (read p) h).state ≡ state_of h.state.write_pos half.smoothed_delay true true half.kept (settings h.state)
+      (step tape_delay (read p) h).state ≡ state_of h.state.write_pos h.state.nonzero_places half.smoothed_delay true true half.kept (settings h.state)
+
+-- The count after five times the value is stored at the position. A read half changes nothing that it is made of.
+abbrev pub stored_count : Float → Device TapeDelay → ℕ
+stored_count v h = let s = h.state in count_after (size (reader s)) s.write_pos (mul binary64 v (float_of 5)) h.memory s.nonzero_places
 
 -- An accepted store half: it answers what is heard of what was kept, at the age 0, and writes five times the saturated value at the position and no other place. The position has moved
--- on by one, the glide stays, and nothing is kept.
+-- on by one, the count goes by that place, the glide stays, and nothing is kept.
 pub record StoreHalf (v : Float) (h : Device TapeDelay) : Type 0 where
   pub answers : reply tape_delay (store v) h ≡ played (heard h.state.kept ∷ []) 0
   pub memory : (step tape_delay (store v) h).memory ≡ set h.memory h.state.write_pos (mul binary64 v (float_of 5))
   pub state : let s = h.state in
       (step tape_delay (store v) h).state
-      ≡ state_of (next_place (size (reader s)) s.write_pos) s.smoothed_delay s.delay_primed false none_kept (settings s)
+      ≡ state_of (next_place (size (reader s)) s.write_pos) (stored_count v h) s.smoothed_delay s.delay_primed false none_kept (settings s)
 
 -- A read half of h and then a store half, both accepted: together they are one tick.
 pub record Pair (p : Ports) (v : Float) (h : Device TapeDelay) : Type 0 where
@@ -56,33 +61,34 @@ pub record Pair (p : Ports) (v : Float) (h : Device TapeDelay) : Type 0 where
   pub memory : (after tape_delay (read p ∷ store v ∷ []) h).memory ≡ set h.memory h.state.write_pos (mul binary64 v (float_of 5))
   pub state : let half = half_of p h.state h.memory in
       (after tape_delay (read p ∷ store v ∷ []) h).state
-      ≡ state_of (next_place (size (reader h.state)) h.state.write_pos) half.smoothed_delay true false none_kept (settings h.state)
+      ≡ state_of (next_place (size (reader h.state)) h.state.write_pos) (stored_count v h) half.smoothed_delay true false none_kept (settings h.state)
 
--- ---- the ordinary delay of 12 seconds in linear time, with a tape's position, glide, settings and memory, and its tick with the same ports
+-- ---- the ordinary delay of 12 seconds in linear time, with a tape's position, glide, settings and memory and a count, its own in `ordinary`, and its tick with the same ports
 
-abbrev pub ordinary_state : TapeDelay → DelayLine
-ordinary_state s = delay.state_of s.write_pos s.smoothed_delay s.delay_primed (delay.handing s.sample_rate s.delay_smooth_coef maximum true)
+abbrev pub ordinary_state : ℕ → TapeDelay → DelayLine
+ordinary_state count s = delay.state_of s.write_pos count s.smoothed_delay s.delay_primed (delay.handing s.sample_rate s.delay_smooth_coef maximum true)
 
 abbrev pub ordinary : Device TapeDelay → Device DelayLine
-ordinary h = device_of (ordinary_state h.state) h.memory
+ordinary h = device_of (ordinary_state h.state.nonzero_places h.state) h.memory
 
 abbrev pub ordinary_tick : Ports → CallOf delay.delay_line
 ordinary_tick p = tick (delay.tick_of p.audio p.time p.feedback p.mix nan)
 
--- A pair does what that tick does: it is accepted where the read half is, comes to the same position and glide, and answers what is heard and the age. What it stores is the same
--- where the value gives the sum, at a feedback that both clamp alike: the ordinary delay stores the sum as it is.
+-- A pair does what that tick does: it is accepted where the read half is, comes to the same position and glide, and answers what is heard and the age. What it stores, and by that the
+-- count, is the same where the value gives the sum, at a feedback that both clamp alike: the ordinary delay stores the sum as it is.
 pub record AsOrdinary (p : Ports) (v : Float) (h : Device TapeDelay) : Type 0 where
   pub accepted : number_at delay.delay_line (ordinary_tick p) (ordinary h) ≡ 0
-  pub state : ordinary_state (after tape_delay (read p ∷ store v ∷ []) h).state ≡ (step delay.delay_line (ordinary_tick p) (ordinary h)).state
+  pub state : let s = (step delay.delay_line (ordinary_tick p) (ordinary h)).state in
+      ordinary_state s.nonzero_places (after tape_delay (read p ∷ store v ∷ []) h).state ≡ s
   pub answers : let half = half_of p h.state h.memory in reply delay.delay_line (ordinary_tick p) (ordinary h) ≡ played (heard half.kept ∷ []) half.age
-  pub memory : mul binary64 v (float_of 5) ≡ (half_of p h.state h.memory).sum
+  pub stored : mul binary64 v (float_of 5) ≡ (half_of p h.state h.memory).sum
       → clamp_of (value_or p.feedback plus_zero) plus_zero delay.ceiling ≡ clamp_of (value_or p.feedback plus_zero) plus_zero ceiling
-      → (after tape_delay (read p ∷ store v ∷ []) h).memory ≡ (step delay.delay_line (ordinary_tick p) (ordinary h)).memory
+      → ordinary (after tape_delay (read p ∷ store v ∷ []) h) ≡ step delay.delay_line (ordinary_tick p) (ordinary h)
 
 -- ---- worked cases, at 8,000: position 2, not primed, and 0 and 2 in the first two places
 
 abbrev pub case_state : TapeDelay
-case_state = state_of 2 plus_zero false false none_kept (handing (float_of 8000) plus_zero)
+case_state = state_of 2 1 plus_zero false false none_kept (handing (float_of 8000) plus_zero)
 
 abbrev pub case_half : Float → Float → HalfRead
 case_half time feedback = half_of (ports_of (Set (float_of 3)) (Set time) (Set feedback) (Set (float_of 1))) case_state (plus_zero ∷ float_of 2 ∷ [])

@@ -13,6 +13,7 @@ ghost use Rattle.guarantees.specs.Lamp.{Lamp};
 ghost use Rattle.guarantees.specs.Ages.{Ages};
 ghost use Rattle.guarantees.specs.Tapes.{Tapes};
 ghost use Rattle.guarantees.specs.Positions.{Positions};
+ghost use Rattle.guarantees.specs.CountedSilence.{CountedSilence};
 ghost use Rattle.std.specs.Prelude.{◌≡◌, ◌<◌, ◌+◌, [], ◌∷◌};
 ghost use Rattle.effect.specs.Narrow.{AllBelow, old_width, new_width};
 ghost use Rattle.tremolo.specs.Tremolo as tremolo_page;
@@ -87,6 +88,11 @@ pub fn tapes()
 // A state whose positions have 64 bits and that passes the state test has exactly one whose positions have 32, and answers alike.
 pub fn positions()
     ensures { Positions }
+{}
+
+// The count that a state keeps is true on every run, and "silent?" answers by it what the full reading of the places does.
+pub fn counted_silence()
+    ensures { CountedSilence }
 {}
 
 // What the code's types hold is of the new width: each position of any state, one that the test refuses too. By the types' own fields, and not by the pages' `fields`.
