@@ -17,13 +17,13 @@ start_size Tape = 40
 -- the bytes of a record
 abbrev pub record_size : Effect → ℕ
 record_size Tremolo = 88
-record_size Vibrato = 88
-record_size Chorus = 136
-record_size Flanger = 120
-record_size Delay = 96
-record_size Reverb = 128
+record_size Vibrato = 96
+record_size Chorus = 144
+record_size Flanger = 128
+record_size Delay = 104
+record_size Reverb = 136
 record_size Phaser = 104
-record_size Tape = 104
+record_size Tape = 112
 
 -- how many whole records a file has
 abbrev pub record_count : Effect → List ℕ → ℕ

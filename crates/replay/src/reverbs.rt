@@ -1,11 +1,12 @@
-// The reverb's records. A record's 16 words:
+// The reverb's records. A record's 17 words:
 //   0       the call: 0 tick, 1 retune, 2 reset; 3 and 4 are no calls but looks at the left and the right damping stores
 //   1       the mask; of a look, 1 to 8 are the stores
 //   2 to 6  audio, size, damping, mix, predelay; of a retune, 6 is the new rate
 //   7, 8    left and right
 //   9 to 15 the positions after, four in a word, 16 bits each, the first lowest: left combs, right combs, left all-passes, right ones; the predelay's
+//   16      the count after
 ghost use Rattle.std.specs.Prelude.{◌≡◌, ◌↔◌, IsTrue};
-ghost use Rattle.replay.specs.Stored.{IsReverbStored, eight_from, reverb_looked, unpacked};
+ghost use Rattle.replay.specs.Stored.{AreReverbPositions, IsReverbStored, eight_from, reverb_looked, unpacked};
 
 use crate::units::{is_one_sample, port};
 use crate::words::Record;
@@ -54,15 +55,22 @@ fn looked(r: &Reverb, code: u64) -> &[f64]
     }
 }
 
-// Whether the positions, and the damping stores that a look is at, are what a record says of them.
-pub fn is_stored(r: &Reverb, stored: &Record) -> bool
-    ensures { IsTrue result ↔ IsReverbStored r.now stored.now.bytes }
+fn are_positions_stored(r: &Reverb, stored: &Record) -> bool
+    ensures { IsTrue result ↔ AreReverbPositions r.now stored.now.bytes }
 {
     are_eight_stored(&r.comb_pos_l, stored, 9)
         && are_eight_stored(&r.comb_pos_r, stored, 11)
         && r.allpass_pos_l == unpacked(stored.word(13))
         && r.allpass_pos_r == unpacked(stored.word(14))
         && u64::from(r.predelay_pos) == stored.word(15)
+}
+
+// Whether the positions, the count, and the damping stores that a look is at, are what a record says of them.
+pub fn is_stored(r: &Reverb, stored: &Record) -> bool
+    ensures { IsTrue result ↔ IsReverbStored r.now stored.now.bytes }
+{
+    are_positions_stored(r, stored)
+        && u64::from(r.nonzero_places) == stored.word(16)
         && stored.are_held(looked(r, stored.word(0)))
 }
 

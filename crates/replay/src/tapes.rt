@@ -1,4 +1,4 @@
-// The tape delay's records. A record's 13 words:
+// The tape delay's records. A record's 14 words:
 //   0       the call: 0 tick, 1 retune, 2 reset. A tick is replayed by both halves
 //   1       the mask
 //   2 to 5  audio, time, feedback, mix; of a retune, 5 is the new rate
@@ -7,6 +7,7 @@
 //   8       the sample
 //   9 to 11 the position, the glide distance and whether it is primed after
 //   12      the age
+//   13      the count after
 // The start's five words are 8, the rate, the places needed, the glide coefficient, and the position at the first tick.
 ghost use Rattle.std.specs.Prelude.{◌≡◌, ◌↔◌, IsTrue};
 ghost use Rattle.replay.specs.Stored.{IsNoneKept, IsTapeStored};
@@ -44,13 +45,14 @@ fn is_none_kept(kept: Kept) -> bool
     same(kept.audio, 0.0) && same(kept.read, 0.0) && same(kept.mix, 0.0)
 }
 
-// Whether position and glide are what a record says of them, and no read waits.
+// Whether position, glide and count are what a record says of them, and no read waits.
 pub fn is_stored(t: &TapeDelay, stored: &Record) -> bool
     ensures { IsTrue result ↔ IsTapeStored t.now stored.now.bytes }
 {
     u64::from(t.write_pos) == stored.word(9)
         && stored.holds(10, t.smoothed_delay)
         && t.delay_primed == (stored.word(11) == 1)
+        && u64::from(t.nonzero_places) == stored.word(13)
         && !t.waiting
         && is_none_kept(t.kept)
 }

@@ -1,13 +1,15 @@
 // The units whose calls are stored, and what a record of a file says. A record's words, for each effect:
 //   tremolo, 11: 5; the phase before, the rate; the mask of set ports; audio, depth, shape; frequency, sine; the phase after; the sample
-//   vibrato, 11: the call; the mask; audio, depth, mix; frequency, sine; the sample; the position and the phase after; the age
-//   chorus, 17: the call; the mask; audio, depth, mix; frequency, three sines; three samples; the position and the three phases after; the age
-//   flanger, 15: the call; the mask; audio, depth, feedback, mix; frequency, two sines; three samples; the position and the phase after; the age
-//   delay, 12: the call; the mask; audio, time, feedback, mix; milliseconds; the sample; the position, the glide distance and whether it is primed
-//     after; the age
-//   reverb, 16: reverbs.rt says; phaser, 13: phasers.rt does; tape delay, 13: tapes.rt does
+//   vibrato, 12: the call; the mask; audio, depth, mix; frequency, sine; the sample; the position and the phase after; the age; the count
+//   chorus, 18: the call; the mask; audio, depth, mix; frequency, three sines; three samples; the position and the three phases after; the age; the count
+//   flanger, 16: the call; the mask; audio, depth, feedback, mix; frequency, two sines; three samples; the position and the phase after; the age; the
+//     count
+//   delay, 13: the call; the mask; audio, time, feedback, mix; milliseconds; the sample; the position, the glide distance and whether it is primed
+//     after; the age; the count
+//   reverb, 17: reverbs.rt says; phaser, 13: phasers.rt does; tape delay, 14: tapes.rt does
 // The age, a plain number, is that of the oldest sample that the tick's reads weigh above 0, worked out from their distances; of a call that is no tick
 // it is 0. The other effects have none: their ticks answer 0.
+// The count, a plain number, is that of the places in use that are neither +0 nor -0 after the call, counted in the Rust's lines.
 // The call is 0 tick, 1 retune (the new rate stands for the mix, the delay's new coefficient for the milliseconds) or 2 reset. A tremolo's record has
 // its own state before the tick; the others are calls of one unit from its start on, which stands before them: 1 delay, 2 chorus, 3 flanger, 4 vibrato,
 // 6 reverb, 7 phaser or 8 tape delay; the rate; the places needed; of a delay also the maximum, the glide coefficient, and 1 for linear mode, else 0.
@@ -53,7 +55,7 @@ impl Effect {
     // The bytes of the start, before the records.
     pub fn start_size(self) -> usize
         ensures value { result ≡ start_size self }
-        ensures fits { result ≤ 136 }
+        ensures fits { result ≤ 144 }
     {
         match self {
             Effect::Tremolo => 0,
@@ -68,15 +70,16 @@ impl Effect {
     pub fn record_size(self) -> usize
         ensures value { result ≡ record_size self }
         ensures some { 0 < result }
-        ensures fits { result ≤ 136 }
+        ensures fits { result ≤ 144 }
     {
         match self {
-            Effect::Tremolo | Effect::Vibrato => 11 * 8,
-            Effect::Delay => 12 * 8,
-            Effect::Phaser | Effect::Tape => 13 * 8,
-            Effect::Flanger => 15 * 8,
-            Effect::Reverb => 16 * 8,
-            Effect::Chorus => 17 * 8,
+            Effect::Tremolo => 11 * 8,
+            Effect::Vibrato => 12 * 8,
+            Effect::Delay | Effect::Phaser => 13 * 8,
+            Effect::Tape => 14 * 8,
+            Effect::Flanger => 16 * 8,
+            Effect::Reverb => 17 * 8,
+            Effect::Chorus => 18 * 8,
         }
     }
 
@@ -310,20 +313,28 @@ impl Unit {
     {
         match self {
             Unit::Tremolo => true,
-            Unit::Vibrato(v) => u64::from(v.write_pos) == stored.word(8)
-                && stored.holds(9, v.lfo_phase),
+            Unit::Vibrato(v) => {
+                u64::from(v.write_pos) == stored.word(8)
+                    && stored.holds(9, v.lfo_phase)
+                    && u64::from(v.nonzero_places) == stored.word(11)
+            }
             Unit::Chorus(c) => {
                 u64::from(c.write_pos) == stored.word(12)
                     && stored.holds(13, c.lfo_phases[0])
                     && stored.holds(14, c.lfo_phases[1])
                     && stored.holds(15, c.lfo_phases[2])
+                    && u64::from(c.nonzero_places) == stored.word(17)
             }
-            Unit::Flanger(f) => u64::from(f.write_pos) == stored.word(12)
-                && stored.holds(13, f.lfo_phase),
+            Unit::Flanger(f) => {
+                u64::from(f.write_pos) == stored.word(12)
+                    && stored.holds(13, f.lfo_phase)
+                    && u64::from(f.nonzero_places) == stored.word(15)
+            }
             Unit::Delay(d) => {
                 u64::from(d.write_pos) == stored.word(8)
                     && stored.holds(9, d.smoothed_delay)
                     && d.delay_primed == (stored.word(10) == 1)
+                    && u64::from(d.nonzero_places) == stored.word(12)
             }
             Unit::Reverb(r) => reverbs::is_stored(r, stored),
             Unit::Phaser(p) => phasers::is_stored(p, stored),

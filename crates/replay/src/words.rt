@@ -7,19 +7,19 @@ const SIGN: u64 = 0x8000_0000_0000_0000;
 
 const INFINITY: u64 = 0x7ff0_0000_0000_0000;
 
-// A stored record: seventeen words, of which those that it does not have are 0.
+// A stored record: eighteen words, of which those that it does not have are 0.
 #[derive(Clone, Copy)]
 pub struct Record {
-    pub bytes: [u8; 136],
+    pub bytes: [u8; 144],
 }
 
 impl Record {
     // The record of these bytes.
     pub fn new(stored: &[u8]) -> Record
-        requires { length stored.now ≤ 136 }
-        ensures { result.bytes ≡ stored.now ++ replicate (136 - length stored.now) 0 }
+        requires { length stored.now ≤ 144 }
+        ensures { result.bytes ≡ stored.now ++ replicate (144 - length stored.now) 0 }
     {
-        let mut bytes = [0; 136];
+        let mut bytes = [0; 144];
         bytes[..stored.len()].copy_from_slice(stored);
         Record { bytes }
     }

@@ -27,11 +27,11 @@ returns c =
     let b : List ℕ = c.args.self.now.bytes in
     let i : ℕ = c.args.i in
     let none : List ℕ = replicate 8 0 in
-    let size : length b ≡ 136 = omega arith in
-    let words : c.as_chunks.result.0.now ≡ first_chunks 8 17 b = c.as_chunks.ensures.front ∙ ap (λ (n : ℕ). first_chunks 8 (n / 8) b) size in
-    let read : c.unwrap_or.result ≡ get_or (first_chunks 8 17 b) i none =
+    let size : length b ≡ 144 = omega arith in
+    let words : c.as_chunks.result.0.now ≡ first_chunks 8 18 b = c.as_chunks.ensures.front ∙ ap (λ (n : ℕ). first_chunks 8 (n / 8) b) size in
+    let read : c.unwrap_or.result ≡ get_or (first_chunks 8 18 b) i none =
     c.unwrap_or.ensures ∙ ap (λ (o : _). unwrap_or o none) c.copied.ensures ∙ c.get.ensures.lookup.4 (omega arith) none
     ∙ ap (λ (ws : List (List ℕ)). get_or ws i none) words in
     let bytes : (k : ℕ) → k < 8 → get_or c.unwrap_or.result k 0 ≡ get_or b (i * 8 + k) 0 =
-    λ k below. ap (λ (w : List ℕ). get_or w k 0) read ∙ byte_of_word 17 i k b none (omega arith) below (get_or-replicate 8 k 0 0 below) in
+    λ k below. ap (λ (w : List ℕ). get_or w k 0) read ∙ byte_of_word 18 i k b none (omega arith) below (get_or-replicate 8 k 0 0 below) in
     c.from_le_bytes.ensures ∙ word_value b c.unwrap_or.result i bytes
