@@ -10,7 +10,7 @@ struct unit {
     int effect;
     double rate, maximum;
     int swept; /* of either delay: whether its time goes up and down over half its line */
-    uint64_t places, in_use;
+    uint64_t places;
     double *lent;
     room_delay delay;
     room_tape_delay tape;

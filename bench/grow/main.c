@@ -1,12 +1,12 @@
 /*
- * How costs grow with the length of the lines: ns for each tick, and ns for each place of a reset beside memset and of a silent
- * beside a plain loop that stops at the first place that sounds. "swept" is the delay above it, the ordinary one or the tape's,
- * with a time that never stands still. A tick of the tape delay is a pair of halves; between them a clamp stands for the host's
- * saturation, whose tanh is no cost of ours.
+ * How costs grow with the length of the lines: ns for each tick, ns for each place of a reset beside memset, and ns for each
+ * question, which reads no place. "swept" is the delay above it, the ordinary one or the tape's, with a time that never stands
+ * still. A tick of the tape delay is a pair of halves; between them a clamp stands for the host's saturation, whose tanh is no
+ * cost of ours.
  *
  * Rounds go through the lengths of an effect in turn, so that a machine that slows down slows all of them. The lowest round is
- * what the code can do; the median, in brackets, says how noisy the machine was. A question is asked of a silent unit, so that
- * every place in use is read; the plain loop goes over as many places in one piece.
+ * what the code can do; the median, in brackets, says how noisy the machine was. A question is asked of a cleared unit, so that
+ * all that the state keeps is read.
  */
 #include "grow.h"
 
@@ -17,8 +17,9 @@
 #define TICKS 40000u
 #define MOST 11u
 
-/* In each round about so many places are gone over by calls of one kind, or all by one call. */
+/* In each round about so many places are cleared by calls of one kind, or all by one call. */
 #define PLACES 200000u
+#define QUESTIONS 20000u
 
 static const struct {
     const char *name;
@@ -60,19 +61,15 @@ static void plain_clear(const struct unit *u)
     kept = u->lent[u->places / 2u];
 }
 
-static void plain_question(const struct unit *u)
+static void question(const struct unit *u)
 {
-    uint64_t i = 0;
-    while (i < u->in_use && u->lent[i] == 0.0) {
-        i++;
-    }
-    if (i < u->in_use) {
-        puts("a cleared memory sounds");
+    if (!unit_silent(u)) {
+        puts("a cleared unit sounds");
         exit(1);
     }
 }
 
-enum { TICK, RESET, MEMSET, SILENT, PLAIN, KINDS };
+enum { TICK, RESET, MEMSET, SILENT, KINDS };
 
 static void call(struct unit *u, int kind)
 {
@@ -80,21 +77,16 @@ static void call(struct unit *u, int kind)
         reset_unit(u);
     } else if (kind == MEMSET) {
         plain_clear(u);
-    } else if (kind == SILENT) {
-        if (!unit_silent(u)) {
-            puts("a cleared unit sounds");
-            exit(1);
-        }
     } else {
-        plain_question(u);
+        question(u);
     }
 }
 
-/* ns a tick, or ns a place. */
+/* ns a tick, a place that is cleared, or a question. */
 static double one_round(struct unit *u, int kind)
 {
-    const uint64_t places = kind == RESET || kind == MEMSET ? u->places : u->in_use;
-    const uint64_t calls = PLACES / places + 1u;
+    const uint64_t each = kind == SILENT ? 1u : u->places;
+    const uint64_t calls = kind == SILENT ? QUESTIONS : PLACES / each + 1u;
     const double start = seconds();
     uint64_t i;
     if (kind == TICK) {
@@ -104,23 +96,23 @@ static double one_round(struct unit *u, int kind)
     for (i = 0; i < calls; i++) {
         call(u, kind);
     }
-    return (seconds() - start) * 1e9 / (double)(calls * places);
+    return (seconds() - start) * 1e9 / (double)(calls * each);
 }
 
 static struct times times[MOST][KINDS];
 
-static void print_pair(const char *name, struct times *ours, struct times *plain)
+static void print_clearing(struct times *ours, struct times *plain)
 {
-    printf("   %s %.3f (%.3f), ratio %.2f (%.2f)", name, lowest(ours), median(ours), lowest(ours) / lowest(plain),
+    printf("   reset %.3f (%.3f), ratio %.2f (%.2f)", lowest(ours), median(ours), lowest(ours) / lowest(plain),
            median(ours) / median(plain));
 }
 
 static struct unit units[MOST];
 
-/* Each of a pair comes as often after the other as before it: what lies in the cache then is shared out alike. */
+/* Of the two clearings each comes as often after the other as before it: what lies in the cache then is shared out alike. */
 static void one_round_of_all(unsigned count, unsigned round)
 {
-    static const int order[2][KINDS] = {{TICK, RESET, MEMSET, SILENT, PLAIN}, {TICK, MEMSET, RESET, PLAIN, SILENT}};
+    static const int order[2][KINDS] = {{TICK, RESET, MEMSET, SILENT}, {TICK, MEMSET, RESET, SILENT}};
     unsigned i, k;
     for (i = 0; i < count; i++) {
         for (k = 0; k < KINDS; k++) {
@@ -152,11 +144,10 @@ static void time_row(unsigned row)
         } else {
             printf("%9s", "");
         }
-        printf("%9llu places %9llu in use   tick %.2f (%.2f)", (unsigned long long)units[i].places,
-               (unsigned long long)units[i].in_use, lowest(&times[i][TICK]), median(&times[i][TICK]));
-        print_pair("reset", &times[i][RESET], &times[i][MEMSET]);
-        print_pair("silent", &times[i][SILENT], &times[i][PLAIN]);
-        puts("");
+        printf("%9llu places   tick %.2f (%.2f)", (unsigned long long)units[i].places, lowest(&times[i][TICK]),
+               median(&times[i][TICK]));
+        print_clearing(&times[i][RESET], &times[i][MEMSET]);
+        printf("   silent %.2f (%.2f)\n", lowest(&times[i][SILENT]), median(&times[i][SILENT]));
         free(units[i].lent);
     }
 }
@@ -164,7 +155,7 @@ static void time_row(unsigned row)
 int main(void)
 {
     unsigned row;
-    puts("ns a tick; ns a place of reset and silent, with the ratio to memset and to a plain loop");
+    puts("ns a tick; ns a place of reset, with the ratio to memset; ns a question");
     for (row = 0; row < sizeof rows / sizeof rows[0]; row++) {
         time_row(row);
         fflush(stdout);

@@ -35,30 +35,11 @@ static void accepted(uint32_t number, const char *what)
     }
 }
 
-/* The places of the tank that are in use at a rate, by document 01. */
-static uint64_t tank_in_use(double rate)
-{
-    static const double bases[] = {1116, 1188, 1277, 1356, 1422, 1491, 1557, 1617, 556, 441, 341, 225};
-    const double ratio = rate / 44100.0;
-    const uint64_t rounded = (uint64_t)round(23.0 * ratio);
-    const uint64_t spread = rounded > 1u ? rounded : 1u;
-    uint64_t sum = 9600;
-    unsigned i;
-    for (i = 0; i < 12u; i++) {
-        const uint64_t most = i < 8u ? 4095u : 1499u;
-        const uint64_t whole = (uint64_t)(bases[i] * ratio);
-        const uint64_t left = whole < most ? whole : most;
-        sum += left + (left + spread < most ? left + spread : most);
-    }
-    return sum;
-}
-
 void start_unit(struct unit *u)
 {
     uint32_t number = 0;
     fill_inputs();
     u->places = room_places_needed((uint32_t)u->effect, u->rate, u->maximum);
-    u->in_use = u->effect == ROOM_REVERB ? tank_in_use(u->rate) : u->places;
     u->lent = malloc(u->places * sizeof *u->lent);
     if (u->lent == NULL) {
         puts("no memory");
@@ -144,12 +125,12 @@ void reset_unit(struct unit *u)
 int unit_silent(const struct unit *u)
 {
     int yes = 0;
-    accepted(u->effect == ROOM_DELAY        ? room_delay_silent(&u->delay, u->lent, u->places, &yes)
-             : u->effect == ROOM_CHORUS     ? room_chorus_silent(&u->chorus, u->lent, u->places, &yes)
-             : u->effect == ROOM_FLANGER    ? room_flanger_silent(&u->flanger, u->lent, u->places, &yes)
-             : u->effect == ROOM_VIBRATO    ? room_vibrato_silent(&u->vibrato, u->lent, u->places, &yes)
-             : u->effect == ROOM_TAPE_DELAY ? room_tape_delay_silent(&u->tape, u->lent, u->places, &yes)
-                                            : room_reverb_silent(&u->reverb, u->lent, u->places, &yes),
+    accepted(u->effect == ROOM_DELAY        ? room_delay_silent(&u->delay, &yes)
+             : u->effect == ROOM_CHORUS     ? room_chorus_silent(&u->chorus, &yes)
+             : u->effect == ROOM_FLANGER    ? room_flanger_silent(&u->flanger, &yes)
+             : u->effect == ROOM_VIBRATO    ? room_vibrato_silent(&u->vibrato, &yes)
+             : u->effect == ROOM_TAPE_DELAY ? room_tape_delay_silent(&u->tape, &yes)
+                                            : room_reverb_silent(&u->reverb, &yes),
              "a question");
     return yes;
 }

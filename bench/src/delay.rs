@@ -94,6 +94,7 @@ pub fn started(settings: &Settings) -> (Unit, State, Vec<f64>) {
     let mut memory = vec![0.0; rust.line().len()];
     let mut ours = State {
         write_pos: 0,
+        nonzero_places: 0,
         smoothed_delay: 0.0,
         delay_primed: 0,
         sample_rate: 0.0,

@@ -35,6 +35,7 @@ impl<E: Lined<N>, const N: usize> Effect<N> for Row<E, N> {
         let mut memory = rust.lines()[..E::LINES].concat();
         let mut ours = State {
             write_pos: 0,
+            nonzero_places: 0,
             phases: [0.0; MOST],
             sample_rate: 0.0,
         };

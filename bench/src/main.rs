@@ -1,8 +1,7 @@
 //! What a tick costs: the Rust's and ours, in one process, from one driver.
 //!
 //!     bench time                       ns per tick of every effect
-//!     bench clear                      a clearing and a question of the longest line and of the reverb's tank, beside memset and
-//!                                      a plain loop
+//!     bench clear                      a clearing of the longest line and of the reverb's tank, beside memset
 //!     bench count EFFECT SIDE TICKS    only these ticks, for callgrind; SIDE is rust or ours
 //!
 //! How it is taken:

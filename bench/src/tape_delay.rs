@@ -39,6 +39,7 @@ impl Effect<1> for TapeDelay {
         let mut memory = vec![0.0; rust.line().len()];
         let mut ours = State {
             write_pos: 0,
+            nonzero_places: 0,
             smoothed_delay: 0.0,
             delay_primed: 0,
             waiting: 0,

@@ -59,6 +59,7 @@ pub fn delay(before: &delay::State, t: &delay::Tick, length: u64) -> f64 {
 pub fn tape(before: &tape_delay::State, t: &tape_delay::Read, length: u64) -> f64 {
     let as_delay = delay::State {
         write_pos: before.write_pos,
+        nonzero_places: before.nonzero_places,
         smoothed_delay: before.smoothed_delay,
         delay_primed: before.delay_primed,
         sample_rate: before.sample_rate,

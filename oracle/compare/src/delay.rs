@@ -3,17 +3,22 @@
 //!
 //! Of the memory, a tick's own place is compared with the Rust's line at once. All of it, spare places too, is held against
 //! what it should be at every clearing, at every refusal, at every 64th tick of a unit (of a long line, more seldom) and at the
-//! end of the run.
+//! end of the run. The count that a state keeps is held against a reading of the line after every accepted call (of a long line,
+//! against what was written since the last one).
 
 mod aged;
+mod arguments;
 mod call;
+mod counting;
 mod directed;
 mod draw;
 mod long;
 mod record;
+mod state;
 
 use crate::ages::{self, Compared};
 use crate::bits::{agree, same_count, untouched, JUNK};
+use crate::counts::{self, as_count, Handed};
 use crate::memory::{self, Memory};
 use crate::random::Random;
 use crate::run::{self, number_agrees, silent_agrees, Made, Pair};
@@ -22,6 +27,8 @@ use call::{read, Call, What};
 use quiver_oracle::delay::{coefficient, key, Moving, Unit};
 use room_effects::delay as ours;
 use room_effects::delay::{Settings, State, Tick};
+use state::{junk_state, state_untouched, zero_state};
+use std::ops::Range;
 
 pub use long::run as run_long;
 pub use record::record;
@@ -35,37 +42,15 @@ pub struct Delay<const LINEAR: bool> {
     rust: Unit,
     ticks: u64,
     ages: Compared,
+    counts: counts::Compared,
 }
 
 /// The cases that random ticks don't meet, then a random run.
 pub fn run<const LINEAR: bool>(ticks: u64, seed: u64) -> Result<String, String> {
-    let directed = directed::run::<LINEAR>(seed)?.and(aged::run::<LINEAR>()?);
+    let ages = directed::run::<LINEAR>(seed)?.and(aged::run::<LINEAR>()?);
+    let [ages, counts] = [ages.shown(), counting::run::<LINEAR>()?.shown()];
     let said = run::run::<Delay<LINEAR>>(ticks, seed)?;
-    Ok(format!("{said}; directed{}", directed.shown()))
-}
-
-fn junk_state() -> State {
-    State {
-        write_pos: JUNK as u32,
-        smoothed_delay: JUNK,
-        delay_primed: JUNK as u32,
-        sample_rate: JUNK,
-        delay_smooth_coef: JUNK,
-        max_delay_secs: JUNK,
-        linear_time: JUNK as u32,
-    }
-}
-
-fn zero_state() -> State {
-    State {
-        write_pos: 0,
-        smoothed_delay: 0.0,
-        delay_primed: 0,
-        sample_rate: 0.0,
-        delay_smooth_coef: 0.0,
-        max_delay_secs: 0.0,
-        linear_time: 0,
-    }
+    Ok(format!("{said}; directed{ages}{counts}"))
 }
 
 /// All of the memory is compared once in this many ticks of a unit, or in as many as an eighth of its line.
@@ -76,6 +61,11 @@ const LONGEST: u64 = 20_000;
 
 fn length(state: &State) -> u64 {
     table::delay_length(state.sample_rate, state.max_delay_secs)
+}
+
+/// All places of the line.
+fn in_use(state: &State) -> [Range<usize>; 1] {
+    [0..length(state) as usize]
 }
 
 /// The places that a start with these settings needs.
@@ -106,6 +96,7 @@ impl<const LINEAR: bool> Pair for Delay<LINEAR> {
         table::CURVE,
     ];
     const AGED: bool = true;
+    const COUNTED: bool = true;
     type Call = Call;
 
     /// The coefficient is the Rust's own.
@@ -133,13 +124,7 @@ impl<const LINEAR: bool> Pair for Delay<LINEAR> {
                 self.start_both(call.lent, settings, *seed, number)?
             }
             What::Retune { .. } | What::Reset => self.clear_both(call, number)?,
-            What::Silent(None) => {
-                silent_ours(&call.state, self.memory.shown(call.lent), number)?;
-                self.memory.check()?;
-            }
-            What::Silent(Some(quiet)) => {
-                silent_ours(&call.state, &quiet.memory(call.lent), number)?
-            }
+            What::Silent => silent_ours(&call.state, number, call.state.nonzero_places == 0)?,
             What::Tick(t) => self.tick_both(call, t, number)?,
         }
         Ok(Made::of(number, matches!(call.what, What::Tick(_))))
@@ -156,6 +141,10 @@ impl<const LINEAR: bool> Pair for Delay<LINEAR> {
     fn ages(&self) -> Compared {
         self.ages
     }
+
+    fn counts(&self) -> counts::Compared {
+        self.counts
+    }
 }
 
 impl<const LINEAR: bool> Delay<LINEAR> {
@@ -167,6 +156,7 @@ impl<const LINEAR: bool> Delay<LINEAR> {
             rust: rust_of(settings),
             ticks: 0,
             ages: Compared::default(),
+            counts: counts::Compared::default(),
         };
         let lent = places(settings) as usize + spare;
         number_agrees(0, Call::start_in(lent, *settings, 0).number())?;
@@ -178,8 +168,10 @@ impl<const LINEAR: bool> Delay<LINEAR> {
         length(&self.state)
     }
 
+    /// The host writes to a place, and counts what it writes.
     fn plant(&mut self, place: usize, value: f64) {
         self.memory.plant(place, value);
+        self.state.nonzero_places = as_count(self.memory.nonzero());
         if let Some(line) = self.rust.line_mut().get_mut(place) {
             *line = value;
         }
@@ -200,13 +192,14 @@ impl<const LINEAR: bool> Delay<LINEAR> {
             state_untouched(&zero_state(), &state)?;
             return memory.check();
         }
-        memory.cleared(lent);
+        memory.cleared(lent, &in_use(&state));
         let next = Self {
             state,
             memory,
             rust: rust_of(settings),
             ticks: 0,
             ages: self.ages,
+            counts: self.counts,
         };
         next.all_agrees()?;
         same_count(
@@ -236,34 +229,50 @@ impl<const LINEAR: bool> Delay<LINEAR> {
             What::Retune { rate, coefficient } => self.rust.set_sample_rate(rate, coefficient),
             _ => self.rust.reset(),
         }
-        self.memory.cleared(call.lent);
+        self.memory.cleared(call.lent, &in_use(&state));
         self.state = state;
         self.all_agrees()
     }
 
     fn tick_both(&mut self, call: &Call, t: &Tick, number: u32) -> Result<(), String> {
-        if number == 0 {
+        let handed = (number == 0).then(|| {
             self.rust_at(&call.state);
-        }
+            self.handed(&call.state)
+        });
         let mut state = call.state;
         let (mut out, mut age) = (JUNK, JUNK as u32);
         let lent = self.memory.lend(call.lent);
         number_agrees(ours::tick(&mut state, lent, t, &mut out, &mut age), number)?;
-        if number != 0 {
+        let Some(handed) = handed else {
             untouched("out of a refused tick", 0.0, out)?;
             self.ages.with_none(age)?;
             return self.refused(&call.state, &state);
-        }
+        };
         agree("out", out, in_rust(&mut self.rust, t))?;
         self.age_agrees(age, &call.state, t)?;
         self.state = state;
         let written = call.state.write_pos as usize;
         self.memory.written(written, self.rust.line()[written])?;
+        self.count_agrees(&handed)?;
         self.ticks += 1;
         if self.ticks % WHOLE.max(self.length() / 8) == 0 {
             return self.all_agrees();
         }
         self.states_agree()
+    }
+
+    fn handed(&mut self, state: &State) -> Handed {
+        Handed::new(state.nonzero_places, &mut self.memory, &in_use(state))
+    }
+
+    /// The count that an accepted tick has left, and the answer by it. Then the host counts anew, for the call after one that it
+    /// handed another count.
+    fn count_agrees(&mut self, handed: &Handed) -> Result<(), String> {
+        let counted = self.state.nonzero_places;
+        let none = self.counts.with(&mut self.memory, handed, counted)?;
+        silent_ours(&self.state, 0, none)?;
+        self.state.nonzero_places = as_count(self.memory.nonzero());
+        Ok(())
     }
 
     /// The age of an accepted tick from this state; the Rust's unit has just made it too, and keeps the distance at which it read.
@@ -326,10 +335,13 @@ impl<const LINEAR: bool> Delay<LINEAR> {
         same_count("linear", linear, usize::from(self.rust.linear()))
     }
 
-    /// State, every place of the line, and the places beyond it.
+    /// State, every place of the line, and the places beyond it; the count of the places, and the answer by it.
     fn all_agrees(&self) -> Result<(), String> {
         self.states_agree()?;
         self.memory.check()?;
+        let counted = self.memory.read(&in_use(&self.state));
+        same_count("the count", self.state.nonzero_places, counted as usize)?;
+        silent_ours(&self.state, 0, counted == 0)?;
         let line = self.memory.shown(self.length() as usize);
         memory::line_agrees(line, self.rust.line())
     }
@@ -342,34 +354,9 @@ fn in_rust(rust: &mut Unit, t: &Tick) -> f64 {
     rust.tick(ports)
 }
 
-fn state_untouched(should: &State, is: &State) -> Result<(), String> {
-    let counts = |state: &State| {
-        [
-            ("position after a refusal", state.write_pos),
-            ("primed after a refusal", state.delay_primed),
-            ("linear after a refusal", state.linear_time),
-        ]
-    };
-    for ((what, should), (_, is)) in counts(should).into_iter().zip(counts(is)) {
-        same_count(what, is, should as usize)?;
-    }
-    let numbers = |state: &State| {
-        [
-            ("distance after a refusal", state.smoothed_delay),
-            ("rate after a refusal", state.sample_rate),
-            ("coefficient after a refusal", state.delay_smooth_coef),
-            ("maximum after a refusal", state.max_delay_secs),
-        ]
-    };
-    for ((what, should), (_, is)) in numbers(should).into_iter().zip(numbers(is)) {
-        untouched(what, should, is)?;
-    }
-    Ok(())
-}
-
-fn silent_ours(state: &State, memory: &[f64], number: u32) -> Result<(), String> {
+/// "silent" of a state whose count should be 0 or not: that is all that it goes by.
+fn silent_ours(state: &State, number: u32, none: bool) -> Result<(), String> {
     let mut silent = JUNK as u32;
-    number_agrees(ours::silent(state, memory, &mut silent), number)?;
-    let yes = number == 0 && memory::silent(&memory[..length(state) as usize]);
-    silent_agrees(silent, yes)
+    number_agrees(ours::silent(state, &mut silent), number)?;
+    silent_agrees(silent, number == 0 && none)
 }

@@ -2,16 +2,19 @@
 //!
 //! Of the memory, a tick's own places are compared with the Rust's lines at once. All of it, spare places too, is held against
 //! what it should be at every clearing, at every refusal, at every 64th tick of a unit and at the end of the run. Where several
-//! of the Rust's lines correspond to one of ours, ours is compared with each of them.
+//! of the Rust's lines correspond to one of ours, ours is compared with each of them. The count that a state keeps is held against
+//! a reading of the lines after every accepted call.
 
 mod call;
+mod counting;
 mod directed;
 mod draw;
 mod record;
 
 use crate::ages::{self, Compared, Sweep};
 use crate::bits::{agree, same_count, untouched, JUNK};
-use crate::memory::{self, Memory, Quiet};
+use crate::counts::{self, as_count, Handed};
+use crate::memory::{self, Memory};
 use crate::random::Random;
 use crate::run::{self, number_agrees, silent_agrees, Made, Pair};
 use crate::table;
@@ -19,6 +22,7 @@ use crate::tick::Form;
 use call::{Call, What};
 use quiver_oracle::{Effect as _, Lined as _};
 use room_effects::{Lined as _, State, Tick, MOST};
+use std::ops::Range;
 
 pub use record::record;
 
@@ -61,18 +65,20 @@ pub struct Lines<E: Effect> {
     rust: E::Rust,
     ticks: u64,
     ages: Compared,
+    counts: counts::Compared,
 }
 
 /// The cases that random ticks don't meet, then a random run.
 pub fn run<E: Effect>(ticks: u64, seed: u64) -> Result<String, String> {
-    let directed = directed::run::<E>()?;
+    let [ages, counts] = [directed::run::<E>()?.shown(), counting::run::<E>()?.shown()];
     let said = run::run::<Lines<E>>(ticks, seed)?;
-    Ok(format!("{said}; directed{}", directed.shown()))
+    Ok(format!("{said}; directed{ages}{counts}"))
 }
 
 fn junk_state() -> State {
     State {
         write_pos: JUNK as u32,
+        nonzero_places: JUNK as u32,
         phases: [JUNK; MOST],
         sample_rate: JUNK,
     }
@@ -87,6 +93,11 @@ fn length<E: Effect>(rate: f64) -> u64 {
 
 fn needed<E: Effect>(rate: f64) -> usize {
     (length::<E>(rate) as usize).saturating_mul(E::LINES)
+}
+
+/// All that are needed are in use.
+fn in_use<E: Effect>(rate: f64) -> [Range<usize>; 1] {
+    [0..needed::<E>(rate)]
 }
 
 /// How far back a tick's reads lie.
@@ -109,6 +120,7 @@ impl<E: Effect> Pair for Lines<E> {
         table::CURVE,
     ];
     const AGED: bool = true;
+    const COUNTED: bool = true;
     type Call = Call;
 
     fn start(sample_rate: f64, _random: &mut Random) -> Result<Self, String> {
@@ -119,6 +131,7 @@ impl<E: Effect> Pair for Lines<E> {
             rust: E::Rust::new(sample_rate),
             ticks: 0,
             ages: Compared::default(),
+            counts: counts::Compared::default(),
         };
         unit.call(&call)?;
         Ok(unit)
@@ -136,8 +149,10 @@ impl<E: Effect> Pair for Lines<E> {
         match &call.what {
             What::Start { rate, seed } => self.start_both(call.lent, *rate, *seed, number)?,
             What::Retune(_) | What::Reset => self.clear_both(call, number)?,
-            What::Silent(None) => self.silent(call, number)?,
-            What::Silent(Some(quiet)) => silent_in_quiet::<E>(call, quiet, number)?,
+            What::Silent => {
+                let none = call.state.nonzero_places == 0;
+                silent_ours::<E>(&call.state, number, none)?;
+            }
             What::Tick(t) => self.tick_both(call, t, number)?,
         }
         Ok(Made::of(number, matches!(call.what, What::Tick(_))))
@@ -154,6 +169,10 @@ impl<E: Effect> Pair for Lines<E> {
     fn ages(&self) -> Compared {
         self.ages
     }
+
+    fn counts(&self) -> counts::Compared {
+        self.counts
+    }
 }
 
 impl<E: Effect> Lines<E> {
@@ -161,8 +180,10 @@ impl<E: Effect> Lines<E> {
         length::<E>(self.state.sample_rate)
     }
 
+    /// The host writes to a place, and counts what it writes.
     fn plant(&mut self, place: usize, value: f64) {
         self.memory.plant(place, value);
+        self.state.nonzero_places = as_count(self.memory.nonzero());
         let length = self.length() as usize;
         let (line, at) = (place / length, place % length);
         let mut alike = self.rust.lines_mut().chunks_mut(E::RUST_LINES_FOR_ONE);
@@ -180,7 +201,7 @@ impl<E: Effect> Lines<E> {
             state_untouched::<E>(&zero_state(), &state)?;
             return memory.check();
         }
-        memory.cleared(lent);
+        memory.cleared(lent, &in_use::<E>(rate));
         self.state = state;
         self.memory = memory;
         self.rust = E::Rust::new(rate);
@@ -203,27 +224,29 @@ impl<E: Effect> Lines<E> {
             What::Retune(rate) => self.rust.set_sample_rate(rate),
             _ => self.rust.reset(),
         }
-        self.memory.cleared(call.lent);
+        self.memory
+            .cleared(call.lent, &in_use::<E>(state.sample_rate));
         self.state = state;
         self.all_agrees()
     }
 
     fn tick_both(&mut self, call: &Call, t: &Tick, number: u32) -> Result<(), String> {
-        if number == 0 {
+        let handed = (number == 0).then(|| {
             self.rust_at(&call.state);
-        }
+            self.handed(&call.state)
+        });
         let mut state = call.state;
         let (mut out, mut age) = ([JUNK; MOST], JUNK as u32);
         let lent = self.memory.lend(call.lent);
         let ours = E::Ours::tick(&mut state, lent, t, &mut out, &mut age);
         number_agrees(ours, number)?;
-        if number != 0 {
+        let Some(handed) = handed else {
             out[..E::SAMPLES]
                 .iter()
                 .try_for_each(|out| untouched("out of a refused tick", 0.0, *out))?;
             self.ages.with_none(age)?;
             return self.refused(&call.state, &state);
-        }
+        };
         let rust = E::FORM.in_rust(&mut self.rust, t)?;
         for (ours, rust) in out.into_iter().zip(rust).take(E::SAMPLES) {
             agree("out", ours, rust)?;
@@ -233,6 +256,7 @@ impl<E: Effect> Lines<E> {
             .with(age, &distances::<E>(rate, t), length::<E>(rate))?;
         self.state = state;
         self.written_agrees(call.state.write_pos as usize)?;
+        self.count_agrees(&handed)?;
         self.ticks += 1;
         if self.ticks % WHOLE == 0 {
             return self.all_agrees();
@@ -240,11 +264,19 @@ impl<E: Effect> Lines<E> {
         self.states_agree()
     }
 
-    /// Silent: every place in use is +0 or −0.
-    fn silent(&mut self, call: &Call, number: u32) -> Result<(), String> {
-        let memory = self.memory.shown(call.lent);
-        silent_ours::<E>(&call.state, memory, number)?;
-        self.memory.check()
+    fn handed(&mut self, state: &State) -> Handed {
+        let in_use = in_use::<E>(state.sample_rate);
+        Handed::new(state.nonzero_places, &mut self.memory, &in_use)
+    }
+
+    /// The count that an accepted tick has left, and the answer by it. Then the host counts anew, for the call after one that it
+    /// handed another count.
+    fn count_agrees(&mut self, handed: &Handed) -> Result<(), String> {
+        let counted = self.state.nonzero_places;
+        let none = self.counts.with(&mut self.memory, handed, counted)?;
+        silent_ours::<E>(&self.state, 0, none)?;
+        self.state.nonzero_places = as_count(self.memory.nonzero());
+        Ok(())
     }
 
     /// The Rust's unit gets the state that ours is handed: at another rate, with lines that lie elsewhere in the memory.
@@ -287,10 +319,13 @@ impl<E: Effect> Lines<E> {
         agree("rate", self.state.sample_rate, self.rust.sample_rate())
     }
 
-    /// State, every place of every line, and the places beyond them.
+    /// State, every place of every line, and the places beyond them; the count of the places, and the answer by it.
     fn all_agrees(&self) -> Result<(), String> {
         self.states_agree()?;
         self.memory.check()?;
+        let counted = self.memory.read(&in_use::<E>(self.state.sample_rate));
+        same_count("the count", self.state.nonzero_places, counted as usize)?;
+        silent_ours::<E>(&self.state, 0, counted == 0)?;
         let length = self.length() as usize;
         let lines = self.memory.shown(E::LINES * length).chunks_exact(length);
         let rust = self.rust.lines();
@@ -308,6 +343,7 @@ impl<E: Effect> Lines<E> {
 fn zero_state() -> State {
     State {
         write_pos: 0,
+        nonzero_places: 0,
         phases: [0.0; MOST],
         sample_rate: 0.0,
     }
@@ -318,21 +354,22 @@ fn state_untouched<E: Effect>(should: &State, is: &State) -> Result<(), String> 
     for (should, is) in own {
         untouched("phase after a refusal", *should, is)?;
     }
-    same_count(
-        "position after a refusal",
-        is.write_pos,
-        should.write_pos as usize,
-    )?;
+    for (what, should, is) in [
+        ("position after a refusal", should.write_pos, is.write_pos),
+        (
+            "count after a refusal",
+            should.nonzero_places,
+            is.nonzero_places,
+        ),
+    ] {
+        same_count(what, is, should as usize)?;
+    }
     untouched("rate after a refusal", should.sample_rate, is.sample_rate)
 }
 
-fn silent_in_quiet<E: Effect>(call: &Call, quiet: &Quiet, number: u32) -> Result<(), String> {
-    silent_ours::<E>(&call.state, &quiet.memory(call.lent), number)
-}
-
-fn silent_ours<E: Effect>(state: &State, memory: &[f64], number: u32) -> Result<(), String> {
+/// "silent" of a state whose count should be 0 or not: that is all that it goes by.
+fn silent_ours<E: Effect>(state: &State, number: u32, none: bool) -> Result<(), String> {
     let mut silent = JUNK as u32;
-    number_agrees(E::Ours::silent(state, memory, &mut silent), number)?;
-    let yes = number == 0 && memory::silent(&memory[..needed::<E>(state.sample_rate)]);
-    silent_agrees(silent, yes)
+    number_agrees(E::Ours::silent(state, &mut silent), number)?;
+    silent_agrees(silent, number == 0 && none)
 }

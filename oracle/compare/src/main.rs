@@ -1,5 +1,5 @@
-//! Ticks our effects and the Rust's side by side and compares them bit for bit. The Rust knows no ages: those that our ticks answer
-//! are held against a reading of their own (ages.rs).
+//! Ticks our effects and the Rust's side by side and compares them bit for bit. The Rust knows no ages and no counts: the ages that our
+//! ticks answer, and the counts that our states keep, are held against readings of their own (ages.rs, counts.rs).
 //!
 //!     compare EFFECT --ticks N [--seed S]        compare N accepted ticks, and refused calls between them; the delay's rows are
 //!                                                delay, linear_delay and long_delay; a tape_delay's ticks are pairs of halves
@@ -11,6 +11,7 @@
 mod ages;
 mod bits;
 mod chorus;
+mod counts;
 mod delay;
 mod flanger;
 mod frames;
@@ -21,6 +22,7 @@ mod random;
 mod reverb;
 mod run;
 mod table;
+mod tally;
 mod tape;
 mod tick;
 mod tremolo;

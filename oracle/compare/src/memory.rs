@@ -1,7 +1,10 @@
 //! The memory that a unit of ours is lent, with what it must hold, to the bit.
 
 use crate::bits::{agree, same_count, untouched};
+use crate::counts::as_count;
 use crate::random::Random;
+use crate::tally::{nonzero_in, Reading, Tally};
+use std::ops::Range;
 
 /// Places after the last that is ever lent: no call may touch them.
 const GUARD: usize = 8;
@@ -9,6 +12,7 @@ const GUARD: usize = 8;
 pub struct Memory {
     places: Vec<f64>,
     should: Vec<f64>,
+    tally: Tally,
 }
 
 impl Memory {
@@ -19,6 +23,7 @@ impl Memory {
         Self {
             should: places.clone(),
             places,
+            tally: Tally::default(),
         }
     }
 
@@ -38,18 +43,50 @@ impl Memory {
 
     /// The host writes here.
     pub fn plant(&mut self, place: usize, value: f64) {
+        self.tally.planted(place, self.places[place], value);
         self.places[place] = value;
         self.should[place] = value;
     }
 
-    /// An accepted clearing was lent the first `count` places.
-    pub fn cleared(&mut self, count: usize) {
+    /// An accepted clearing was lent the first `count` places, of which these are in use from then on.
+    pub fn cleared(&mut self, count: usize, in_use: &[Range<usize>]) {
         self.should[..count].fill(0.0);
+        self.tally.read(&self.places, in_use);
+    }
+
+    /// These places are in use from now on.
+    pub fn use_places(&mut self, in_use: &[Range<usize>]) {
+        self.tally.over(&self.places, in_use);
+    }
+
+    /// How many places in use are neither +0 nor −0.
+    pub fn nonzero(&self) -> u64 {
+        self.tally.nonzero()
+    }
+
+    /// The same after an accepted call, each place that it should have written to known by `written`.
+    pub fn after_call(&mut self) -> Result<Reading, String> {
+        self.tally.after_call(&self.places)
+    }
+
+    /// The count of a host that keeps it true, if it writes this to the memory.
+    pub fn count_with(&self, planted: &[(usize, f64)]) -> u32 {
+        let mut tally = self.tally.clone();
+        for (place, value) in planted {
+            tally.planted(*place, self.places[*place], *value);
+        }
+        as_count(tally.nonzero())
+    }
+
+    /// A reading of these places, whichever are in use: how many of them are neither +0 nor −0.
+    pub fn read(&self, places: &[Range<usize>]) -> u32 {
+        as_count(nonzero_in(&self.places, places))
     }
 
     /// An accepted tick wrote to this place: what the Rust has there. That is all that it may have written to.
     pub fn written(&mut self, place: usize, rust: f64) -> Result<(), String> {
         agree("the place written", self.places[place], rust)?;
+        self.tally.changed(self.should[place], self.places[place]);
         self.should[place] = self.places[place];
         Ok(())
     }
@@ -94,38 +131,4 @@ pub fn line_agrees(ours: &[f64], rust: &[f64]) -> Result<(), String> {
         agree("a line", *ours, *rust).map_err(|differs| format!("place {i} of {differs}"))?;
     }
     Ok(())
-}
-
-/// Document 01 of a unit whose places in use these are: silent when every one is +0 or −0.
-pub fn silent(in_use: &[f64]) -> bool {
-    let zeros = [0.0f64, -0.0].map(f64::to_bits);
-    in_use.iter().all(|place| zeros.contains(&place.to_bits()))
-}
-
-/// A memory of +0 and −0 by the seed, but for one place.
-pub struct Quiet {
-    pub seed: u64,
-    pub place: usize,
-    pub sound: f64,
-}
-
-impl Quiet {
-    /// One place of it sounds: in use, spare, or not even lent.
-    pub fn drawn(lent: usize, in_use: usize, random: &mut Random) -> Self {
-        let any = random.below(lent as u64 + 1) as usize;
-        Self {
-            seed: random.bits(),
-            place: random.of(&[any, any, in_use - 1, in_use, 0]),
-            sound: random.audio(),
-        }
-    }
-
-    pub fn memory(&self, lent: usize) -> Vec<f64> {
-        let mut random = Random::new(self.seed);
-        let mut memory: Vec<f64> = (0..lent).map(|_| random.of(&[0.0, -0.0])).collect();
-        if let Some(place) = memory.get_mut(self.place) {
-            *place = self.sound;
-        }
-        memory
-    }
 }

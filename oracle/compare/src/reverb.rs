@@ -1,18 +1,22 @@
 //! The reverb: ours, in a tank that it is lent, beside the Rust's 25 buffers.
 //!
 //! Of the tank, the 25 places that a tick writes are compared with the Rust's at once. All of it, spare places too, is held
-//! against what it should be at every clearing, at every refusal, at every 1024th tick of a unit and at the end of the run.
+//! against what it should be at every clearing, at every refusal, at every 1024th tick of a unit and at the end of the run. The count
+//! that a state keeps is held against these 25 after every tick, and against a reading of the tank every few ticks.
 
 mod call;
+mod counting;
 mod directed;
 mod draw;
 mod record;
 
 use crate::bits::{agree, same_count, untouched, JUNK};
+use crate::counts::{self, as_count, Handed};
 use crate::memory::{self, Memory};
 use crate::random::Random;
 use crate::run::{self, number_agrees, silent_agrees, Made, Pair};
 use crate::table::{self, TANK, TANK_PLACES};
+use crate::tally;
 use call::{read, Call, What};
 use quiver_oracle::reverb::Unit;
 use room_effects::reverb as ours;
@@ -30,16 +34,22 @@ pub struct Reverb {
     ticks: u64,
     /// The places that the last tick left what is not ordinary in: it would stay, and spread until all is NaN.
     wild: Vec<usize>,
+    counts: counts::Compared,
 }
 
 /// The cases that random ticks don't meet, then a random run.
 pub fn run(ticks: u64, seed: u64) -> Result<String, String> {
     directed::run(seed)?;
-    run::run::<Reverb>(ticks, seed)
+    let counts = counting::run(seed)?.shown();
+    let said = run::run::<Reverb>(ticks, seed)?;
+    Ok(format!("{said}; directed{counts}"))
 }
 
 fn junk_state() -> State {
-    State::even(JUNK as u32, JUNK, JUNK)
+    State {
+        nonzero_places: JUNK as u32,
+        ..State::even(JUNK as u32, JUNK, JUNK)
+    }
 }
 
 /// All of the memory is compared once in this many ticks of a unit.
@@ -58,6 +68,7 @@ impl Pair for Reverb {
         table::STATE,
         table::CONTROL,
     ];
+    const COUNTED: bool = true;
     type Call = Call;
 
     fn start(sample_rate: f64, _random: &mut Random) -> Result<Self, String> {
@@ -76,13 +87,7 @@ impl Pair for Reverb {
         match &call.what {
             What::Start { rate, seed } => self.start_both(call.lent, *rate, *seed, number)?,
             What::Retune(_) | What::Reset => self.clear_both(call, number)?,
-            What::Silent(None) => {
-                silent_ours(&call.state, self.memory.shown(call.lent), number)?;
-                self.memory.check()?;
-            }
-            What::Silent(Some(quiet)) => {
-                silent_ours(&call.state, &quiet.memory(call.lent), number)?
-            }
+            What::Silent => silent_ours(&call.state, number, call.state.nonzero_places == 0)?,
             What::Tick(t) => self.tick_both(call, t, number)?,
         }
         Ok(Made::of(number, matches!(call.what, What::Tick(_))))
@@ -95,6 +100,10 @@ impl Pair for Reverb {
     fn finish(&self) -> Result<(), String> {
         self.all_agrees()
     }
+
+    fn counts(&self) -> counts::Compared {
+        self.counts
+    }
 }
 
 impl Reverb {
@@ -106,6 +115,7 @@ impl Reverb {
             rust: Unit::new(sample_rate),
             ticks: 0,
             wild: Vec::new(),
+            counts: counts::Compared::default(),
         };
         unit.start_both(TANK_PLACES + spare, sample_rate, 0, 0)?;
         Ok(unit)
@@ -115,8 +125,10 @@ impl Reverb {
         table::tank_lengths(self.state.sample_rate)
     }
 
+    /// The host writes to a place, and counts what it writes.
     fn plant(&mut self, place: usize, value: f64) {
         self.memory.plant(place, value);
+        self.state.nonzero_places = as_count(self.memory.nonzero());
         if let Some(line) = (0..TANK.len()).rfind(|line| TANK[*line].0 <= place) {
             if let Some(there) = self.rust.line_mut(line).get_mut(place - TANK[line].0) {
                 *there = value;
@@ -133,13 +145,14 @@ impl Reverb {
             state_untouched(&State::even(0, 0.0, 0.0), &state)?;
             return memory.check();
         }
-        memory.cleared(lent);
+        memory.cleared(lent, &table::tank_in_use(rate));
         *self = Self {
             state,
             memory,
             rust: Unit::new(rate),
             ticks: 0,
             wild: Vec::new(),
+            counts: self.counts,
         };
         self.all_agrees()
     }
@@ -160,31 +173,34 @@ impl Reverb {
             What::Retune(rate) => self.rust.set_sample_rate(rate),
             _ => self.rust.reset(),
         }
-        self.memory.cleared(call.lent);
+        let in_use = table::tank_in_use(state.sample_rate);
+        self.memory.cleared(call.lent, &in_use);
         self.state = state;
         self.wild.clear();
         self.all_agrees()
     }
 
     fn tick_both(&mut self, call: &Call, t: &Tick, number: u32) -> Result<(), String> {
-        if number == 0 {
+        let handed = (number == 0).then(|| {
             self.rust_at(&call.state);
-        }
+            self.handed(&call.state)
+        });
         let mut state = call.state;
         let mut out = [JUNK; 2];
         let lent = self.memory.lend(call.lent);
         number_agrees(ours::tick(&mut state, lent, t, &mut out), number)?;
-        if number != 0 {
+        let Some(handed) = handed else {
             out.iter()
                 .try_for_each(|out| untouched("out of a refused tick", 0.0, *out))?;
             return self.refused(&call.state, &state);
-        }
+        };
         let rust = self.rust.tick(read(t));
         for ((ours, rust), side) in out.into_iter().zip(rust).zip(["left", "right"]) {
             agree(side, ours, rust)?;
         }
         self.state = state;
         self.written_agrees(&call.state)?;
+        self.count_agrees(&handed)?;
         self.ticks += 1;
         if self.ticks % WHOLE == 0 {
             return self.all_agrees();
@@ -205,6 +221,21 @@ impl Reverb {
                 self.wild.push(place);
             }
         }
+        Ok(())
+    }
+
+    fn handed(&mut self, state: &State) -> Handed {
+        let in_use = table::tank_in_use(state.sample_rate);
+        Handed::new(state.nonzero_places, &mut self.memory, &in_use)
+    }
+
+    /// The count that an accepted tick has left, and the answer by it. Then the host counts anew, for the call after one that it
+    /// handed another count.
+    fn count_agrees(&mut self, handed: &Handed) -> Result<(), String> {
+        let counted = self.state.nonzero_places;
+        let none = self.counts.with(&mut self.memory, handed, counted)?;
+        silent_ours(&self.state, 0, none)?;
+        self.state.nonzero_places = as_count(self.memory.nonzero());
         Ok(())
     }
 
@@ -237,10 +268,15 @@ impl Reverb {
         agree("rate", self.state.sample_rate, self.rust.sample_rate())
     }
 
-    /// State, every place of every buffer, and the places beyond them; that the table reads the lengths as the Rust does.
+    /// State, every place of every buffer, and the places beyond them; the count of the places in use, and the answer by it; that the
+    /// table reads the lengths as the Rust does.
     fn all_agrees(&self) -> Result<(), String> {
         self.states_agree()?;
         self.memory.check()?;
+        let in_use = table::tank_in_use(self.state.sample_rate);
+        let counted = self.memory.read(&in_use);
+        same_count("the count", self.state.nonzero_places, counted as usize)?;
+        silent_ours(&self.state, 0, counted == 0)?;
         let places = self.memory.shown(TANK_PLACES);
         for (line, (start, count)) in TANK.into_iter().enumerate() {
             memory::line_agrees(&places[start..start + count], self.rust.line(line))
@@ -265,23 +301,16 @@ fn state_untouched(should: &State, is: &State) -> Result<(), String> {
     for (should, is) in should.stores().into_iter().zip(is.stores()) {
         untouched("store after a refusal", should, is)?;
     }
+    let should_count = should.nonzero_places as usize;
+    same_count("count after a refusal", is.nonzero_places, should_count)?;
     untouched("rate after a refusal", should.sample_rate, is.sample_rate)
 }
 
-/// The stores are +0 or −0, and so are, of every line, the first `length` places and, of the predelay, all.
-fn is_silent(state: &State, memory: &[f64]) -> bool {
-    let lengths = table::tank_lengths(state.sample_rate);
-    let mut lines = TANK.into_iter().zip(lengths);
-    let quiet = |((start, _), length): ((usize, usize), u64)| {
-        memory::silent(&memory[start..start + length as usize])
-    };
-    memory::silent(&state.stores()) && lines.all(quiet)
-}
-
-/// Document 01: "yes when every place in use of the unit's lines is +0 or −0", and document 02: "only if its sixteen damping
-/// stores are also +0 or −0".
-fn silent_ours(state: &State, memory: &[f64], number: u32) -> Result<(), String> {
+/// "silent" of a state whose count should be 0 or not: that is all that it goes by, and whether "its sixteen damping stores are also +0
+/// or −0".
+fn silent_ours(state: &State, number: u32, none: bool) -> Result<(), String> {
     let mut silent = JUNK as u32;
-    number_agrees(ours::silent(state, memory, &mut silent), number)?;
-    silent_agrees(silent, number == 0 && is_silent(state, memory))
+    number_agrees(ours::silent(state, &mut silent), number)?;
+    let quiet = tally::silent(&state.stores());
+    silent_agrees(silent, number == 0 && none && quiet)
 }

@@ -1,6 +1,7 @@
 //! A long random run of one effect: several units, each ours beside the Rust's, call after call.
 
 use crate::ages::Compared;
+use crate::counts;
 use crate::random::{Random, COMMON_RATES};
 use crate::table::{CONTROL, CURVE, NUMBERS};
 
@@ -16,6 +17,9 @@ pub trait Pair: Sized {
 
     /// Whether its ticks answer ages.
     const AGED: bool = false;
+
+    /// Whether its states keep a count of the places in use that are neither +0 nor −0.
+    const COUNTED: bool = false;
 
     /// Whether a tick is two calls, of which the first answers the age: the second counts as the tick.
     const HALVED: bool = false;
@@ -44,6 +48,11 @@ pub trait Pair: Sized {
     fn ages(&self) -> Compared {
         Compared::default()
     }
+
+    /// The counts that were compared so far; none of an effect that keeps none.
+    fn counts(&self) -> counts::Compared {
+        counts::Compared::default()
+    }
 }
 
 /// What a call that went as it should was.
@@ -63,6 +72,20 @@ impl Made {
             (0, false) => Made::Other,
             _ => Made::Refused(number),
         }
+    }
+
+    /// The call's number in the table, which a directed case knows.
+    pub fn expected(self, number: u32) -> Result<(), String> {
+        let made = match self {
+            Made::Refused(number) => number,
+            _ => 0,
+        };
+        if made == number {
+            return Ok(());
+        }
+        Err(format!(
+            "directed: a call came to number {made}, where it should to {number}"
+        ))
     }
 }
 
@@ -94,15 +117,30 @@ impl Tally {
         ages.covers(self.ticks, control + self.refused[CURVE as usize])
     }
 
-    fn shown<P: Pair>(&self, ages: Compared) -> String {
+    /// What a run shows nothing of, if anything.
+    fn missing<P: Pair>(&self, ages: Compared, counts: counts::Compared) -> Option<String> {
+        let mut numbers = P::REFUSALS.iter();
+        let unmet = numbers.find(|number| self.refused[**number as usize] == 0);
+        if let Some(number) = unmet.filter(|_| self.ticks >= LONG) {
+            return Some(format!("no call was refused by number {number}"));
+        }
+        if P::AGED && !self.covered::<P>(ages) {
+            return Some("the age of some tick was not compared".into());
+        }
+        let missing = counts.missing(self.ticks + self.halves, self.ticks >= LONGER);
+        missing.filter(|_| P::COUNTED).map(String::from)
+    }
+
+    fn shown<P: Pair>(&self, ages: Compared, counts: counts::Compared) -> String {
         let each = |number: &u32| format!("{} by number {number}", self.refused[*number as usize]);
         let refused = P::REFUSALS.iter().map(each).collect::<Vec<_>>().join(", ");
         format!(
-            "{}: {} {} compared{}, {} other calls, refused: {refused}",
+            "{}: {} {} compared{}{}, {} other calls, refused: {refused}",
             P::NAME,
             self.ticks,
             P::TICKS,
             ages.shown(),
+            counts.shown(),
             self.others
         )
     }
@@ -110,6 +148,9 @@ impl Tally {
 
 /// From this many ticks on, a run must have met every refusal, or it shows nothing of the missing one.
 const LONG: u64 = 10_000;
+
+/// From this many on it must have met every kind of count: no place of a reverb is lost before the predelay has gone round.
+const LONGER: u64 = 100_000;
 
 pub fn run<P: Pair>(ticks: u64, seed: u64) -> Result<String, String> {
     let mut random = Random::new(seed);
@@ -138,15 +179,11 @@ pub fn run<P: Pair>(ticks: u64, seed: u64) -> Result<String, String> {
     units.iter().try_for_each(P::finish)?;
     let ages = units.iter().map(P::ages);
     let ages = ages.fold(Compared::default(), Compared::and);
-    let missing = P::REFUSALS
-        .iter()
-        .find(|number| tally.refused[**number as usize] == 0);
-    match missing {
-        Some(number) if ticks >= LONG => Err(format!("no call was refused by number {number}")),
-        _ if P::AGED && !tally.covered::<P>(ages) => {
-            Err("the age of some tick was not compared".into())
-        }
-        _ => Ok(tally.shown::<P>(ages)),
+    let counts = units.iter().map(P::counts);
+    let counts = counts.fold(counts::Compared::default(), counts::Compared::and);
+    match tally.missing::<P>(ages, counts) {
+        Some(missing) => Err(missing),
+        None => Ok(tally.shown::<P>(ages, counts)),
     }
 }
 

@@ -1,6 +1,8 @@
 //! The table of refusals, read from document 01, with what document 02 adds to it, and from nothing else: of each cause, whether
 //! it applies.
 
+use std::ops::Range;
+
 pub const SAMPLE_RATE: u32 = 1;
 pub const COEFFICIENT: u32 = 2;
 pub const MEMORY: u32 = 3;
@@ -43,6 +45,11 @@ pub fn as_position(place: u64) -> u32 {
 /// "every position below its line's length at that rate": the state test fails where this is true.
 pub fn position(position: u32, length: u64) -> bool {
     u64::from(position) >= length
+}
+
+/// "Number 4 also names a count above the places in use": the state test fails where this is true.
+pub fn count(count: u32, in_use: u64) -> bool {
+    u64::from(count) > in_use
 }
 
 /// "every phase at least 0 and below 1": the state test fails where this is true.
@@ -151,6 +158,15 @@ pub const TANK: [(usize, usize); 25] = {
 
 /// The tank's places, the same at every rate.
 pub const TANK_PLACES: usize = TANK[24].0 + TANK[24].1;
+
+/// The places of the tank that are in use at a rate: of each line as many as its length there.
+pub fn tank_in_use(rate: f64) -> [Range<usize>; 25] {
+    let lengths = tank_lengths(rate);
+    std::array::from_fn(|line| {
+        let (start, _) = TANK[line];
+        start..start + lengths[line] as usize
+    })
+}
 
 /// "Lengths at 44,100: combs 1116, ...; all-passes 556, ... Each is multiplied by rate/44100 and cut to its whole part, at most
 /// 4,095 and 1,499. Spread: 23 × ratio rounded half away from zero, at least 1; right lengths are left plus spread, under the

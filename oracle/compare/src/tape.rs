@@ -4,12 +4,14 @@
 //! other. What the Rust does not show of itself in that tick it shows in others from the same state (tanh.rs).
 //!
 //! Of the memory, the place of a half is compared at once. All of it, spare places too, is held against what it should be at
-//! every clearing, refusal and question, now and then between, and at the end of the run: `Memory::check` and, beside the
-//! Rust's line, `all_agrees`. Most units are at 8,000 or a little above, as a line at 192,000 has 2,304,001 places.
+//! every clearing and refusal, now and then between, and at the end of the run: `Memory::check` and, beside the Rust's line,
+//! `all_agrees`. The count that a state keeps is held against what halves have written after every accepted half, and against a
+//! reading of the line now and then. Most units are at 8,000 or a little above, as a line at 192,000 has 2,304,001 places.
 
 mod aged;
 mod arguments;
 mod call;
+mod counting;
 mod directed;
 mod draw;
 mod halves;
@@ -21,6 +23,7 @@ mod turns;
 
 use crate::ages::Compared;
 use crate::bits::{agree, same_count, untouched, JUNK};
+use crate::counts::{self, as_count, Handed};
 use crate::memory::{self, Memory};
 use crate::random::Random;
 use crate::run::{self, number_agrees, silent_agrees, Made, Pair};
@@ -30,6 +33,7 @@ use quiver_oracle::delay::{coefficient, Moving, Unit};
 use room_effects::tape_delay as ours;
 use room_effects::tape_delay::State;
 use state::{junk_state, state_untouched, zero_state, KEPT};
+use std::ops::Range;
 use tanh::Rest;
 
 pub use record::record;
@@ -47,6 +51,7 @@ pub struct Tape {
     empty: bool,
     pairs: u64,
     ages: Compared,
+    counts: counts::Compared,
 }
 
 /// The cases that random calls don't meet, then a random run.
@@ -61,9 +66,9 @@ pub fn run(ticks: u64, seed: u64) -> Result<String, String> {
     .fold((0, Compared::default()), |(pairs, ages), (more, aged)| {
         (pairs + more, ages.and(aged))
     });
+    let [ages, counts] = [ages.shown(), counting::run()?.shown()];
     let said = run::run::<Tape>(ticks, seed)?;
-    let ages = ages.shown();
-    Ok(format!("{said}; directed, {pairs} pairs{ages}"))
+    Ok(format!("{said}; directed, {pairs} pairs{ages}{counts}"))
 }
 
 /// All of the memory is compared once in this many pairs of a unit, or in as many as an eighth of its line.
@@ -74,6 +79,11 @@ const LONGEST: u64 = 150_000;
 
 fn length(rate: f64) -> u64 {
     table::delay_length(rate, table::TAPE_MAXIMUM)
+}
+
+/// All places of the line.
+fn in_use(rate: f64) -> [Range<usize>; 1] {
+    [0..length(rate) as usize]
 }
 
 impl Pair for Tape {
@@ -89,6 +99,7 @@ impl Pair for Tape {
     ];
     const TICKS: &'static str = "pairs of halves";
     const AGED: bool = true;
+    const COUNTED: bool = true;
     const HALVED: bool = true;
     type Call = Call;
 
@@ -118,13 +129,7 @@ impl Pair for Tape {
                 seed,
             } => self.start_both(call.lent, [*rate, *coefficient], *seed, number)?,
             What::Retune { .. } | What::Reset => self.clear_both(call, number)?,
-            What::Silent(None) => {
-                silent_ours(&call.state, self.memory.shown(call.lent), number)?;
-                self.memory.check()?;
-            }
-            What::Silent(Some(quiet)) => {
-                silent_ours(&call.state, &quiet.memory(call.lent), number)?
-            }
+            What::Silent => silent_ours(&call.state, number, call.state.nonzero_places == 0)?,
             What::Fill(seed) => self.fill(*seed),
             What::Read(t, tanh) => return self.read_both(call, t, *tanh, number),
             What::Store(value) => return self.store_both(call, *value, number),
@@ -143,6 +148,10 @@ impl Pair for Tape {
     fn ages(&self) -> Compared {
         self.ages
     }
+
+    fn counts(&self) -> counts::Compared {
+        self.counts
+    }
 }
 
 impl Tape {
@@ -156,6 +165,7 @@ impl Tape {
             empty: true,
             pairs: 0,
             ages: Compared::default(),
+            counts: counts::Compared::default(),
         };
         let lent = length(rate) as usize + spare;
         let call = Call::start_in(lent, rate, coefficient, 0);
@@ -168,8 +178,10 @@ impl Tape {
         length(self.state.sample_rate)
     }
 
+    /// The host writes to a place, and counts what it writes.
     fn plant(&mut self, place: usize, value: f64) {
         self.memory.plant(place, value);
+        self.state.nonzero_places = as_count(self.memory.nonzero());
         if let Some(line) = self.rust.line_mut().get_mut(place) {
             *line = value;
         }
@@ -199,7 +211,7 @@ impl Tape {
             state_untouched(&zero_state(), &state)?;
             return memory.check();
         }
-        memory.cleared(lent);
+        memory.cleared(lent, &in_use(rate));
         let next = Self {
             state,
             memory,
@@ -208,6 +220,7 @@ impl Tape {
             empty: true,
             pairs: 0,
             ages: self.ages,
+            counts: self.counts,
         };
         next.all_agrees()?;
         if self.memory.count() == 0 || next.length() <= LONGEST {
@@ -233,7 +246,7 @@ impl Tape {
             What::Retune { rate, coefficient } => self.rust.set_sample_rate(rate, coefficient),
             _ => self.rust.reset(),
         }
-        self.memory.cleared(call.lent);
+        self.memory.cleared(call.lent, &in_use(state.sample_rate));
         self.state = state;
         self.rest = None;
         self.empty = true;
@@ -256,6 +269,21 @@ impl Tape {
             smoothed_delay: state.smoothed_delay,
             delay_primed: state.delay_primed != 0,
         });
+    }
+
+    fn handed(&mut self, state: &State) -> Handed {
+        let in_use = in_use(state.sample_rate);
+        Handed::new(state.nonzero_places, &mut self.memory, &in_use)
+    }
+
+    /// The count that an accepted half has left, and the answer by it. Then the host counts anew, for the call after one that it
+    /// handed another count.
+    fn count_agrees(&mut self, handed: &Handed) -> Result<(), String> {
+        let counted = self.state.nonzero_places;
+        let none = self.counts.with(&mut self.memory, handed, counted)?;
+        silent_ours(&self.state, 0, none)?;
+        self.state.nonzero_places = as_count(self.memory.nonzero());
+        Ok(())
     }
 
     /// A refused call leaves state and memory to the bit.
@@ -287,20 +315,21 @@ impl Tape {
         Ok(())
     }
 
-    /// State, every place of the line, and the places beyond it.
+    /// State, every place of the line, and the places beyond it; the count of the places, and the answer by it.
     fn all_agrees(&self) -> Result<(), String> {
         self.states_agree()?;
         self.memory.check()?;
+        let counted = self.memory.read(&in_use(self.state.sample_rate));
+        same_count("the count", self.state.nonzero_places, counted as usize)?;
+        silent_ours(&self.state, 0, counted == 0)?;
         let line = self.memory.shown(self.length() as usize);
         memory::line_agrees(line, self.rust.line())
     }
 }
 
-/// Silent: no read waits, and every place of the line is +0 or −0.
-fn silent_ours(state: &State, memory: &[f64], number: u32) -> Result<(), String> {
+/// "silent" of a state whose count should be 0 or not: that is all that it goes by, and whether a read waits.
+fn silent_ours(state: &State, number: u32, none: bool) -> Result<(), String> {
     let mut silent = JUNK as u32;
-    number_agrees(ours::silent(state, memory, &mut silent), number)?;
-    let quiet = |length: u64| memory::silent(&memory[..length as usize]);
-    let yes = number == 0 && state.waiting == 0 && quiet(length(state.sample_rate));
-    silent_agrees(silent, yes)
+    number_agrees(ours::silent(state, &mut silent), number)?;
+    silent_agrees(silent, number == 0 && none && state.waiting == 0)
 }

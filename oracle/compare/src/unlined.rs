@@ -4,10 +4,10 @@ mod call;
 mod draw;
 
 use crate::bits::{agree, untouched, JUNK};
-use crate::memory;
 use crate::random::Random;
 use crate::run::{number_agrees, silent_agrees, Made, Pair};
 use crate::table;
+use crate::tally;
 use crate::tick::Form;
 use quiver_oracle::{Effect as _, Unlined as _};
 use room_effects::unlined::State;
@@ -143,7 +143,7 @@ impl<E: Effect<N>, const N: usize> Unlined<E, N> {
     fn silent_ours(state: &State<N>, number: u32) -> Result<(), String> {
         let mut silent = JUNK as u32;
         number_agrees(E::Ours::silent(state, &mut silent), number)?;
-        silent_agrees(silent, number == 0 && memory::silent(&state.stores))
+        silent_agrees(silent, number == 0 && tally::silent(&state.stores))
     }
 
     /// The Rust's unit gets the state that ours is handed.

@@ -5,6 +5,7 @@ use crate::{Lined, State, Tick};
 extern "C" {
     fn room_raw_chorus_tick(
         pos: &mut u32,
+        nonzero: &mut u32,
         phases: &mut [f64; 3],
         rate: f64,
         memory: *mut f64,
@@ -22,10 +23,9 @@ extern "C" {
     ) -> u32;
     fn room_raw_chorus_silent(
         pos: u32,
+        nonzero: u32,
         phases: &[f64; 3],
         rate: f64,
-        memory: *const f64,
-        places: u64,
         out: &mut u32,
     ) -> u32;
 }
@@ -49,6 +49,7 @@ lined! {
         unsafe {
             room_raw_chorus_tick(
                 &mut state.write_pos,
+                &mut state.nonzero_places,
                 &mut state.phases,
                 state.sample_rate,
                 memory.as_mut_ptr(),
@@ -67,14 +68,13 @@ lined! {
         }
     }
 
-    fn silent(state: &State, memory: &[f64], out: &mut u32) -> u32 {
+    fn silent(state: &State, out: &mut u32) -> u32 {
         unsafe {
             room_raw_chorus_silent(
                 state.write_pos,
+                state.nonzero_places,
                 &state.phases,
                 state.sample_rate,
-                memory.as_ptr(),
-                memory.len() as u64,
                 out,
             )
         }

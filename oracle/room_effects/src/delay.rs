@@ -11,6 +11,7 @@ extern "C" {
         memory: *mut f64,
         places: u64,
         write_pos: &mut u32,
+        nonzero_places: &mut u32,
         smoothed_delay: &mut f64,
         sample_rate: &mut f64,
         delay_smooth_coef: &mut f64,
@@ -24,6 +25,7 @@ extern "C" {
         memory: *mut f64,
         places: u64,
         write_pos: &mut u32,
+        nonzero_places: &mut u32,
         smoothed_delay: &mut f64,
         sample_rate: &mut f64,
         delay_smooth_coef: &mut f64,
@@ -35,6 +37,7 @@ extern "C" {
         memory: *mut f64,
         places: u64,
         write_pos: &mut u32,
+        nonzero_places: &mut u32,
         smoothed_delay: &mut f64,
         sample_rate: f64,
         delay_smooth_coef: f64,
@@ -44,6 +47,7 @@ extern "C" {
     ) -> u32;
     fn room_raw_delay_tick(
         write_pos: &mut u32,
+        nonzero_places: &mut u32,
         smoothed_delay: &mut f64,
         sample_rate: f64,
         delay_smooth_coef: f64,
@@ -63,14 +67,13 @@ extern "C" {
     ) -> u32;
     fn room_raw_delay_silent(
         write_pos: u32,
+        nonzero_places: u32,
         smoothed_delay: f64,
         sample_rate: f64,
         delay_smooth_coef: f64,
         max_delay_secs: f64,
         delay_primed: u32,
         linear_time: u32,
-        memory: *const f64,
-        places: u64,
         out: &mut u32,
     ) -> u32;
 }
@@ -79,6 +82,8 @@ extern "C" {
 #[derive(Clone, Copy, Debug)]
 pub struct State {
     pub write_pos: u32,
+    /// How many places of the line are neither +0 nor −0.
+    pub nonzero_places: u32,
     pub smoothed_delay: f64,
     pub sample_rate: f64,
     pub delay_smooth_coef: f64,
@@ -118,6 +123,7 @@ pub fn start(state: &mut State, memory: &mut [f64], settings: &Settings) -> u32 
             memory.as_mut_ptr(),
             memory.len() as u64,
             &mut state.write_pos,
+            &mut state.nonzero_places,
             &mut state.smoothed_delay,
             &mut state.sample_rate,
             &mut state.delay_smooth_coef,
@@ -141,6 +147,7 @@ pub fn retune(
             memory.as_mut_ptr(),
             memory.len() as u64,
             &mut state.write_pos,
+            &mut state.nonzero_places,
             &mut state.smoothed_delay,
             &mut state.sample_rate,
             &mut state.delay_smooth_coef,
@@ -157,6 +164,7 @@ pub fn reset(state: &mut State, memory: &mut [f64]) -> u32 {
             memory.as_mut_ptr(),
             memory.len() as u64,
             &mut state.write_pos,
+            &mut state.nonzero_places,
             &mut state.smoothed_delay,
             state.sample_rate,
             state.delay_smooth_coef,
@@ -173,6 +181,7 @@ pub fn tick(state: &mut State, memory: &mut [f64], t: &Tick, out: &mut f64, age:
     unsafe {
         room_raw_delay_tick(
             &mut state.write_pos,
+            &mut state.nonzero_places,
             &mut state.smoothed_delay,
             state.sample_rate,
             state.delay_smooth_coef,
@@ -193,18 +202,17 @@ pub fn tick(state: &mut State, memory: &mut [f64], t: &Tick, out: &mut f64, age:
     }
 }
 
-pub fn silent(state: &State, memory: &[f64], out: &mut u32) -> u32 {
+pub fn silent(state: &State, out: &mut u32) -> u32 {
     unsafe {
         room_raw_delay_silent(
             state.write_pos,
+            state.nonzero_places,
             state.smoothed_delay,
             state.sample_rate,
             state.delay_smooth_coef,
             state.max_delay_secs,
             state.delay_primed,
             state.linear_time,
-            memory.as_ptr(),
-            memory.len() as u64,
             out,
         )
     }

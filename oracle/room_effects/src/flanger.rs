@@ -5,6 +5,7 @@ use crate::{Lined, State, Tick};
 extern "C" {
     fn room_raw_flanger_tick(
         pos: &mut u32,
+        nonzero: &mut u32,
         phase: &mut f64,
         rate: f64,
         memory: *mut f64,
@@ -20,14 +21,8 @@ extern "C" {
         out: &mut [f64; 3],
         age: &mut u32,
     ) -> u32;
-    fn room_raw_flanger_silent(
-        pos: u32,
-        phase: f64,
-        rate: f64,
-        memory: *const f64,
-        places: u64,
-        out: &mut u32,
-    ) -> u32;
+    fn room_raw_flanger_silent(pos: u32, nonzero: u32, phase: f64, rate: f64, out: &mut u32)
+        -> u32;
 }
 
 lined! {
@@ -49,6 +44,7 @@ lined! {
         unsafe {
             room_raw_flanger_tick(
                 &mut state.write_pos,
+                &mut state.nonzero_places,
                 &mut state.phases[0],
                 state.sample_rate,
                 memory.as_mut_ptr(),
@@ -67,14 +63,13 @@ lined! {
         }
     }
 
-    fn silent(state: &State, memory: &[f64], out: &mut u32) -> u32 {
+    fn silent(state: &State, out: &mut u32) -> u32 {
         unsafe {
             room_raw_flanger_silent(
                 state.write_pos,
+                state.nonzero_places,
                 state.phases[0],
                 state.sample_rate,
-                memory.as_ptr(),
-                memory.len() as u64,
                 out,
             )
         }

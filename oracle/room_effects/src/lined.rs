@@ -2,10 +2,12 @@
 
 use crate::{Tick, MOST};
 
-/// The state of an effect with lines, which one write position goes round.
+/// The state of an effect with lines, which one write position goes round, with the count of their places that are neither +0 nor
+/// −0.
 #[derive(Clone, Copy, Debug)]
 pub struct State {
     pub write_pos: u32,
+    pub nonzero_places: u32,
     pub phases: [f64; MOST],
     pub sample_rate: f64,
 }
@@ -28,7 +30,7 @@ pub trait Lined {
         age: &mut u32,
     ) -> u32;
 
-    fn silent(state: &State, memory: &[f64], out: &mut u32) -> u32;
+    fn silent(state: &State, out: &mut u32) -> u32;
 }
 
 /// `Lined` by the exported functions. Tick and silent, which take phases and sines in each effect's own way, come with it.
@@ -43,6 +45,7 @@ macro_rules! lined {
                 memory: *mut f64,
                 places: u64,
                 pos: &mut u32,
+                nonzero: &mut u32,
                 phases: &mut [f64; $crate::MOST],
                 rate: &mut f64,
             ) -> u32;
@@ -51,6 +54,7 @@ macro_rules! lined {
                 memory: *mut f64,
                 places: u64,
                 pos: &mut u32,
+                nonzero: &mut u32,
                 phases: &mut [f64; $crate::MOST],
                 rate: &mut f64,
             ) -> u32;
@@ -58,6 +62,7 @@ macro_rules! lined {
                 memory: *mut f64,
                 places: u64,
                 pos: &mut u32,
+                nonzero: &mut u32,
                 phases: &mut [f64; $crate::MOST],
                 rate: f64,
             ) -> u32;
@@ -68,19 +73,20 @@ macro_rules! lined {
         impl Lined for $effect {
             fn start(s: &mut State, memory: &mut [f64], sample_rate: f64) -> u32 {
                 let (places, memory) = (memory.len() as u64, memory.as_mut_ptr());
-                let State { write_pos, phases, sample_rate: rate } = s;
-                unsafe { $start(sample_rate, memory, places, write_pos, phases, rate) }
+                let State { write_pos, nonzero_places, phases, sample_rate: rate } = s;
+                unsafe { $start(sample_rate, memory, places, write_pos, nonzero_places, phases, rate) }
             }
 
             fn retune(s: &mut State, memory: &mut [f64], sample_rate: f64) -> u32 {
                 let (places, memory) = (memory.len() as u64, memory.as_mut_ptr());
-                let State { write_pos, phases, sample_rate: rate } = s;
-                unsafe { $retune(sample_rate, memory, places, write_pos, phases, rate) }
+                let State { write_pos, nonzero_places, phases, sample_rate: rate } = s;
+                unsafe { $retune(sample_rate, memory, places, write_pos, nonzero_places, phases, rate) }
             }
 
             fn reset(s: &mut State, memory: &mut [f64]) -> u32 {
                 let (places, memory) = (memory.len() as u64, memory.as_mut_ptr());
-                unsafe { $reset(memory, places, &mut s.write_pos, &mut s.phases, s.sample_rate) }
+                let State { write_pos, nonzero_places, phases, sample_rate: rate } = s;
+                unsafe { $reset(memory, places, write_pos, nonzero_places, phases, *rate) }
             }
 
             $($rest)*

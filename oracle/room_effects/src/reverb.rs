@@ -15,6 +15,7 @@ extern "C" {
         allpass_pos_l: &mut [u32; 4],
         allpass_pos_r: &mut [u32; 4],
         predelay_pos: &mut u32,
+        nonzero_places: &mut u32,
         comb_filter_state_l: &mut [f64; 8],
         comb_filter_state_r: &mut [f64; 8],
         sample_rate: &mut f64,
@@ -28,6 +29,7 @@ extern "C" {
         allpass_pos_l: &mut [u32; 4],
         allpass_pos_r: &mut [u32; 4],
         predelay_pos: &mut u32,
+        nonzero_places: &mut u32,
         comb_filter_state_l: &mut [f64; 8],
         comb_filter_state_r: &mut [f64; 8],
         sample_rate: &mut f64,
@@ -40,6 +42,7 @@ extern "C" {
         allpass_pos_l: &mut [u32; 4],
         allpass_pos_r: &mut [u32; 4],
         predelay_pos: &mut u32,
+        nonzero_places: &mut u32,
         comb_filter_state_l: &mut [f64; 8],
         comb_filter_state_r: &mut [f64; 8],
         sample_rate: f64,
@@ -50,6 +53,7 @@ extern "C" {
         allpass_pos_l: &mut [u32; 4],
         allpass_pos_r: &mut [u32; 4],
         predelay_pos: &mut u32,
+        nonzero_places: &mut u32,
         comb_filter_state_l: &mut [f64; 8],
         comb_filter_state_r: &mut [f64; 8],
         sample_rate: f64,
@@ -69,11 +73,10 @@ extern "C" {
         allpass_pos_l: &[u32; 4],
         allpass_pos_r: &[u32; 4],
         predelay_pos: u32,
+        nonzero_places: u32,
         comb_filter_state_l: &[f64; 8],
         comb_filter_state_r: &[f64; 8],
         sample_rate: f64,
-        memory: *const f64,
-        places: u64,
         out: &mut u32,
     ) -> u32;
 }
@@ -86,13 +89,15 @@ pub struct State {
     pub allpass_pos_l: [u32; 4],
     pub allpass_pos_r: [u32; 4],
     pub predelay_pos: u32,
+    /// How many places in use are neither +0 nor −0.
+    pub nonzero_places: u32,
     pub comb_filter_state_l: [f64; 8],
     pub comb_filter_state_r: [f64; 8],
     pub sample_rate: f64,
 }
 
 impl State {
-    /// Every position and every store the same.
+    /// Every position and every store the same, and no place counted.
     pub fn even(position: u32, store: f64, sample_rate: f64) -> Self {
         Self {
             comb_pos_l: [position; 8],
@@ -100,6 +105,7 @@ impl State {
             allpass_pos_l: [position; 4],
             allpass_pos_r: [position; 4],
             predelay_pos: position,
+            nonzero_places: 0,
             comb_filter_state_l: [store; 8],
             comb_filter_state_r: [store; 8],
             sample_rate,
@@ -165,6 +171,7 @@ pub fn start(state: &mut State, memory: &mut [f64], sample_rate: f64) -> u32 {
             &mut state.allpass_pos_l,
             &mut state.allpass_pos_r,
             &mut state.predelay_pos,
+            &mut state.nonzero_places,
             &mut state.comb_filter_state_l,
             &mut state.comb_filter_state_r,
             &mut state.sample_rate,
@@ -183,6 +190,7 @@ pub fn retune(state: &mut State, memory: &mut [f64], sample_rate: f64) -> u32 {
             &mut state.allpass_pos_l,
             &mut state.allpass_pos_r,
             &mut state.predelay_pos,
+            &mut state.nonzero_places,
             &mut state.comb_filter_state_l,
             &mut state.comb_filter_state_r,
             &mut state.sample_rate,
@@ -200,6 +208,7 @@ pub fn reset(state: &mut State, memory: &mut [f64]) -> u32 {
             &mut state.allpass_pos_l,
             &mut state.allpass_pos_r,
             &mut state.predelay_pos,
+            &mut state.nonzero_places,
             &mut state.comb_filter_state_l,
             &mut state.comb_filter_state_r,
             state.sample_rate,
@@ -217,6 +226,7 @@ pub fn tick(state: &mut State, memory: &mut [f64], t: &Tick, out: &mut [f64; 2])
             &mut state.allpass_pos_l,
             &mut state.allpass_pos_r,
             &mut state.predelay_pos,
+            &mut state.nonzero_places,
             &mut state.comb_filter_state_l,
             &mut state.comb_filter_state_r,
             state.sample_rate,
@@ -233,7 +243,7 @@ pub fn tick(state: &mut State, memory: &mut [f64], t: &Tick, out: &mut [f64; 2])
     }
 }
 
-pub fn silent(state: &State, memory: &[f64], out: &mut u32) -> u32 {
+pub fn silent(state: &State, out: &mut u32) -> u32 {
     unsafe {
         room_raw_reverb_silent(
             &state.comb_pos_l,
@@ -241,11 +251,10 @@ pub fn silent(state: &State, memory: &[f64], out: &mut u32) -> u32 {
             &state.allpass_pos_l,
             &state.allpass_pos_r,
             state.predelay_pos,
+            state.nonzero_places,
             &state.comb_filter_state_l,
             &state.comb_filter_state_r,
             state.sample_rate,
-            memory.as_ptr(),
-            memory.len() as u64,
             out,
         )
     }

@@ -9,6 +9,7 @@ extern "C" {
         memory: *mut f64,
         places: u64,
         write_pos: &mut u32,
+        nonzero_places: &mut u32,
         smoothed_delay: &mut f64,
         kept_audio: &mut f64,
         kept_read: &mut f64,
@@ -24,6 +25,7 @@ extern "C" {
         memory: *mut f64,
         places: u64,
         write_pos: &mut u32,
+        nonzero_places: &mut u32,
         smoothed_delay: &mut f64,
         kept_audio: &mut f64,
         kept_read: &mut f64,
@@ -37,6 +39,7 @@ extern "C" {
         memory: *mut f64,
         places: u64,
         write_pos: &mut u32,
+        nonzero_places: &mut u32,
         smoothed_delay: &mut f64,
         kept_audio: &mut f64,
         kept_read: &mut f64,
@@ -48,6 +51,7 @@ extern "C" {
     ) -> u32;
     fn room_raw_tape_delay_read_half(
         write_pos: u32,
+        nonzero_places: u32,
         smoothed_delay: &mut f64,
         kept_audio: &mut f64,
         kept_read: &mut f64,
@@ -68,6 +72,7 @@ extern "C" {
     ) -> u32;
     fn room_raw_tape_delay_store_half(
         write_pos: &mut u32,
+        nonzero_places: &mut u32,
         smoothed_delay: f64,
         kept_audio: &mut f64,
         kept_read: &mut f64,
@@ -83,6 +88,7 @@ extern "C" {
     ) -> u32;
     fn room_raw_tape_delay_silent(
         write_pos: u32,
+        nonzero_places: u32,
         smoothed_delay: f64,
         kept_audio: f64,
         kept_read: f64,
@@ -91,8 +97,6 @@ extern "C" {
         delay_smooth_coef: f64,
         delay_primed: u32,
         waiting: u32,
-        memory: *const f64,
-        places: u64,
         out: &mut u32,
     ) -> u32;
 }
@@ -101,6 +105,8 @@ extern "C" {
 #[derive(Clone, Copy, Debug)]
 pub struct State {
     pub write_pos: u32,
+    /// How many places of the line are neither +0 nor −0.
+    pub nonzero_places: u32,
     pub smoothed_delay: f64,
     /// What a read half keeps for its store half: the audio, what was read, the mix.
     pub kept: [f64; 3],
@@ -118,7 +124,7 @@ pub struct Read {
 }
 
 // Sound: each function gets numbers, places of its own to write and a slice's address with its length, and is proved to touch
-// nothing else; of a read half and a question the slice is only read.
+// nothing else; of a read half the slice is only read.
 
 /// Writes the state; the number of the refusal, 0 for none.
 pub fn start(
@@ -135,6 +141,7 @@ pub fn start(
             memory.as_mut_ptr(),
             memory.len() as u64,
             &mut state.write_pos,
+            &mut state.nonzero_places,
             &mut state.smoothed_delay,
             audio,
             read,
@@ -161,6 +168,7 @@ pub fn retune(
             memory.as_mut_ptr(),
             memory.len() as u64,
             &mut state.write_pos,
+            &mut state.nonzero_places,
             &mut state.smoothed_delay,
             audio,
             read,
@@ -180,6 +188,7 @@ pub fn reset(state: &mut State, memory: &mut [f64]) -> u32 {
             memory.as_mut_ptr(),
             memory.len() as u64,
             &mut state.write_pos,
+            &mut state.nonzero_places,
             &mut state.smoothed_delay,
             audio,
             read,
@@ -200,6 +209,7 @@ pub fn read_half(state: &mut State, memory: &[f64], t: &Read, sum: &mut f64, age
     unsafe {
         room_raw_tape_delay_read_half(
             state.write_pos,
+            state.nonzero_places,
             &mut state.smoothed_delay,
             kept_audio,
             kept_read,
@@ -228,6 +238,7 @@ pub fn store_half(state: &mut State, memory: &mut [f64], saturated: f64, out: &m
     unsafe {
         room_raw_tape_delay_store_half(
             &mut state.write_pos,
+            &mut state.nonzero_places,
             state.smoothed_delay,
             audio,
             read,
@@ -244,11 +255,12 @@ pub fn store_half(state: &mut State, memory: &mut [f64], saturated: f64, out: &m
     }
 }
 
-pub fn silent(state: &State, memory: &[f64], out: &mut u32) -> u32 {
+pub fn silent(state: &State, out: &mut u32) -> u32 {
     let [audio, read, mix] = state.kept;
     unsafe {
         room_raw_tape_delay_silent(
             state.write_pos,
+            state.nonzero_places,
             state.smoothed_delay,
             audio,
             read,
@@ -257,8 +269,6 @@ pub fn silent(state: &State, memory: &[f64], out: &mut u32) -> u32 {
             state.delay_smooth_coef,
             state.delay_primed,
             state.waiting,
-            memory.as_ptr(),
-            memory.len() as u64,
             out,
         )
     }

@@ -5,6 +5,7 @@ use crate::{Lined, State, Tick, MOST};
 extern "C" {
     fn room_raw_vibrato_tick(
         pos: &mut u32,
+        nonzero: &mut u32,
         phase: &mut f64,
         rate: f64,
         memory: *mut f64,
@@ -18,14 +19,8 @@ extern "C" {
         out: &mut f64,
         age: &mut u32,
     ) -> u32;
-    fn room_raw_vibrato_silent(
-        pos: u32,
-        phase: f64,
-        rate: f64,
-        memory: *const f64,
-        places: u64,
-        out: &mut u32,
-    ) -> u32;
+    fn room_raw_vibrato_silent(pos: u32, nonzero: u32, phase: f64, rate: f64, out: &mut u32)
+        -> u32;
 }
 
 lined! {
@@ -47,6 +42,7 @@ lined! {
         unsafe {
             room_raw_vibrato_tick(
                 &mut state.write_pos,
+                &mut state.nonzero_places,
                 &mut state.phases[0],
                 state.sample_rate,
                 memory.as_mut_ptr(),
@@ -63,14 +59,13 @@ lined! {
         }
     }
 
-    fn silent(state: &State, memory: &[f64], out: &mut u32) -> u32 {
+    fn silent(state: &State, out: &mut u32) -> u32 {
         unsafe {
             room_raw_vibrato_silent(
                 state.write_pos,
+                state.nonzero_places,
                 state.phases[0],
                 state.sample_rate,
-                memory.as_ptr(),
-                memory.len() as u64,
                 out,
             )
         }

@@ -5,7 +5,7 @@ use super::call::{Call, What};
 use super::Delay;
 use crate::ages::{self, Compared};
 use crate::random::Random;
-use crate::run::Pair as _;
+use crate::run::{Made, Pair as _};
 use room_effects::delay::{Settings, State, Tick};
 
 /// A power of two, so that time and milliseconds for a whole distance are exact.
@@ -61,21 +61,20 @@ fn tick<const LINEAR: bool>(target: f64, mix: f64) -> Tick {
     }
 }
 
-fn made<const LINEAR: bool>(
+/// A call that is lent all the unit's memory.
+pub fn made<const LINEAR: bool>(
     unit: &mut Delay<LINEAR>,
     state: State,
     what: What,
-) -> Result<(), String> {
+) -> Result<Made, String> {
     let call = Call {
         state,
         planted: None,
         lent: unit.memory.count(),
         what,
     };
-    match unit.call(&call) {
-        Ok(_) => Ok(()),
-        Err(message) => Err(format!("directed, {}\n{message}", call.shown())),
-    }
+    unit.call(&call)
+        .map_err(|message| format!("directed, {}\n{message}", call.shown()))
 }
 
 /// Ticks from this state, which must read here and answer this age, and so must the reading.
@@ -128,9 +127,9 @@ fn after_clearings<const LINEAR: bool>(unit: &mut Delay<LINEAR>) -> Result<(), S
     for clearing in [What::Start { settings, seed: 1 }, retune, What::Reset] {
         let state = unit.state;
         match clearing {
-            What::Start { .. } => unit.call(&Call::start_in(lent, settings, 1)).map(|_| ())?,
+            What::Start { .. } => unit.call(&Call::start_in(lent, settings, 1))?,
             other => made(unit, state, other)?,
-        }
+        };
         let cleared = unit.state;
         aged(unit, cleared, 7.5, 7.5, 8)?;
         let read = 2.0 + (7.5 - 2.0) * COEFFICIENT;

@@ -1,8 +1,8 @@
 //! A call of the delay, and its number by the table.
 
-use super::{junk_state, length, places};
+use super::state::junk_state;
+use super::{length, places};
 use crate::bits::shown;
-use crate::memory::Quiet;
 use crate::table;
 use room_effects::delay::{Settings, State, Tick};
 use room_effects::MOST_PORTS;
@@ -28,8 +28,7 @@ pub enum What {
         coefficient: f64,
     },
     Reset,
-    /// Of the unit's memory or of one that hardly sounds.
-    Silent(Option<Quiet>),
+    Silent,
     Tick(Tick),
 }
 
@@ -44,7 +43,7 @@ impl Call {
         }
     }
 
-    /// Document 01's order: start 1, 2, 3; retune 4, 1, 2, 3; reset and silent 4, 3; tick 4, 3, 5, 6.
+    /// The documents' order: start 1, 2, 3; retune 4, 1, 2, 3; reset 4, 3; silent 4; tick 4, 3, 5, 6.
     pub fn number(&self) -> u32 {
         let state = (table::STATE, misfits(&self.state));
         let sample_rate = |rate: f64| (table::SAMPLE_RATE, table::sample_rate(rate));
@@ -69,7 +68,8 @@ impl Call {
                 coefficient(*new),
                 memory(table::delay_length(*rate, self.state.max_delay_secs)),
             ]),
-            What::Reset | What::Silent(_) => table::first(&[state, memory_now]),
+            What::Reset => table::first(&[state, memory_now]),
+            What::Silent => table::first(&[state]),
             What::Tick(t) => {
                 let [control, curve] = causes(t, self.state.linear_time != 0);
                 table::first(&[state, memory_now, control, curve])
@@ -84,6 +84,7 @@ impl Call {
         }
         let State {
             write_pos,
+            nonzero_places,
             delay_primed,
             linear_time,
             ..
@@ -97,7 +98,7 @@ impl Call {
         let lent = self.lent;
         lines
             + &format!(
-                "\n  position {write_pos}\n  primed {delay_primed:#x}, linear {linear_time:#x}\n  {numbers}\n  {lent} places"
+                "\n  position {write_pos}, count {nonzero_places}\n  primed {delay_primed:#x}, linear {linear_time:#x}\n  {numbers}\n  {lent} places"
             )
     }
 }
@@ -119,11 +120,7 @@ impl What {
                 shown(&[("new rate", *rate), ("new coefficient", *coefficient)])
             ),
             What::Reset => "reset:".into(),
-            What::Silent(None) => "silent:".into(),
-            What::Silent(Some(Quiet { seed, place, sound })) => format!(
-                "silent, zeros {seed}, place {place}:\n  {}",
-                shown(&[("sound", *sound)])
-            ),
+            What::Silent => "silent:".into(),
             What::Tick(t) => {
                 let [audio, time, feedback, mix] = t.ports;
                 let numbers = shown(&[
@@ -144,6 +141,7 @@ fn misfits(state: &State) -> bool {
     table::sample_rate(state.sample_rate)
         || table::maximum(state.max_delay_secs)
         || table::position(state.write_pos, length)
+        || table::count(state.nonzero_places, length)
         || table::coefficient(state.delay_smooth_coef)
         || table::distance(state.delay_primed != 0, state.smoothed_delay, length)
 }

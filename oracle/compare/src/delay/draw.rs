@@ -1,19 +1,16 @@
 //! Calls for a delay: mostly ticks, now and then one that must be refused.
 
+use super::arguments::{coefficient_at, settings, tick, wild, wrong_tick};
 use super::call::{Call, What};
 use super::{length, places, Delay, LONGEST};
-use crate::memory::Quiet;
+use crate::counts;
 use crate::random::Random;
 use crate::table;
 use crate::table::as_position;
-use quiver_oracle::delay::coefficient;
-use room_effects::delay::{Settings, State, Tick};
+use room_effects::delay::{Settings, State};
 
 /// Clearings are much rarer than a line is long, so that most reads find what ticks have stored; a short line counts as this long.
 const SELDOM: u64 = 200;
-
-/// Most lines are no longer than this, so that ticks go round them many times.
-const USUAL: u64 = 4_000;
 
 /// No start is lent more places than this, so that the run goes on; the long line has a row of its own.
 const MOST_LENT: u64 = 500_000;
@@ -25,18 +22,24 @@ impl<const LINEAR: bool> Delay<LINEAR> {
         }
         let state = match random.below(1024) {
             0..=31 => return self.wrong(random),
-            32..=35 => return self.lent_enough(self.state, What::Silent(None), random),
-            36..=39 => return self.question_of_quiet(random),
+            32..=39 => return self.question(random),
             40..=71 => self.at_any_state(random),
             72..=73 => self.at_other_settings(random),
+            74..=137 => self.at_any_count(random),
             _ => self.state,
         };
         let t = tick(&state, random);
         let call = self.lent_enough(state, What::Tick(t), random);
-        Call {
-            planted: self.planted(random),
-            ..call
+        self.counted_in(call, random)
+    }
+
+    /// The call with what the host plants before it, if anything: that counts in the state, unless it is to be handed another count.
+    fn counted_in(&self, mut call: Call, random: &mut Random) -> Call {
+        call.planted = self.planted(random);
+        if call.state.nonzero_places == self.state.nonzero_places {
+            call.state.nonzero_places = self.memory.count_with(call.planted.as_slice());
         }
+        call
     }
 
     /// Any float now and then, and mostly an ordinary one over the other kind that the last tick stored.
@@ -130,7 +133,7 @@ impl<const LINEAR: bool> Delay<LINEAR> {
             0 => return wrong_start::<LINEAR>(rate, coefficient, random),
             1 => What::Retune { rate, coefficient },
             2 => What::Reset,
-            3 => What::Silent(None),
+            3 => What::Silent,
             _ => What::Tick(wrong_tick(&self.state, random)),
         };
         let mut call = Call {
@@ -147,10 +150,11 @@ impl<const LINEAR: bool> Delay<LINEAR> {
         call
     }
 
-    /// A state that the test refuses, by its position, its distance, its rate, its coefficient, its maximum or several of them.
+    /// A state that the test refuses, by its position, its distance, its rate, its coefficient, its maximum, its count or several of
+    /// them.
     fn wrong_state(&self, random: &mut Random) -> State {
         let mut state = self.state;
-        let wrong = 1 + random.below(31);
+        let wrong = 1 + random.below(63);
         if wrong & 1 != 0 {
             state.write_pos = random.wrong_position(self.length());
         }
@@ -171,7 +175,18 @@ impl<const LINEAR: bool> Delay<LINEAR> {
         if wrong & 16 != 0 {
             state.max_delay_secs = random.wrong_maximum();
         }
+        if wrong & 32 != 0 {
+            state.nonzero_places = counts::wrong(self.length(), random);
+        }
         state
+    }
+
+    /// Another count: that of no memory that the unit has.
+    fn at_any_count(&self, random: &mut Random) -> State {
+        State {
+            nonzero_places: counts::drawn(self.length(), random),
+            ..self.state
+        }
     }
 
     /// Another position, another glide, another coefficient; now and then the other mode, and flags that are on otherwise.
@@ -205,6 +220,7 @@ impl<const LINEAR: bool> Delay<LINEAR> {
         let length = table::delay_length(sample_rate, maximum);
         State {
             write_pos: as_position(random.below(length + length / 16)),
+            nonzero_places: counts::drawn(length, random),
             smoothed_delay: random.distance(length),
             delay_primed: 1,
             sample_rate,
@@ -213,155 +229,11 @@ impl<const LINEAR: bool> Delay<LINEAR> {
         }
     }
 
-    /// Whether a memory is silent that holds zeros but for one place.
-    fn question_of_quiet(&self, random: &mut Random) -> Call {
-        let lent = self.memory.count();
-        let quiet = Quiet::drawn(lent, self.length() as usize, random);
-        Call {
-            state: self.state,
-            planted: None,
-            lent,
-            what: What::Silent(Some(quiet)),
-        }
-    }
-}
-
-/// Not what ordinary audio can come to.
-fn wild(x: f64) -> bool {
-    !(x.abs() < 1_000.0)
-}
-
-/// A tick that a unit in this state accepts, its audio mostly ordinary. What is not finite doesn't get into the line, what is
-/// merely huge does. Each port is unset one time in five, and its number is then any; so are what the mode doesn't read and,
-/// now and then, the mask's other bits.
-pub fn tick(state: &State, random: &mut Random) -> Tick {
-    let mut t = if random.one_in(16) {
-        tick_at_ends(state, random)
-    } else {
-        ordinary_tick(state, random)
-    };
-    let audio = &mut t.ports[0];
-    if audio.is_finite() && wild(*audio) && !random.one_in(16) {
-        *audio = random.ordinary_audio();
-    }
-    t
-}
-
-fn ordinary_tick(state: &State, random: &mut Random) -> Tick {
-    let linear = state.linear_time != 0;
-    let mut t = Tick {
-        set: if random.one_in(8) {
-            random.bits() as u32 & !15
-        } else {
-            0
-        },
-        ports: [
-            random.mostly_ordinary_audio(),
-            if linear {
-                seconds(state, random)
-            } else {
-                unread(random)
-            },
-            random.unit_feedback(),
-            random.control(),
-        ],
-        milliseconds: if linear {
-            unread(random)
-        } else {
-            milliseconds(state, random)
-        },
-    };
-    for (i, value) in t.ports.iter_mut().enumerate() {
-        if random.one_in(5) {
-            *value = random.any();
-        } else {
-            t.set |= 1 << i;
-        }
-    }
-    t
-}
-
-/// Controls at the ends of their range and distances at the ends of the line: the audio is multiplied by exactly 0 or 1, and at
-/// the far end the older of the two places read is the one to be written.
-fn tick_at_ends(state: &State, random: &mut Random) -> Tick {
-    Tick {
-        set: 15,
-        ports: [
-            random.extreme(),
-            random.of(&[0.0, -0.0, state.max_delay_secs]),
-            random.of(&[0.0, -0.0, 0.99]),
-            random.of(&[0.0, -0.0, 1.0]),
-        ],
-        milliseconds: random.of(&[0.0, f64::INFINITY, f64::NEG_INFINITY, f64::MAX]),
-    }
-}
-
-/// What the mode doesn't read: a NaN as likely as a number.
-fn unread(random: &mut Random) -> f64 {
-    let (any, nan, control) = (random.any(), random.nan(), random.control());
-    random.of(&[any, nan, control])
-}
-
-/// Some of the arguments wrong, several at once too, so that the order of the causes shows; now and then none.
-fn wrong_tick(state: &State, random: &mut Random) -> Tick {
-    let mut t = tick(state, random);
-    for control in &mut t.ports[1..] {
-        if random.one_in(4) {
-            *control = random.wrong_control();
-        }
-    }
-    if random.one_in(3) {
-        t.milliseconds = random.nan();
-    }
-    t
-}
-
-/// A time for linear mode, in and around 0 to the maximum.
-fn seconds(state: &State, random: &mut Random) -> f64 {
-    let maximum = state.max_delay_secs;
-    match random.below(8) {
-        0 => random.of(&[0.0, -0.0, maximum, maximum.next_up(), maximum.next_down()]),
-        1 => whole_distance(state, random) / state.sample_rate,
-        2 => random.within(-0.2 * maximum, 1.2 * maximum),
-        3 => random.control(),
-        _ => random.within(0.0, maximum),
-    }
-}
-
-/// A time for exponential mode: any number, mostly one at which the line is read between its ends.
-fn milliseconds(state: &State, random: &mut Random) -> f64 {
-    let most = state.max_delay_secs * 1_000.0;
-    match random.below(8) {
-        0 => random.of(&[
-            0.0,
-            -0.0,
-            1.0,
-            most,
-            f64::INFINITY,
-            f64::NEG_INFINITY,
-            f64::MAX,
-            -1.0,
-        ]),
-        1 => whole_distance(state, random) * 1_000.0 / state.sample_rate,
-        2 => random.within(-0.2 * most, 1.2 * most),
-        3 => random.control(),
-        _ => random.within(0.0, most),
-    }
-}
-
-/// A distance in whole places, the ends of the line and beyond among them.
-fn whole_distance(state: &State, random: &mut Random) -> f64 {
-    let length = length(state);
-    let any = random.below(length + 2);
-    random.of(&[0, 1, any, any, length - 1, length]) as f64
-}
-
-/// What the Rust works out at this rate, or any.
-fn coefficient_at(rate: f64, random: &mut Random) -> f64 {
-    if random.one_in(4) {
-        coefficient(rate)
-    } else {
-        random.coefficient()
+    /// Whether a unit is silent, by its own count or by any other.
+    fn question(&self, random: &mut Random) -> Call {
+        let (own, other) = (self.state, self.at_any_count(random));
+        let state = random.of(&[own, other]);
+        self.lent_enough(state, What::Silent, random)
     }
 }
 
@@ -379,41 +251,6 @@ fn needed(state: &State, what: &What) -> usize {
 fn short(needed: usize, random: &mut Random) -> usize {
     let any = random.below(needed as u64) as usize;
     random.of(&[needed - 1, needed - 1, 0, any])
-}
-
-/// A maximum, held or not, with which the line is seldom a long one.
-fn maximum(rate: f64, random: &mut Random) -> f64 {
-    let whole = (8 + random.below(USUAL)) as f64 / rate;
-    let nan = random.nan();
-    match random.below(32) {
-        0..=3 => random.of(&[whole, whole.next_up(), whole.next_down()]),
-        4..=5 => random.of(&[
-            0.001,
-            0.001f64.next_up(),
-            0.001f64.next_down(),
-            0.0,
-            -0.0,
-            -1.0,
-            -f64::MAX,
-        ]),
-        6 => random.of(&[2.0, f64::INFINITY, f64::NEG_INFINITY, nan]),
-        7 => random.of(&[60.0, 60.0f64.next_up(), 1e308]),
-        _ => random.within(0.001, USUAL as f64 / rate),
-    }
-}
-
-fn settings<const LINEAR: bool>(
-    sample_rate: f64,
-    coefficient: f64,
-    random: &mut Random,
-) -> Settings {
-    let on = random.on();
-    Settings {
-        sample_rate,
-        delay_smooth_coef: coefficient,
-        max_delay_secs: maximum(sample_rate, random),
-        linear_time: if LINEAR { on } else { 0 },
-    }
 }
 
 /// A start in as much memory as it needs or in a little more; in too little where it needs very much.

@@ -1,12 +1,13 @@
 //! Stored answers of the Rust for the delay.
 
 use super::call::causes;
-use super::{draw, in_rust, length, KIND};
+use super::{arguments, in_rust, length, KIND};
 use crate::ages;
 use crate::bits::word;
 use crate::random::Random;
 use crate::table;
 use crate::table::as_position;
+use crate::tally;
 use quiver_oracle::delay::{Moving, Unit};
 use room_effects::delay::{State, Tick};
 
@@ -46,7 +47,7 @@ const CLEARINGS: [(u64, Option<Pace>); 4] =
     [(3, None), (33, Some(HIGH)), (35, None), (73, Some(JUMP))];
 
 /// Answers of the Rust, and of nothing of ours, to accepted calls, for a program that replays them with no Rust at hand. The Rust
-/// knows no ages: they are those of the reading.
+/// knows no ages and no counts: they are those of the readings, the counts of the Rust's line.
 ///
 /// A file is one unit's calls from its start on, as those of the effects with sweeps are. First come six words for the start,
 /// which is no record, each a u64, little-endian:
@@ -60,7 +61,7 @@ const CLEARINGS: [(u64, Option<Pace>); 4] =
 /// | 4 | bits of the glide coefficient |
 /// | 5 | 1 for linear mode, 0 for exponential |
 ///
-/// Then a list of records of 12 words, with nothing between or after them:
+/// Then a list of records of 13 words, with nothing between or after them:
 ///
 /// | word | tick | retune | reset |
 /// |---|---|---|---|
@@ -73,6 +74,7 @@ const CLEARINGS: [(u64, Option<Pace>); 4] =
 /// | 9 | bits of the glide distance after the call | likewise | likewise |
 /// | 10 | 1 if primed after the call, else 0 | likewise | likewise |
 /// | 11 | the age, a plain number | 0 | 0 |
+/// | 12 | how many places of the line are neither +0 nor −0 after the call, a plain number | likewise | likewise |
 ///
 /// A port that is unset has any float, which the tick must not read, and so has what the mode doesn't read. Every NaN, going in
 /// or coming out, is written as 0x7ff8000000000000.
@@ -97,13 +99,13 @@ pub fn record<const LINEAR: bool>(ticks: u64, seed: u64) -> Result<Vec<u64>, Str
         {
             words.extend(cleared(&mut unit, pace.as_ref()));
         }
-        let t = draw::tick(&state(&unit), &mut random);
+        let t = arguments::tick(&state(&unit), &mut random);
         words.extend(ticked(&mut unit, &t)?);
     }
     Ok(words)
 }
 
-/// What the draws go by.
+/// What the draws and the ages go by: no count.
 fn state(unit: &Unit) -> State {
     let Moving {
         write_pos,
@@ -112,6 +114,7 @@ fn state(unit: &Unit) -> State {
     } = unit.moving();
     State {
         write_pos: as_position(write_pos as u64),
+        nonzero_places: 0,
         smoothed_delay,
         delay_primed: u32::from(delay_primed),
         sample_rate: unit.sample_rate(),
@@ -134,7 +137,7 @@ fn cleared(unit: &mut Unit, pace: Option<&Pace>) -> Vec<u64> {
     };
     let mut words = vec![code, 0, 0, 0, 0, rate, coefficient, 0];
     words.extend(left(unit));
-    words.push(0);
+    words.extend([0, tally::nonzero(unit.line())]);
     words
 }
 
@@ -149,11 +152,11 @@ fn ticked(unit: &mut Unit, t: &Tick) -> Result<Vec<u64>, String> {
     words.extend(t.ports.map(word));
     words.extend([word(t.milliseconds), word(out)]);
     words.extend(left(unit));
-    words.push(age);
+    words.extend([age, tally::nonzero(unit.line())]);
     Ok(words)
 }
 
-/// The words of what a call leaves.
+/// The words of what a call leaves in the unit, but for the count.
 fn left(unit: &Unit) -> [u64; 3] {
     let Moving {
         write_pos,

@@ -1,8 +1,7 @@
 //! A call of an effect with lines, and its number by the table.
 
-use super::{junk_state, length, Effect};
+use super::{junk_state, length, needed, Effect};
 use crate::bits::shown;
-use crate::memory::Quiet;
 use crate::table;
 use room_effects::{State, Tick};
 
@@ -24,8 +23,7 @@ pub enum What {
     },
     Retune(f64),
     Reset,
-    /// Of the unit's memory or of one that hardly sounds.
-    Silent(Option<Quiet>),
+    Silent,
     Tick(Tick),
 }
 
@@ -40,7 +38,7 @@ impl Call {
         }
     }
 
-    /// Document 01's order: start 1, 3; retune 4, 1, 3; reset and silent 4, 3; tick 4, 3, 5, 6.
+    /// The documents' order: start 1, 3; retune 4, 1, 3; reset 4, 3; silent 4; tick 4, 3, 5, 6.
     pub fn number<E: Effect>(&self) -> u32 {
         let state = (table::STATE, misfits::<E>(&self.state));
         let sample_rate = |rate: f64| (table::SAMPLE_RATE, table::sample_rate(rate));
@@ -53,7 +51,8 @@ impl Call {
         match &self.what {
             What::Start { rate, .. } => table::first(&[sample_rate(*rate), memory(*rate)]),
             What::Retune(rate) => table::first(&[state, sample_rate(*rate), memory(*rate)]),
-            What::Reset | What::Silent(_) => table::first(&[state, memory_now]),
+            What::Reset => table::first(&[state, memory_now]),
+            What::Silent => table::first(&[state]),
             What::Tick(t) => {
                 let [control, curve] = E::FORM.causes(t);
                 table::first(&[state, memory_now, control, curve])
@@ -68,11 +67,7 @@ impl Call {
             }
             What::Retune(rate) => format!("retune:\n  {}", shown(&[("new rate", *rate)])),
             What::Reset => "reset:".into(),
-            What::Silent(None) => "silent:".into(),
-            What::Silent(Some(Quiet { seed, place, sound })) => format!(
-                "silent, zeros {seed}, place {place}:\n  {}",
-                shown(&[("sound", *sound)])
-            ),
+            What::Silent => "silent:".into(),
             What::Tick(t) => format!("tick:\n  {}", E::FORM.listed(t)),
         };
         if let Some((place, value)) = self.planted {
@@ -80,19 +75,24 @@ impl Call {
         }
         let State {
             write_pos,
+            nonzero_places,
             phases,
             sample_rate,
         } = self.state;
         let phases = shown(&phases.map(|phase| ("phase", phase))[..E::STEPS.len()]);
         let rate = shown(&[("rate", sample_rate)]);
         let lent = self.lent;
-        lines + &format!("\n  position {write_pos}\n  {phases}\n  {rate}\n  {lent} places")
+        lines
+            + &format!(
+                "\n  position {write_pos}, count {nonzero_places}\n  {phases}\n  {rate}\n  {lent} places"
+            )
     }
 }
 
 fn misfits<E: Effect>(state: &State) -> bool {
     table::sample_rate(state.sample_rate)
         || table::position(state.write_pos, length::<E>(state.sample_rate))
+        || table::count(state.nonzero_places, needed::<E>(state.sample_rate) as u64)
         || state.phases[..E::STEPS.len()]
             .iter()
             .copied()

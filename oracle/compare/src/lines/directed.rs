@@ -4,8 +4,8 @@ use super::call::{Call, What};
 use super::{distances, Effect, Lines};
 use crate::ages::{self, Compared};
 use crate::random::Random;
-use crate::run::Pair as _;
-use room_effects::{Tick, MOST};
+use crate::run::{Made, Pair as _};
+use room_effects::{State, Tick, MOST};
 
 /// At each rate no more whole distances than this are tried.
 const WHOLES: u64 = 400;
@@ -42,16 +42,19 @@ fn tick<E: Effect>(curves: [f64; MOST], depth: f64, mix: f64) -> Tick {
 }
 
 fn made<E: Effect>(unit: &mut Lines<E>, what: What) -> Result<(), String> {
+    made_from(unit, unit.state, what).map(|_| ())
+}
+
+/// A call that is lent all the unit's memory.
+pub fn made_from<E: Effect>(unit: &mut Lines<E>, state: State, what: What) -> Result<Made, String> {
     let call = Call {
-        state: unit.state,
+        state,
         planted: None,
         lent: unit.memory.count(),
         what,
     };
-    match unit.call(&call) {
-        Ok(_) => Ok(()),
-        Err(message) => Err(format!("directed, {}\n{message}", call.shown::<E>())),
-    }
+    unit.call(&call)
+        .map_err(|message| format!("directed, {}\n{message}", call.shown::<E>()))
 }
 
 /// Ticks with these sines, which must answer this age, and so must the reading.

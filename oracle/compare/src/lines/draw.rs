@@ -2,7 +2,7 @@
 
 use super::call::{Call, What};
 use super::{length, needed, Effect, Lines};
-use crate::memory::Quiet;
+use crate::counts;
 use crate::random::Random;
 use crate::table;
 use crate::table::as_position;
@@ -17,18 +17,24 @@ impl<E: Effect> Lines<E> {
         let t = tick::<E>(random);
         let state = match random.below(1024) {
             0..=31 => return self.wrong(random),
-            32..=35 => return self.lent_enough(self.state, What::Silent(None), random),
-            36..=39 => return self.question_of_quiet(random),
+            32..=39 => return self.question(random),
             40..=63 => self.at_any_state(random),
             64..=71 => self.near_wrap(&t, random),
             72..=73 => self.at_another_rate(random),
+            74..=137 => self.at_any_count(random),
             _ => self.state,
         };
         let call = self.lent_enough(state, What::Tick(t), random);
-        Call {
-            planted: self.planted(random),
-            ..call
+        self.counted_in(call, random)
+    }
+
+    /// The call with what the host plants before it, if anything: that counts in the state, unless it is to be handed another count.
+    fn counted_in(&self, mut call: Call, random: &mut Random) -> Call {
+        call.planted = self.planted(random);
+        if call.state.nonzero_places == self.state.nonzero_places {
+            call.state.nonzero_places = self.memory.count_with(call.planted.as_slice());
         }
+        call
     }
 
     /// Any float now and then. Where the line feeds back, mostly an ordinary one over the other kind that the last tick stored.
@@ -114,7 +120,7 @@ impl<E: Effect> Lines<E> {
             0 => return wrong_start::<E>(rate, random),
             1 => What::Retune(rate),
             2 => What::Reset,
-            3 => What::Silent(None),
+            3 => What::Silent,
             _ => What::Tick(E::FORM.draw_wrong(random)),
         };
         let state = if random.one_in(3) {
@@ -134,10 +140,10 @@ impl<E: Effect> Lines<E> {
         }
     }
 
-    /// A state that the test refuses, by its position, a phase, its rate or several of them.
+    /// A state that the test refuses, by its position, a phase, its rate, its count or several of them.
     fn wrong_state(&self, random: &mut Random) -> State {
         let mut state = self.state;
-        let wrong = 1 + random.below(7);
+        let wrong = 1 + random.below(15);
         if wrong & 1 != 0 {
             state.write_pos = random.wrong_position(self.length());
         }
@@ -147,7 +153,20 @@ impl<E: Effect> Lines<E> {
         if wrong & 4 != 0 {
             state.sample_rate = random.wrong_sample_rate();
         }
+        if wrong & 8 != 0 {
+            let in_use = needed::<E>(self.state.sample_rate);
+            state.nonzero_places = counts::wrong(in_use as u64, random);
+        }
         state
+    }
+
+    /// Another count: that of no memory that the unit has.
+    fn at_any_count(&self, random: &mut Random) -> State {
+        let in_use = needed::<E>(self.state.sample_rate);
+        State {
+            nonzero_places: counts::drawn(in_use as u64, random),
+            ..self.state
+        }
     }
 
     /// Another position and other phases.
@@ -184,21 +203,17 @@ impl<E: Effect> Lines<E> {
         let length = length::<E>(sample_rate);
         State {
             write_pos: as_position(random.below(length + length / 16)),
+            nonzero_places: counts::drawn(needed::<E>(sample_rate) as u64, random),
             sample_rate,
             ..self.state
         }
     }
 
-    /// Whether a memory is silent that holds zeros but for one place.
-    fn question_of_quiet(&self, random: &mut Random) -> Call {
-        let lent = self.memory.count();
-        let quiet = Quiet::drawn(lent, needed::<E>(self.state.sample_rate), random);
-        Call {
-            state: self.state,
-            planted: None,
-            lent,
-            what: What::Silent(Some(quiet)),
-        }
+    /// Whether a unit is silent, by its own count or by any other.
+    fn question(&self, random: &mut Random) -> Call {
+        let (own, other) = (self.state, self.at_any_count(random));
+        let state = random.of(&[own, other]);
+        self.lent_enough(state, What::Silent, random)
     }
 }
 

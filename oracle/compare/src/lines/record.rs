@@ -4,6 +4,7 @@ use super::{distances, draw, length, Effect};
 use crate::ages;
 use crate::bits::word;
 use crate::random::Random;
+use crate::tally;
 use quiver_oracle::{Effect as _, Lined as _};
 use room_effects::{Tick, MOST};
 
@@ -22,7 +23,7 @@ const CLEARINGS: [(u64, Option<f64>); 4] =
     [(30, None), (40, Some(HIGH)), (70, None), (77, Some(LOW))];
 
 /// Answers of the Rust, and of nothing of ours, to accepted calls, for a program that replays them with no Rust at hand. The Rust
-/// knows no ages: they are those of the reading.
+/// knows no ages and no counts: they are those of the readings, the counts of those of the Rust's lines that ours correspond to.
 ///
 /// A file is one unit's calls from its start on, in order: each call goes to the state and the memory that the one before it
 /// left. All of it is words, each a u64, little-endian. First come three words for the start, which is no record:
@@ -46,14 +47,15 @@ const CLEARINGS: [(u64, Option<f64>); 4] =
 /// | one | the position after the call, a plain number | likewise | likewise |
 /// | one for each phase | its bits after the call | likewise | likewise |
 /// | one | the age, a plain number | 0 | 0 |
+/// | one | how many places in use are neither +0 nor −0 after the call, a plain number | likewise | likewise |
 ///
 /// So the words of a record are:
 ///
-/// | effect | ports | frequency | sines | samples | position | phases | age | in all |
-/// |---|---|---|---|---|---|---|---|---|
-/// | 4 vibrato | 2 audio, 3 depth, 4 mix | 5 | 6 | 7 | 8 | 9 | 10 | 11 |
-/// | 2 chorus | 2 audio, 3 depth, 4 mix | 5 | 6 to 8 | 9 mono, 10 left, 11 right | 12 | 13 to 15 | 16 | 17 |
-/// | 3 flanger | 2 audio, 3 depth, 4 feedback, 5 mix | 6 | 7, 8 | 9 mono, 10 left, 11 right | 12 | 13 | 14 | 15 |
+/// | effect | ports | frequency | sines | samples | position | phases | age | count | in all |
+/// |---|---|---|---|---|---|---|---|---|---|
+/// | 4 vibrato | 2 audio, 3 depth, 4 mix | 5 | 6 | 7 | 8 | 9 | 10 | 11 | 12 |
+/// | 2 chorus | 2 audio, 3 depth, 4 mix | 5 | 6 to 8 | 9 mono, 10 left, 11 right | 12 | 13 to 15 | 16 | 17 | 18 |
+/// | 3 flanger | 2 audio, 3 depth, 4 feedback, 5 mix | 6 | 7, 8 | 9 mono, 10 left, 11 right | 12 | 13 | 14 | 15 | 16 |
 ///
 /// A port that is unset has any float, which the tick must not read. Every NaN, going in or coming out, is written as
 /// 0x7ff8000000000000.
@@ -94,7 +96,7 @@ fn cleared<E: Effect>(unit: &mut E::Rust, rate: Option<f64>) -> Vec<u64> {
     words.extend([rate_word, 0]);
     words.resize(words.len() + E::FORM.sines.len(), 0);
     words.extend(left::<E>(unit, [0.0; MOST]));
-    words.push(0);
+    words.extend([0, counted::<E>(unit)]);
     words
 }
 
@@ -104,7 +106,7 @@ fn ticked<E: Effect>(unit: &mut E::Rust, t: &Tick) -> Result<Vec<u64>, String> {
     let age = ages::of(&distances::<E>(unit.sample_rate(), t));
     let out = E::FORM.in_rust(unit, t)?;
     words.extend(left::<E>(unit, out));
-    words.push(age);
+    words.extend([age, counted::<E>(unit)]);
     Ok(words)
 }
 
@@ -114,4 +116,9 @@ fn left<E: Effect>(unit: &E::Rust, out: [f64; MOST]) -> Vec<u64> {
     words.push(unit.write_pos() as u64);
     words.extend(unit.phases().iter().copied().map(word));
     words
+}
+
+fn counted<E: Effect>(unit: &E::Rust) -> u64 {
+    let lines = unit.lines().iter().step_by(E::RUST_LINES_FOR_ONE);
+    lines.map(|line| tally::nonzero(line)).sum()
 }

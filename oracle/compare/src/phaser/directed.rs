@@ -2,10 +2,10 @@
 
 use super::{one_tick, two_ticks, with_right, Phaser, Way, FORM};
 use crate::bits::{agree, untouched};
-use crate::memory;
 use crate::random::Random;
 use crate::run::Pair as _;
 use crate::table;
+use crate::tally;
 use crate::unlined::{Call, Unlined};
 use quiver_oracle::phaser::{coefficient, Unit};
 use quiver_oracle::{Effect as _, Unlined as _};
@@ -237,7 +237,7 @@ fn overflow() -> Result<(), String> {
         asked(&mut unit)?;
         let reset = Call::Reset(unit.ours);
         made(&mut unit, &reset)?;
-        must("a reset clears", memory::silent(&unit.ours.stores))?;
+        must("a reset clears", tally::silent(&unit.ours.stores))?;
     }
     Ok(())
 }
@@ -259,15 +259,15 @@ fn idle_sound() -> Result<(), String> {
         .filter(|place| place % STAGES < 2)
         .map(|place| unit.ours.stores[place])
         .collect();
-    must("the active stages are silent", memory::silent(&active))?;
-    must("the idle ones are not", !memory::silent(&unit.ours.stores))?;
+    must("the active stages are silent", tally::silent(&active))?;
+    must("the idle ones are not", !tally::silent(&unit.ours.stores))?;
     asked(&mut unit)?;
     tick(&mut unit, 0.0, 1.0)?;
     must("it sounds at six", unit.ours.stores[STORES - 1] == 2.0)?;
     for _ in 0..8 {
         tick(&mut unit, 0.0, 1.0)?;
     }
-    must("it falls silent at six", memory::silent(&unit.ours.stores))?;
+    must("it falls silent at six", tally::silent(&unit.ours.stores))?;
     asked(&mut unit)
 }
 

@@ -2,7 +2,6 @@
 
 use super::junk_state;
 use crate::bits::shown;
-use crate::memory::Quiet;
 use crate::table::{self, TANK_PLACES};
 use room_effects::reverb::{State, Tick, PORTS};
 
@@ -24,8 +23,7 @@ pub enum What {
     },
     Retune(f64),
     Reset,
-    /// Of the unit's memory or of one that hardly sounds.
-    Silent(Option<Quiet>),
+    Silent,
     Tick(Tick),
 }
 
@@ -40,7 +38,7 @@ impl Call {
         }
     }
 
-    /// Document 01's order: start 1, 3; retune 4, 1, 3; reset and silent 4, 3; tick 4, 3, 5.
+    /// The documents' order: start 1, 3; retune 4, 1, 3; reset 4, 3; silent 4; tick 4, 3, 5.
     pub fn number(&self) -> u32 {
         let state = (table::STATE, misfits(&self.state));
         let sample_rate = |rate: f64| (table::SAMPLE_RATE, table::sample_rate(rate));
@@ -49,7 +47,8 @@ impl Call {
         match &self.what {
             What::Start { rate, .. } => table::first(&[sample_rate(*rate), memory]),
             What::Retune(rate) => table::first(&[state, sample_rate(*rate), memory]),
-            What::Reset | What::Silent(_) => table::first(&[state, memory]),
+            What::Reset => table::first(&[state, memory]),
+            What::Silent => table::first(&[state]),
             What::Tick(t) => table::first(&[state, memory, cause(t)]),
         }
     }
@@ -61,11 +60,7 @@ impl Call {
             }
             What::Retune(rate) => format!("retune:\n  {}", shown(&[("new rate", *rate)])),
             What::Reset => "reset:".into(),
-            What::Silent(None) => "silent:".into(),
-            What::Silent(Some(Quiet { seed, place, sound })) => format!(
-                "silent, zeros {seed}, place {place}:\n  {}",
-                shown(&[("sound", *sound)])
-            ),
+            What::Silent => "silent:".into(),
             What::Tick(t) => {
                 let [audio, size, damping, mix, predelay] = t.ports;
                 let numbers = shown(&[
@@ -82,22 +77,25 @@ impl Call {
             lines += &format!("\n  place {place} {}", shown(&[("planted", *value)]));
         }
         let positions = self.state.positions();
+        let count = self.state.nonzero_places;
         let rate = shown(&[("rate", self.state.sample_rate)]);
         let stores = self.state.stores().map(|store| ("store", store));
         let lent = self.lent;
         lines
             + &format!(
-                "\n  positions {positions:?}\n  {}\n  {rate}\n  {lent} places",
+                "\n  positions {positions:?}, count {count}\n  {}\n  {rate}\n  {lent} places",
                 shown(&stores)
             )
     }
 }
 
-/// "rate as in 1; every position below its line's length at that rate". Stores may be any float.
+/// "rate as in 1; every position below its line's length at that rate", and the count at most the places in use. Stores may be any
+/// float.
 fn misfits(state: &State) -> bool {
     let lengths = table::tank_lengths(state.sample_rate);
     let mut positions = state.positions().into_iter().zip(lengths);
     table::sample_rate(state.sample_rate)
+        || table::count(state.nonzero_places, lengths.iter().sum())
         || positions.any(|(position, length)| table::position(position, length))
 }
 

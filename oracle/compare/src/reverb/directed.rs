@@ -1,10 +1,10 @@
 //! Cases that random ticks hardly meet.
 
 use super::call::{Call, What};
-use super::{is_silent, lengths_agree, Reverb};
-use crate::memory::Quiet;
+use super::{lengths_agree, Reverb};
+use crate::counts::as_count;
 use crate::random::Random;
-use crate::run::{number_agrees, Pair as _};
+use crate::run::{number_agrees, Made, Pair as _};
 use crate::table::as_position;
 use crate::table::{self, TANK, TANK_PLACES};
 use quiver_oracle::reverb::Unit;
@@ -21,21 +21,26 @@ pub fn run(seed: u64) -> Result<(), String> {
     stores_that_sound(&mut random)
 }
 
-fn made(unit: &mut Reverb, call: &Call) -> Result<(), String> {
-    match unit.call(call) {
-        Ok(_) => Ok(()),
-        Err(message) => Err(format!("directed, {}\n{message}", call.shown())),
-    }
-}
-
-fn tick(unit: &mut Reverb, state: State, ports: [f64; 5]) -> Result<(), String> {
+/// A call that is lent all the unit's memory.
+pub fn made(unit: &mut Reverb, state: State, what: What) -> Result<Made, String> {
     let call = Call {
         state,
         planted: Vec::new(),
         lent: unit.memory.count(),
-        what: What::Tick(Tick { set: 31, ports }),
+        what,
     };
-    made(unit, &call)
+    unit.call(&call)
+        .map_err(|message| format!("directed, {}\n{message}", call.shown()))
+}
+
+/// A tick from this state, with the count that the memory has at its rate.
+fn tick(unit: &mut Reverb, state: State, ports: [f64; 5]) -> Result<(), String> {
+    let in_use = table::tank_in_use(state.sample_rate);
+    let state = State {
+        nonzero_places: unit.memory.read(&in_use),
+        ..state
+    };
+    made(unit, state, What::Tick(Tick { set: 31, ports })).map(|_| ())
 }
 
 /// Lengths that the page, the table and the Rust must agree on: the rate, a line, its length there.
@@ -57,19 +62,17 @@ const KNOWN: [(f64, usize, u64); 14] = [
 ];
 
 /// The state test by every length at every whole rate, and at as many others: each position is accepted at its length − 1, and
-/// one of them refused at its length. Then the rates at which lengths are known, and those around them.
+/// one of them refused at its length; a count is accepted at all places in use, and refused above. Then the rates at which lengths
+/// are known, and those around them.
 fn every_length(random: &mut Random) -> Result<(), String> {
     let mut rust = Unit::new(8_000.0);
-    // The question is answered by the first place, so that it costs little more than the test.
-    let mut memory = vec![0.0; TANK_PLACES];
-    memory[0] = 1.0;
     for (rate, line, length) in KNOWN {
         if table::tank_lengths(rate)[line] != length {
             return Err(format!("the table has no {length} at {rate}"));
         }
         for rate in [rate, rate.next_down(), rate.next_up()] {
             if !table::sample_rate(rate) {
-                lengths_at(rate, 0..LINES, &mut rust, &memory)?;
+                lengths_at(rate, 0..LINES, &mut rust)?;
             }
         }
     }
@@ -77,28 +80,30 @@ fn every_length(random: &mut Random) -> Result<(), String> {
         let rate = f64::from(whole);
         for rate in [rate, random.within(rate, rate + 1.0)] {
             let line = random.below(LINES as u64) as usize;
-            lengths_at(rate, line..line + 1, &mut rust, &memory)?;
+            lengths_at(rate, line..line + 1, &mut rust)?;
         }
     }
     Ok(())
 }
 
-fn lengths_at(
-    rate: f64,
-    lines: std::ops::Range<usize>,
-    rust: &mut Unit,
-    memory: &[f64],
-) -> Result<(), String> {
+fn lengths_at(rate: f64, lines: std::ops::Range<usize>, rust: &mut Unit) -> Result<(), String> {
     let lengths = table::tank_lengths(rate);
     rust.at_rate(rate);
     lengths_agree(&lengths, rust).map_err(|message| format!("at {rate:e}: {message}"))?;
-    let mut last = State::even(0, 0.0, rate);
+    let mut last = State {
+        nonzero_places: as_count(lengths.iter().sum()),
+        ..State::even(0, 0.0, rate)
+    };
     for (line, length) in lengths.into_iter().enumerate() {
         *last.position_mut(line) = as_position(length - 1);
     }
-    let asked =
-        |state: &State, number: u32| number_agrees(ours::silent(state, memory, &mut 0), number);
+    let asked = |state: &State, number: u32| number_agrees(ours::silent(state, &mut 0), number);
     asked(&last, 0).map_err(|message| format!("at {rate:e}, length − 1: {message}"))?;
+    let above = State {
+        nonzero_places: last.nonzero_places + 1,
+        ..last
+    };
+    asked(&above, table::STATE).map_err(|message| format!("at {rate:e}, count: {message}"))?;
     for line in lines {
         let mut state = last;
         *state.position_mut(line) = as_position(lengths[line]);
@@ -225,8 +230,8 @@ fn not_finite(random: &mut Random) -> Result<(), String> {
     Ok(())
 }
 
-/// "Silent" of a tank of zeros and stores of zeros, of either sign, and of the same with any other number in each of the stores
-/// by turns.
+/// "Silent" of a state that counts no place and has stores of zeros, of either sign, and of the same with any other number in each
+/// of the stores by turns.
 fn stores_that_sound(random: &mut Random) -> Result<(), String> {
     let mut unit = Reverb::started(8_000.0, 3)?;
     let sounds = [
@@ -248,22 +253,7 @@ fn stores_that_sound(random: &mut Random) -> Result<(), String> {
                 *state.store_mut(other) = random.of(&[0.0, -0.0]);
             }
             *state.store_mut(comb) = sound;
-            let quiet = Quiet {
-                seed: random.bits(),
-                place: 0,
-                sound: 0.0,
-            };
-            let lent = unit.memory.count();
-            if is_silent(&state, &quiet.memory(lent)) != (sound == 0.0) {
-                return Err(format!("directed: a store of {sound:e} tells nothing"));
-            }
-            let call = Call {
-                state,
-                planted: Vec::new(),
-                lent,
-                what: What::Silent(Some(quiet)),
-            };
-            made(&mut unit, &call)?;
+            made(&mut unit, state, What::Silent)?;
         }
     }
     Ok(())

@@ -2,7 +2,7 @@
 
 use super::call::{Call, What};
 use super::{wild, Reverb};
-use crate::memory::Quiet;
+use crate::counts;
 use crate::random::Random;
 use crate::table::as_position;
 use crate::table::{self, TANK, TANK_PLACES};
@@ -16,17 +16,31 @@ impl Reverb {
         }
         let state = match random.below(4096) {
             0..=31 => return self.wrong(random),
-            32..=35 => return self.lent_enough(self.state, What::Silent(None), random),
-            36..=37 => return self.question_of_quiet(random),
+            32..=37 => return self.question(random),
             38..=101 => self.at_any_state(random),
             102..=105 => self.at_other_rate(random),
+            106..=361 => self.at_any_count(random),
             _ => self.ordinary_state(random),
         };
         let t = tick(state.sample_rate, random);
-        let call = self.lent_enough(state, What::Tick(t), random);
-        Call {
-            planted: self.planted(&state, random),
-            ..call
+        let mut call = self.lent_enough(state, What::Tick(t), random);
+        call.planted = self.planted(&state, random);
+        // The host counts what it plants, unless the call is to be handed another count.
+        if state.nonzero_places == self.state.nonzero_places {
+            call.state.nonzero_places = self.memory.count_with(&call.planted);
+        }
+        call
+    }
+
+    fn in_use(&self) -> u64 {
+        self.lengths().iter().sum()
+    }
+
+    /// The unit's own with another count: that of no memory that it has.
+    fn at_any_count(&self, random: &mut Random) -> State {
+        State {
+            nonzero_places: counts::drawn(self.in_use(), random),
+            ..self.ordinary_state(random)
         }
     }
 
@@ -117,7 +131,7 @@ impl Reverb {
             },
             1 => What::Retune(rate),
             2 => What::Reset,
-            3 => What::Silent(None),
+            3 => What::Silent,
             _ => What::Tick(wrong_tick(self.state.sample_rate, random)),
         };
         let mut call = Call {
@@ -126,7 +140,7 @@ impl Reverb {
             lent: self.memory.count(),
             what,
         };
-        let clears = !matches!(call.what, What::Silent(_) | What::Tick(_));
+        let clears = !matches!(call.what, What::Silent | What::Tick(_));
         if random.one_in(3) || clears && call.number() == 0 {
             let any = random.below(TANK_PLACES as u64) as usize;
             call.lent = random.of(&[TANK_PLACES - 1, TANK_PLACES - 1, 0, any]);
@@ -134,11 +148,11 @@ impl Reverb {
         call
     }
 
-    /// A state that the test refuses, by one of its positions, by several, by its rate or by both.
+    /// A state that the test refuses, by one of its positions or several, by its rate, by its count or by several of these.
     fn wrong_state(&self, random: &mut Random) -> State {
         let mut state = self.at_any_state(random);
         let lengths = self.lengths();
-        let wrong = 1 + random.below(7);
+        let wrong = 1 + random.below(15);
         if wrong & 3 != 0 {
             for _ in 0..random.of(&[1, 1, 1, 2, 5]) {
                 let line = random.below(LINES as u64) as usize;
@@ -147,6 +161,9 @@ impl Reverb {
         }
         if wrong & 4 != 0 {
             state.sample_rate = random.wrong_sample_rate();
+        }
+        if wrong & 8 != 0 {
+            state.nonzero_places = counts::wrong(self.in_use(), random);
         }
         state
     }
@@ -169,41 +186,26 @@ impl Reverb {
 
     /// The state of a unit at another rate; now and then a position is at its line's length or beyond.
     fn at_other_rate(&self, random: &mut Random) -> State {
+        let sample_rate = random.sample_rate();
+        let lengths = table::tank_lengths(sample_rate);
         let mut state = State {
-            sample_rate: random.sample_rate(),
+            nonzero_places: counts::drawn(lengths.iter().sum(), random),
+            sample_rate,
             ..self.state
         };
-        for (line, length) in table::tank_lengths(state.sample_rate)
-            .into_iter()
-            .enumerate()
-        {
+        for (line, length) in lengths.into_iter().enumerate() {
             let beyond = u64::from(random.one_in(200));
             *state.position_mut(line) = as_position(random.below(length) + beyond * length);
         }
         state
     }
 
-    /// Whether a unit is silent whose memory holds zeros but for one place: in use, behind those in use, or any. Now and then
-    /// that is a zero too, so that it is for the stores to say.
-    fn question_of_quiet(&self, random: &mut Random) -> Call {
-        let lent = self.memory.count();
-        let line = random.below(LINES as u64) as usize;
-        let (start, count) = TANK[line];
-        let length = self.lengths()[line] as usize;
-        let any = random.below(lent as u64) as usize;
-        let place = random.of(&[0, length - 1, length, count - 1].map(|at| start + at));
-        let sound = random.audio();
-        let quiet = Quiet {
-            seed: random.bits(),
-            place: random.of(&[place, place, any]),
-            sound: random.of(&[sound, sound, -0.0]),
-        };
-        Call {
-            state: self.at_quiet_stores(random),
-            planted: Vec::new(),
-            lent,
-            what: What::Silent(Some(quiet)),
-        }
+    /// Whether a unit is silent, by its own count or by any other, with stores that mostly are zeros.
+    fn question(&self, random: &mut Random) -> Call {
+        let (own, other) = (self.state, self.at_any_count(random));
+        let mut state = self.at_quiet_stores(random);
+        state.nonzero_places = random.of(&[own, other]).nonzero_places;
+        self.lent_enough(state, What::Silent, random)
     }
 
     /// The unit's state with stores of +0 and −0, mostly all of them, else but for one; now and then with its own.

@@ -5,6 +5,7 @@ use super::{draw, KIND};
 use crate::bits::word;
 use crate::random::Random;
 use crate::table::TANK_PLACES;
+use crate::tally;
 use quiver_oracle::reverb::Unit;
 use room_effects::reverb::Tick;
 
@@ -27,13 +28,14 @@ const CLEARINGS: [(u64, Option<f64>); 4] =
 /// After so many ticks the stores are looked at.
 const LOOKS: u64 = 16;
 
-/// Answers of the Rust, and of nothing of ours, to accepted calls, for a program that replays them with no Rust at hand.
+/// Answers of the Rust, and of nothing of ours, to accepted calls, for a program that replays them with no Rust at hand. The Rust
+/// knows no counts: they are those of the reading, of the Rust's buffers.
 ///
 /// A file is one unit's calls from its start on, as those of the effects with sweeps are. First come three words for the start,
 /// which is no record, each a u64, little-endian: 6, document 01's number of the reverb; bits of the sample rate to start at,
 /// 8,000; how many places the memory has, 87,136.
 ///
-/// Then a list of records of 16 words, with nothing between or after them:
+/// Then a list of records of 17 words, with nothing between or after them:
 ///
 /// | word | tick | retune | reset | a look at the stores |
 /// |---|---|---|---|---|
@@ -45,6 +47,7 @@ const LOOKS: u64 = 16;
 /// | 11, 12 | of the right combs | likewise | likewise | likewise |
 /// | 13, 14 | of the left and the right all-passes | likewise | likewise | likewise |
 /// | 15 | of the predelay | likewise | likewise | likewise |
+/// | 16 | how many places in use are neither +0 nor −0 after the call, a plain number | likewise | likewise | likewise |
 ///
 /// A port that is unset has any float, which the tick must not read. Every NaN, going in or coming out, is written as
 /// 0x7ff8000000000000.
@@ -121,5 +124,13 @@ fn left(unit: &Unit) -> Vec<u64> {
             .rev()
             .fold(0, |word, pos| word << 16 | *pos as u64)
     };
-    unit.positions().chunks(4).map(packed).collect()
+    let mut words: Vec<u64> = unit.positions().chunks(4).map(packed).collect();
+    words.push(counted(unit));
+    words
+}
+
+fn counted(unit: &Unit) -> u64 {
+    let lengths = unit.lengths().into_iter().enumerate();
+    let in_use = lengths.map(|(line, length)| &unit.line(line)[..length]);
+    in_use.map(tally::nonzero).sum()
 }

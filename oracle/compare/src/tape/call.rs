@@ -4,7 +4,6 @@ use super::length;
 use super::state::junk_state;
 use super::tanh::Tanh;
 use crate::bits::shown;
-use crate::memory::Quiet;
 use crate::table;
 use room_effects::tape_delay::{Read, State};
 use room_effects::MOST_PORTS;
@@ -31,8 +30,7 @@ pub enum What {
         coefficient: f64,
     },
     Reset,
-    /// Of the unit's memory or of one that hardly sounds.
-    Silent(Option<Quiet>),
+    Silent,
     /// No call of ours: the host writes ordinary audio, by the seed, to every place of the unit's memory.
     Fill(u64),
     /// The first half of a tick, with the hyperbolic tangent of the whole tick.
@@ -56,7 +54,7 @@ impl Call {
         }
     }
 
-    /// Documents 01 and 02: start 1, 2, 3; retune 4, 1, 2, 3; reset and silent 4, 3; read half 4, 7, 3, 5; store half 4, 7, 3, 6.
+    /// Documents 01 and 02: start 1, 2, 3; retune 4, 1, 2, 3; reset 4, 3; silent 4; read half 4, 7, 3, 5; store half 4, 7, 3, 6.
     pub fn number(&self) -> u32 {
         let state = (table::STATE, misfits(&self.state));
         let turn = |out_of_turn: bool| (table::TURN, out_of_turn);
@@ -78,7 +76,8 @@ impl Call {
                 rate,
                 coefficient: new,
             } => table::first(&[state, sample_rate(*rate), coefficient(*new), memory(*rate)]),
-            What::Reset | What::Silent(_) => table::first(&[state, memory_now]),
+            What::Reset => table::first(&[state, memory_now]),
+            What::Silent => table::first(&[state]),
             What::Fill(_) => 0,
             What::Read(t, _) => table::first(&[state, turn(waiting), memory_now, control(t)]),
             What::Store(value) => {
@@ -95,6 +94,7 @@ impl Call {
         }
         let State {
             write_pos,
+            nonzero_places,
             delay_primed,
             waiting,
             kept: [audio, read, mix],
@@ -111,7 +111,7 @@ impl Call {
         let lent = self.lent;
         lines
             + &format!(
-                "\n  position {write_pos}\n  primed {delay_primed:#x}, waiting {waiting:#x}\n  {numbers}\n  {lent} places"
+                "\n  position {write_pos}, count {nonzero_places}\n  primed {delay_primed:#x}, waiting {waiting:#x}\n  {numbers}\n  {lent} places"
             )
     }
 }
@@ -128,11 +128,7 @@ impl What {
                 format!("retune:\n  {}", pace(*rate, *coefficient))
             }
             What::Reset => "reset:".into(),
-            What::Silent(None) => "silent:".into(),
-            What::Silent(Some(Quiet { seed, place, sound })) => format!(
-                "silent, zeros {seed}, place {place}:\n  {}",
-                shown(&[("sound", *sound)])
-            ),
+            What::Silent => "silent:".into(),
             What::Fill(seed) => format!("the host fills the memory, audio {seed}:"),
             What::Read(t, tanh) => {
                 let [audio, time, feedback, mix] = t.ports;
@@ -163,6 +159,7 @@ fn misfits(state: &State) -> bool {
     let length = length(state.sample_rate);
     table::sample_rate(state.sample_rate)
         || table::position(state.write_pos, length)
+        || table::count(state.nonzero_places, length)
         || table::coefficient(state.delay_smooth_coef)
         || table::distance(state.delay_primed != 0, state.smoothed_delay, length)
         || table::kept(state.waiting != 0, state.kept)

@@ -4,7 +4,7 @@ use super::arguments::{coefficient_at, low_rate, read_half, tanh};
 use super::call::{Call, What};
 use super::{length, Tape};
 use crate::ages;
-use crate::memory::Quiet;
+use crate::counts;
 use crate::random::Random;
 use crate::table::as_position;
 use crate::table::TAPE_MAXIMUM;
@@ -26,10 +26,10 @@ impl Tape {
         }
         let state = match random.below(1024) {
             0..=7 => return self.wrong(random),
-            8 => return self.lent_enough(self.state, What::Silent(None), random),
-            9 if random.one_in(8) => return self.question_of_quiet(random),
+            8..=9 => return self.question(random),
             10..=41 => self.at_any_state(random),
             42 if random.one_in(16) => self.at_another_rate(random),
+            43..=106 => self.at_any_count(random),
             _ => self.state,
         };
         self.half(state, random)
@@ -43,11 +43,13 @@ impl Tape {
         }
         let t = read_half(&state, random);
         let tanh = tanh(random);
-        let call = self.lent_enough(state, What::Read(t, tanh), random);
-        Call {
-            planted: self.planted(&state, &t, random),
-            ..call
+        let mut call = self.lent_enough(state, What::Read(t, tanh), random);
+        call.planted = self.planted(&state, &t, random);
+        // The host counts what it plants, unless the call is to be handed another count.
+        if state.nonzero_places == self.state.nonzero_places {
+            call.state.nonzero_places = self.memory.count_with(call.planted.as_slice());
         }
+        call
     }
 
     /// What the Rust saturates the sum to or, now and then, any other value; mostly that where there is a NaN.
@@ -148,7 +150,7 @@ impl Tape {
             0 => return wrong_start(rate, coefficient, random),
             1 => What::Retune { rate, coefficient },
             2 => What::Reset,
-            3 => What::Silent(None),
+            3 => What::Silent,
             _ => self.wrong_half(random),
         };
         let mut call = self.lent_all(state, what);
@@ -179,10 +181,11 @@ impl Tape {
         What::Read(t, tanh(random))
     }
 
-    /// A state that the test refuses, by its position, its distance, its rate, its coefficient, what it keeps or several of them.
+    /// A state that the test refuses, by its position, its distance, its rate, its coefficient, what it keeps, its count or several of
+    /// them.
     fn wrong_state(&self, random: &mut Random) -> State {
         let mut state = self.state;
-        let wrong = 1 + random.below(31);
+        let wrong = 1 + random.below(63);
         if wrong & 1 != 0 {
             state.write_pos = random.wrong_position(self.length());
         }
@@ -208,7 +211,18 @@ impl Tape {
                 state.kept[random.below(3) as usize] = random.no_plus_zero();
             }
         }
+        if wrong & 32 != 0 {
+            state.nonzero_places = counts::wrong(self.length(), random);
+        }
         state
+    }
+
+    /// Another count: that of no memory that the unit has.
+    fn at_any_count(&self, random: &mut Random) -> State {
+        State {
+            nonzero_places: counts::drawn(self.length(), random),
+            ..self.state
+        }
     }
 
     /// Another position, another glide, another coefficient, and a read that waits or not, whatever it has kept; flags that are on
@@ -245,6 +259,7 @@ impl Tape {
         let length = length(sample_rate);
         State {
             write_pos: as_position(random.below(length + length / 16)),
+            nonzero_places: counts::drawn(length, random),
             smoothed_delay: random.distance(length),
             delay_primed: 1,
             sample_rate,
@@ -252,12 +267,19 @@ impl Tape {
         }
     }
 
-    /// Whether a memory is silent that holds zeros but for one place, and a unit by it, a read waiting or not.
-    fn question_of_quiet(&self, random: &mut Random) -> Call {
-        let lent = self.memory.count();
-        let state = self.at_any_state(random);
-        let quiet = Quiet::drawn(lent, self.length() as usize, random);
-        self.lent_all(state, What::Silent(Some(quiet)))
+    /// Whether a unit is silent, by its own count or by any other, a read waiting or not.
+    fn question(&self, random: &mut Random) -> Call {
+        let (own, any, other) = (
+            self.state,
+            self.at_any_state(random),
+            self.at_any_count(random),
+        );
+        let none = State {
+            nonzero_places: 0,
+            ..any
+        };
+        let state = random.of(&[own, any, none, other]);
+        self.lent_enough(state, What::Silent, random)
     }
 }
 

@@ -19,6 +19,7 @@ impl Tape {
         tanh: Tanh,
         number: u32,
     ) -> Result<Made, String> {
+        let handed = (number == 0).then(|| self.handed(&call.state));
         let mut state = call.state;
         let (mut sum, mut age) = (JUNK, JUNK as u32);
         let lent = self.memory.shown(call.lent);
@@ -26,12 +27,12 @@ impl Tape {
             ours::read_half(&mut state, lent, t, &mut sum, &mut age),
             number,
         )?;
-        if number != 0 {
+        let Some(handed) = handed else {
             untouched("sum of a refused read half", 0.0, sum)?;
             self.ages.with_none(age)?;
             self.refused(&call.state, &state)?;
             return Ok(Made::Refused(number));
-        }
+        };
         self.rust_at(&call.state);
         let halved = halved(&mut self.rust, t, tanh)?;
         sum_agrees(sum, &halved)?;
@@ -45,6 +46,7 @@ impl Tape {
         self.state = state;
         self.rest = Some(halved.rest);
         self.memory.unwritten(call.state.write_pos as usize)?;
+        self.count_agrees(&handed)?;
         self.states_agree()?;
         Ok(Made::Half)
     }
@@ -59,15 +61,16 @@ impl Tape {
 
     /// With the unit's own read half, and the value that the Rust saturates its sum to, that is a pair.
     pub fn store_both(&mut self, call: &Call, value: f64, number: u32) -> Result<Made, String> {
+        let handed = (number == 0).then(|| self.handed(&call.state));
         let mut state = call.state;
         let mut out = JUNK;
         let lent = self.memory.lend(call.lent);
         number_agrees(ours::store_half(&mut state, lent, value, &mut out), number)?;
-        if number != 0 {
+        let Some(handed) = handed else {
             untouched("out of a refused store half", 0.0, out)?;
             self.refused(&call.state, &state)?;
             return Ok(Made::Refused(number));
-        }
+        };
         self.rust_at(&call.state);
         let (rest, pair) = self.rest(&call.state, value);
         agree("out", out, rest.out)?;
@@ -80,6 +83,7 @@ impl Tape {
         });
         self.state = state;
         self.rest = None;
+        self.count_agrees(&handed)?;
         if !pair {
             self.states_agree()?;
             return Ok(Made::Other);
@@ -93,13 +97,15 @@ impl Tape {
         Ok(Made::Tick)
     }
 
-    /// What a store half from this state has to come to, and whether that is a pair. A state that the unit's own read half did not
-    /// leave, and a value that is not the Rust's, are held against the description: "writes v × 5 at the old write position, the
-    /// position advances", answers audio × (1 − mix) + read × mix of the kept numbers.
+    /// What a store half from this state has to come to, and whether that is a pair, with whatever count. A state that the unit's own
+    /// read half did not leave, and a value that is not the Rust's, are held against the description: "writes v × 5 at the old write
+    /// position, the position advances", answers audio × (1 − mix) + read × mix of the kept numbers.
     fn rest(&self, before: &State, value: f64) -> (Rest, bool) {
-        let own = self
-            .rest
-            .filter(|_| state_untouched(&self.state, before).is_ok());
+        let left = State {
+            nonzero_places: before.nonzero_places,
+            ..self.state
+        };
+        let own = self.rest.filter(|_| state_untouched(&left, before).is_ok());
         match own {
             Some(rest) if equal(rest.saturated, value) => (rest, true),
             Some(rest) => {

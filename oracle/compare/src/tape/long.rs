@@ -39,9 +39,9 @@ pub fn run(seed: u64) -> Result<Directed, String> {
                 unit.finish()?;
             }
         }
-        unit.made(What::Silent(None))?;
+        unit.made(What::Silent)?;
         unit.made(What::Reset)?;
-        unit.made(What::Silent(None))?;
+        unit.made(What::Silent)?;
         pairs += unit.pairs;
         compared = compared.and(unit.ages);
     }

@@ -8,6 +8,7 @@ use crate::ages;
 use crate::bits::word;
 use crate::random::Random;
 use crate::table::as_position;
+use crate::tally;
 use quiver_oracle::delay::{Moving, Unit};
 use room_effects::tape_delay::{Read, State};
 
@@ -46,7 +47,7 @@ const CLEARINGS: [(u64, Option<Pace>); 4] =
 const BEFORE_THE_END: u64 = 250;
 
 /// Answers of the Rust, and of nothing of ours, to accepted ticks and clearings, for a program that replays them with no Rust at
-/// hand, each tick by both halves. The Rust knows no ages: they are those of the reading.
+/// hand, each tick by both halves. The Rust knows no ages and no counts: they are those of the readings, the counts of the Rust's line.
 ///
 /// A file is one unit's calls from its start on, as those of the effects with sweeps are. First come five words for the start,
 /// which is no record, each a u64, little-endian:
@@ -59,7 +60,7 @@ const BEFORE_THE_END: u64 = 250;
 /// | 3 | bits of the glide coefficient |
 /// | 4 | the position that the unit has at its first tick, with all else as the start leaves it |
 ///
-/// Then a list of records of 13 words, with nothing between or after them:
+/// Then a list of records of 14 words, with nothing between or after them:
 ///
 /// | word | tick | retune | reset |
 /// |---|---|---|---|
@@ -73,6 +74,7 @@ const BEFORE_THE_END: u64 = 250;
 /// | 10 | bits of the glide distance after the call | likewise | likewise |
 /// | 11 | 1 if primed after the call, else 0 | likewise | likewise |
 /// | 12 | the age, a plain number | 0 | 0 |
+/// | 13 | how many places of the line are neither +0 nor −0 after the call, a plain number | likewise | likewise |
 ///
 /// After every call no read waits, and nothing is kept. A port that is unset has any float, which the read half must not read. Every
 /// NaN, going in or coming out, is written as 0x7ff8000000000000.
@@ -133,7 +135,7 @@ fn tanh(unit: &mut Unit, t: &Read, random: &mut Random) -> Tanh {
     Tanh::Of([1.0, value])
 }
 
-/// What the draws go by.
+/// What the draws and the ages go by: no count.
 fn state(unit: &Unit) -> State {
     let Moving {
         write_pos,
@@ -142,6 +144,7 @@ fn state(unit: &Unit) -> State {
     } = unit.moving();
     State {
         write_pos: as_position(write_pos as u64),
+        nonzero_places: 0,
         smoothed_delay,
         delay_primed: u32::from(delay_primed),
         waiting: 0,
@@ -164,7 +167,7 @@ fn cleared(unit: &mut Unit, pace: Option<&Pace>) -> Vec<u64> {
     };
     let mut words = vec![code, 0, 0, 0, 0, rate, coefficient, 0, 0];
     words.extend(left(unit));
-    words.push(0);
+    words.extend([0, tally::nonzero(unit.line())]);
     words
 }
 
@@ -187,11 +190,11 @@ fn ticked(unit: &mut Unit, t: &Read, tanh: Tanh) -> Result<Vec<u64>, String> {
     words.extend(t.ports.map(word));
     words.extend([saturated, halved.fifth, out].map(word));
     words.extend(left(unit));
-    words.push(age);
+    words.extend([age, tally::nonzero(unit.line())]);
     Ok(words)
 }
 
-/// The words of what a call leaves.
+/// The words of what a call leaves in the unit, but for the count.
 fn left(unit: &Unit) -> [u64; 3] {
     let Moving {
         write_pos,

@@ -8,6 +8,7 @@ pub const KEPT: [&str; 3] = ["kept audio", "kept read", "kept mix"];
 pub fn junk_state() -> State {
     State {
         write_pos: JUNK as u32,
+        nonzero_places: JUNK as u32,
         smoothed_delay: JUNK,
         delay_primed: JUNK as u32,
         waiting: JUNK as u32,
@@ -20,6 +21,7 @@ pub fn junk_state() -> State {
 pub fn zero_state() -> State {
     State {
         write_pos: 0,
+        nonzero_places: 0,
         smoothed_delay: 0.0,
         delay_primed: 0,
         waiting: 0,
@@ -34,6 +36,7 @@ pub fn state_untouched(should: &State, is: &State) -> Result<(), String> {
     let counts = |state: &State| {
         [
             ("position after a refusal", state.write_pos),
+            ("count after a refusal", state.nonzero_places),
             ("primed after a refusal", state.delay_primed),
             ("waiting after a refusal", state.waiting),
         ]

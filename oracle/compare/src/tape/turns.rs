@@ -4,7 +4,7 @@ use super::call::{Call, What};
 use super::directed::Directed;
 use super::tanh::Tanh;
 use super::Tape;
-use crate::memory::Quiet;
+use crate::counts::as_count;
 use crate::run::Made;
 use crate::table;
 use crate::table::as_position;
@@ -54,7 +54,7 @@ fn waiting(unit: &Tape) -> State {
 /// Every call from a state that fits or doesn't, in which a read waits or doesn't, with every choice of wrong arguments and too few
 /// places or enough: the first cause of the table's must be given. Accepted halves and clearings are among them.
 fn orders(unit: &mut Tape) -> Result<(), String> {
-    for choice in 0..64u32 {
+    for choice in 0..128u32 {
         let is = |bit: u32| choice >> bit & 1 == 1;
         let rate = if is(0) { f64::NAN } else { RATE };
         let coefficient = if is(1) { 1.0 } else { COEFFICIENT };
@@ -66,15 +66,20 @@ fn orders(unit: &mut Tape) -> Result<(), String> {
             },
             What::Retune { rate, coefficient },
             What::Reset,
-            What::Silent(None),
+            What::Silent,
             What::Read(if is(0) { NO_FEEDBACK } else { READ }, Tanh::Own),
             What::Store(if is(0) { 1.0f64.next_up() } else { -1.0 }),
         ] {
-            let state = if is(2) { waiting(unit) } else { idle(unit) };
+            let mut state = if is(2) { waiting(unit) } else { idle(unit) };
+            if is(4) {
+                state.kept = [0.0, 0.5, 1.5];
+            }
+            if is(6) {
+                state.nonzero_places = as_count(unit.length() + 1);
+            }
             let call = Call {
                 state: State {
                     write_pos: if is(3) { as_position(unit.length()) } else { 7 },
-                    kept: if is(4) { [0.0, 0.5, 1.5] } else { state.kept },
                     ..state
                 },
                 planted: None,
@@ -131,7 +136,7 @@ fn between(unit: &mut Tape) -> Result<(), String> {
         unit.made(What::Read(READ, Tanh::Own))?;
         let value = unit.rest.ok_or("no read waits")?.saturated;
         for _ in 0..repeated {
-            unit.made(What::Silent(None))?;
+            unit.made(What::Silent)?;
             for t in [READ, NO_FEEDBACK] {
                 expect(unit.made(What::Read(t, Tanh::Own)), table::TURN)?;
             }
@@ -147,7 +152,6 @@ fn between(unit: &mut Tape) -> Result<(), String> {
                 expect(unit.made(retune), number)?;
             }
             too_little(unit, What::Store(value), table::MEMORY)?;
-            too_little(unit, What::Silent(None), table::MEMORY)?;
             too_little(unit, What::Reset, table::MEMORY)?;
             too_little(unit, What::Read(READ, Tanh::Own), table::TURN)?;
         }
@@ -227,7 +231,7 @@ fn dropped(unit: &mut Tape) -> Result<(), String> {
     Ok(())
 }
 
-/// A unit whose places are zeros is silent unless a read waits, of zeros too.
+/// A unit of which no place is counted is silent unless a read waits, of zeros too.
 fn quiet(unit: &mut Tape) -> Result<(), String> {
     unit.made(What::Reset)?;
     let zeros = Read {
@@ -235,19 +239,18 @@ fn quiet(unit: &mut Tape) -> Result<(), String> {
         ports: [0.0, 0.25, 1.25, 0.75],
     };
     for _ in 0..3 {
-        unit.made(What::Silent(None))?;
+        unit.made(What::Silent)?;
         unit.made(What::Read(zeros, Tanh::Own))?;
-        unit.made(What::Silent(None))?;
+        unit.made(What::Silent)?;
         unit.made(What::Store(0.0))?;
     }
     for state in [idle(unit), waiting(unit)] {
-        for sound in [0.0, f64::from_bits(1)] {
-            let quiet = Quiet {
-                seed: 1,
-                place: 5,
-                sound,
+        for nonzero_places in [0, 1, as_count(unit.length())] {
+            let state = State {
+                nonzero_places,
+                ..state
             };
-            unit.made_from(state, What::Silent(Some(quiet)))?;
+            unit.made_from(state, What::Silent)?;
         }
     }
     Ok(())
