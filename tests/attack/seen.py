@@ -12,8 +12,8 @@ use common::Line;
 use delay_line::DelayLine;
 use delay_line::Retune;
 use effect::InMemory;
-use effect::InOnePart;
 use effect::Ticked;
+use effect::Unit;
 use effect::WithoutMemory;
 use flanger::Flanger;
 use phaser::Phaser;
@@ -179,7 +179,7 @@ fn common_calls() -> u64 {
         for j in 0..40 {
             h = float(float(h, common::blend(x, fraction(j), special(j))), common::advance_phase(x, special(j)));
             if j < i {
-                h = mix(h, common::next_place(i as u32, j as u32) as u64);
+                h = mix(h, common::next_place(i as usize, j as usize) as u64);
             }
             let r = effect::check_rate((i != 0).then_some(i), j as usize);
             h = cleared(cleared(h, effect::check_memory(i, j as usize)), r);
@@ -216,7 +216,7 @@ fn line_calls() -> u64 {
     for at in 0..1300 {
         mem[at] = special(at as u64);
         h = flag(flag(flag(h, common::all_zero(&mem)), common::all_zero(&mem[..512])), common::all_zero(&mem[1..1025]));
-        h = flag(flag(h, effect::first_places_zero(at as u64 + 1, &mem)), effect::first_places_zero(at as u64, &mem));
+        h = mix(h, common::nonzero(mem[at]) as u64);
         mem[at] = -0.0;
     }
     h
@@ -229,13 +229,13 @@ CHAINS = " ".join(f"allpass_{number}_{side}[{stage}]" for number in ("x1", "y1")
 # For each effect: its type, fields, the arguments of a start and of a retune (R a rate, X a number), the places at 8,000, and a tick's arguments
 EFFECTS = [
     ("tremolo", "Tremolo", "lfo_phase sample_rate", "new(R)", "", 0, "audio(k), port(k + 1), port(k + 2), frequency(k), sine(k)"),
-    ("vibrato", "Vibrato", "write_pos lfo_phase sample_rate", "new(R, mem)", "set_sample_rate(R, mem)", 170,
+    ("vibrato", "Vibrato", "write_pos nonzero_places lfo_phase sample_rate", "new(R, mem)", "set_sample_rate(R, mem)", 170,
      "mem, audio(k), port(k + 1), port(k + 2), frequency(k), sine(k)"),
-    ("chorus", "Chorus", "write_pos lfo_phases[0] lfo_phases[1] lfo_phases[2] sample_rate", "new(R, mem)", "set_sample_rate(R, mem)", 266,
+    ("chorus", "Chorus", "write_pos nonzero_places lfo_phases[0] lfo_phases[1] lfo_phases[2] sample_rate", "new(R, mem)", "set_sample_rate(R, mem)", 266,
      "mem, audio(k), port(k + 1), port(k + 2), frequency(k), [sine(k), sine(k + 1), sine(k + 2)]"),
-    ("flanger", "Flanger", "write_pos lfo_phase sample_rate", "new(R, mem)", "set_sample_rate(R, mem)", 180,
+    ("flanger", "Flanger", "write_pos nonzero_places lfo_phase sample_rate", "new(R, mem)", "set_sample_rate(R, mem)", 180,
      "mem, audio(k), port(k + 1), port(k + 2), port(k + 3), frequency(k), sine(k), sine(k + 1)"),
-    ("delay_line", "DelayLine", "write_pos sample_rate max_delay_secs linear_time smoothed_delay delay_smooth_coef delay_primed",
+    ("delay_line", "DelayLine", "write_pos nonzero_places sample_rate max_delay_secs linear_time smoothed_delay delay_smooth_coef delay_primed",
      "with_max_delay(R, X, fraction(k + 5), k % 2 == 0, mem)", "set_sample_rate(retuning(R, X), mem)", 401,
      "mem, audio(k), port(k + 1), port(k + 2), port(k + 3), milliseconds(k)"),
     ("phaser", "Phaser", f"{CHAINS} lfo_phase sample_rate", "new(R)", "", 0,
@@ -259,12 +259,12 @@ WITH
 
 // a question, a tick, a reset and a retune of any state
 fn NAME_each(h: u64, s: TYPE, mem: &mut [f64], k: u64) -> u64 {
-    let mut sum = asked(h, s.silent(READ));
+    let mut sum = asked(h, s.silent());
     let t = s.tick(TICK);
     let a = t.answer;
     let next = t.state;
     sum = NAME_left(mix(answered(sum, a), t.age as u64), next);
-    sum = places(asked(sum, next.silent(READ)), mem);
+    sum = places(asked(sum, next.silent()), mem);
     let c = s.reset(WRITE);
     let left = c.state;
     sum = places(NAME_left(cleared(sum, c.outcome), left), mem);
@@ -298,7 +298,7 @@ fn NAME_calls() -> u64 {
             s = t.state;
             h = NAME_left(mix(answered(h, a), t.age as u64), s);
         }
-        h = places(asked(h, s.silent(READ)), mem);
+        h = places(asked(h, s.silent()), mem);
 AGAIN
         for i in 0..FIELDS {
             for v in 0..40 {
@@ -386,7 +386,7 @@ fn reverb_left(h: u64, s: Reverb) -> u64 {
     let e = s.comb_filter_state_l;
     let f = s.comb_filter_state_r;
     let positions = words(words(words(words(h, &a), &b), &c), &d);
-    float(mix(places(places(positions, &e), &f), s.predelay_pos as u64), s.sample_rate)
+    float(mix(mix(places(places(positions, &e), &f), s.predelay_pos as u64), s.nonzero_places as u64), s.sample_rate)
 }
 
 // a state with one of its positions, its stores or its rate put to another value
@@ -420,6 +420,8 @@ fn reverb_with(s: Reverb, i: u64, p: u32, x: f64) -> Reverb {
         t.allpass_pos_r = a;
     } else if i == 40 {
         t.predelay_pos = p;
+    } else if i == 41 {
+        t.nonzero_places = p;
     } else {
         t.sample_rate = x;
     }
@@ -427,7 +429,7 @@ fn reverb_with(s: Reverb, i: u64, p: u32, x: f64) -> Reverb {
 }
 
 fn reverb_each(h: u64, s: Reverb, mem: &mut [f64], k: u64) -> u64 {
-    let mut sum = asked(h, s.silent(mem));
+    let mut sum = asked(h, s.silent());
     let t = s.tick(mem, audio(k), port(k + 1), port(k + 2), port(k + 3), port(k + 4));
     let a = t.answer;
     sum = tank(reverb_left(mix(answered(sum, a), t.age as u64), t.state), mem);
@@ -462,12 +464,12 @@ fn reverb_questions(h: u64, mem: &mut [f64]) -> u64 {
     let mut i: usize = 0;
     while i < mem.len() {
         mem[i] = 1.0;
-        sum = asked(sum, s.silent(mem));
+        sum = asked(sum, s.silent());
         mem[i] = -0.0;
         i += 101;
     }
     for k in 0..16 {
-        sum = asked(sum, reverb_with(s, 16 + k, 0, 1.0).silent(mem));
+        sum = asked(sum, reverb_with(s, 16 + k, 0, 1.0).silent());
     }
     sum
 }
@@ -486,7 +488,7 @@ fn reverb_calls() -> u64 {
     }
     h = tank(h, mem);
     let at: [u32; 6] = [0, 50, 202, 300, 5000, 4294967295];
-    for i in 0..42 {
+    for i in 0..43 {
         for v in 0..6 {
             h = reverb_each(h, reverb_with(s, i, at[v], special(v as u64 * 7 + i)), mem, v as u64 * 9 + i + 1);
         }
@@ -500,7 +502,7 @@ fn reverb_calls() -> u64 {
 """
 
 # A tick is two calls, and the line has 96,001 places at 8,000
-TAPE_FIELDS = "write_pos smoothed_delay delay_primed waiting kept.audio kept.read kept.mix sample_rate delay_smooth_coef"
+TAPE_FIELDS = "write_pos nonzero_places smoothed_delay delay_primed waiting kept.audio kept.read kept.mix sample_rate delay_smooth_coef"
 TAPE = """
 fn handing(rate: f64, coefficient: f64) -> Settings {
     Settings { rate, coefficient }
@@ -540,18 +542,18 @@ fn half(h: u64, t: Ticked<TapeDelay>) -> u64 {
 
 // a question, each half twice, so that one is out of turn, a reset and a retune of any state
 fn tape_each(h: u64, s: TapeDelay, mem: &mut [f64], k: u64) -> u64 {
-    let mut sum = half(asked(h, s.silent(mem)), store(s, mem, k, sine(k)));
+    let mut sum = half(asked(h, s.silent()), store(s, mem, k, sine(k)));
     let a = read(s, mem, k);
     let heard = a.answer.first();
     let b = read(a.state, mem, k + 1);
     let waits = b.state;
-    sum = asked(half(half(sum, a), b), waits.silent(mem));
+    sum = asked(half(half(sum, a), b), waits.silent());
     let c = store(waits, mem, k + 2, heard);
     let d = store(c.state, mem, k + 3, heard);
     let left = d.state;
-    sum = tank(asked(half(half(sum, c), d), left.silent(mem)), mem);
+    sum = tank(asked(half(half(sum, c), d), left.silent()), mem);
     let e = waits.reset(mem);
-    sum = tank(asked(tape_left(cleared(sum, e.outcome), e.state), e.state.silent(mem)), mem);
+    sum = tank(asked(tape_left(cleared(sum, e.outcome), e.state), e.state.silent()), mem);
     dirty_long(mem);
     let r = waits.set_sample_rate(handing(special(k), fraction(k)), mem);
     sum = tank(tape_left(cleared(sum, r.outcome), r.state), mem);
@@ -601,7 +603,7 @@ fn tape_calls() -> u64 {
     let waits = a.state;
     for i in 0..FIELDS {
         // few positions, and few of each flag
-        let most = if i == 0 || i == 2 || i == 3 { 4 } else { 40 };
+        let most = if i == 0 || i == 3 || i == 4 { 4 } else { 40 };
         for v in 0..most {
             dirty_long(mem);
             let before = if v % 2 == 0 { s } else { waits };
@@ -615,7 +617,7 @@ fn tape_calls() -> u64 {
 
 def field(name, i):
     """Two lines of code for a field: what it adds to the sum, and how it is put to another value."""
-    kind = "mix" if name == "write_pos" else "flag" if name in ("linear_time", "delay_primed", "waiting") else "float"
+    kind = "mix" if name in ("write_pos", "nonzero_places") else "flag" if name in ("linear_time", "delay_primed", "waiting") else "float"
     value = {"mix": "(n * 11) as u32", "flag": "n % 2 == 0", "float": "x"}[kind]
     return f"    sum = {kind}(sum, s.{name}{' as u64' if kind == 'mix' else ''});", f"    if i == {i} {{\n        t.{name} = {value};\n    }}"
 
@@ -630,7 +632,7 @@ def effect(name, kind, fields, start, retune, n, tick):
         "LEFT": "\n".join(a for a, _ in lines), "WITH": "\n".join(b for _, b in lines), "FIELDS": str(len(lines)),
         "STARTSPECIAL": start.replace("R", "special(k)", 1).replace("X", "special(k + 19)"), "STARTRUN": run,
         "NEEDED": "places_needed(special(k), special(k + 3))" if "X" in start else "places_needed(special(k))",
-        "SIZE": f"{n} - 1 + short" if n else "0", "READ": "mem" if memory else "", "WRITE": "mem" if memory else "",
+        "SIZE": f"{n} - 1 + short" if n else "0", "WRITE": "mem" if memory else "",
         "TICK": tick, "TYPE": kind, "NAME": name,
     }
     text = EFFECT
