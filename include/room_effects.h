@@ -136,22 +136,22 @@
  * synchronisation. No call waits, allocates or calls the system. One that is cut off before it returns may have written part
  * of its state and places; its unit is then started anew.
  *
- * By the frames of the compiled functions a call takes at most 808 bytes of stack (a reverb's tick; its question takes 392, its
+ * By the frames of the compiled functions a call takes at most 792 bytes of stack (a reverb's tick; its question takes 392, its
  * other calls at most 168, and those of the other effects 96), and beside that what memset takes, the one function that the
  * archive needs from elsewhere. Where memset is bound at its first call, that takes some 3 KB more, once.
  *
  * What calls cost
  *
- * A tick takes some 10 ns (tremolo) to 82 to 90 ns (reverb at 48,000) on an Intel Xeon of 2.5 GHz, whatever the length of the
- * lines, but for three. The reverb takes some 25 ns more at rates whose lengths are not at hand (at hand are 44,100, 48,000,
- * 88,200, 96,000, 176,400 and 192,000), and more above some 130,000, where more than eight of its combs are equally long and
- * fall into one set of the cache; from 161,819 on all sixteen are. Before it kept a count it took 1.9 to 2.4 times as long
- * there as at 96,000. A delay whose time is swept over a line that no cache holds takes up to 150 ns. The tape delay's halves
- * together take about twice as long as a delay's tick, without what the host computes between them; with a time that is swept
- * at 192,000, over 2,304,001 places, up to 170 ns. Start, retune and reset write all places that are lent, at memset's speed.
- * Seen there: reset 15 us for the reverb, 16 ms for a delay of 60 s at 192,000. A sample at 192,000 lasts 5.2 us: these calls
- * belong between takes. Silent reads the state alone, and takes some 7 to 15 ns, the reverb's some 50, whatever the lines'
- * length. docs/BENCHMARKS.md has more.
+ * A tick takes some 10 ns (tremolo) to 79 to 87 ns (reverb at 44,100 to 96,000) on an Intel Xeon of 2.5 GHz, whatever the
+ * length of the lines, but for three. The reverb takes some 25 ns more at rates whose lengths are not at hand (at hand are
+ * 44,100, 48,000, 88,200, 96,000, 176,400 and 192,000), and more above some 130,000, where more than eight of its combs are
+ * equally long and fall into one set of the cache; from 161,819 on all sixteen are. Before it kept a count it took 1.9 to 2.4
+ * times as long there as at 96,000. A delay whose time is swept over a line that no cache holds takes up to 150 ns. The tape
+ * delay's halves together take about twice as long as a delay's tick, without what the host computes between them; with a time
+ * that is swept at 192,000, over 2,304,001 places, up to 170 ns. Start, retune and reset write all places that are lent, at
+ * memset's speed. Seen there: reset 15 us for the reverb, 16 ms for a delay of 60 s at 192,000. A sample at 192,000 lasts 5.2
+ * us: these calls belong between takes. Silent reads the state alone, and takes some 7 to 15 ns, the reverb's some 50, whatever
+ * the lines' length. docs/BENCHMARKS.md has more.
  *
  * Curve numbers
  *

@@ -63,7 +63,7 @@ Holds (trembles shape x) =
     reply trem.tremolo (tick (trem.tick_of (Set (float_of 4)) (Set (float_of 1)) (Set shape) (float_of 1) plus_zero)) (record { state = trem.fresh (float_of 44100); memory = [] })
     ≡ played (x ∷ []) 0
 Holds (combs held store damping feedback input answer store' written) =
-    combed held 2 0 store input damping feedback ≡ record { output = answer; filter_state = store'; fed = written; pos = 1 }
+    combed held store input damping feedback ≡ record { output = answer; filter_state = store'; fed = written }
 Holds (passes held input answer written) = (pass_output input held ≡ answer) × (pass_fed input held ≡ written)
 Holds (lies w d p) = place predelay_size w d ≡ p
 Holds (waits control rate n) = rev.delay_by (rev.controls_of (rev.tick_of Unset Unset Unset Unset (Set control))) rate ≡ n

@@ -4,7 +4,7 @@ use Rattle.std.proofs.Common.{◌≡◌, ℕ, zero, suc, ◌+◌, ◌*◌, ◌<�
 use Rattle.std.proofs.lemmas.List.{set_comm}
 use borrow.Rule.Slice.PartMut.{put_mid}
 use lib.Ieee.{Float, nan, binary64, add}
-use Rattle.common.specs.Line.{next_place, table}
+use Rattle.common.specs.Line.{table}
 use Rattle.common.proofs.Slices.{part-get_or, part-set}
 use Rattle.common.proofs.Tables.{get_or-table, table-ext, tabled, tabled-next}
 use Rattle.effect.specs.Effect.{Write, laid}
@@ -13,7 +13,7 @@ use Rattle.reverb.specs.declared.filters.Combed.{Combed}
 use Rattle.reverb.specs.declared.filters.Passed.{Passed}
 use Rattle.reverb.specs.Freeverb.{comb_store, comb_fed, combed, comb_line, pass_output, pass_fed, passed, pass_line}
 use Rattle.reverb.specs.Tunings.{Side, left, right, comb_size, comb_most, allpass_size, allpass_most}
-use Rattle.reverb.specs.Tank.{Lines, InLines, comb_lines, allpass_lines, place_of, held, next_position, by_sides, combs_held, sum_of, comb_stored, comb_write, allpasses_held, passed_on, allpass_write}
+use Rattle.reverb.specs.Tank.{Lines, InLines, comb_lines, allpass_lines, place_of, held, by_sides, combs_held, sum_of, comb_stored, comb_write, allpasses_held, passed_on, allpass_write}
 use Rattle.reverb.proofs.Lists.{below_at, below-long}
 
 -- an entry that no turn stored yet
@@ -120,12 +120,12 @@ module _ (count : ℕ) (l : Lines) (m : List Float) (i : ℕ) (h : i < count) (m
 -- a comb, whose store is read as y
 module _ (x d f : Float) (l : Lines) (z m : List Float) (i : ℕ) (h : i < 8) (m' : List Float) (k : ℕ) {v : ℕ} {y : Float} (inside : v < k) (at : v ≡ get_or l.positions i 0) (kept : y ≡ get_or z i nan) (same : get_or m' (place_of l i) nan ≡ get_or m (place_of l i) nan) where
   -- its answer, store and position
-  pub comb-gives : {r : Combed} {n : ℕ} → n ≡ get_or l.lengths i 0 → r ≡ combed (get_or (take k (drop (l.start i) m')) v nan) n v y x d f
-      → r ≡ record { output = get_or (combs_held l m) i nan; filter_state = comb_stored d z (combs_held l m) i; fed = (comb_write x d f l z (combs_held l m) i).value; pos = next_position l i }
-  unfolding combed comb_stored comb_write next_position
-  comb-gives long e =
+  pub comb-gives : {r : Combed} → r ≡ combed (get_or (take k (drop (l.start i) m')) v nan) y x d f
+      → r ≡ record { output = get_or (combs_held l m) i nan; filter_state = comb_stored d z (combs_held l m) i; fed = (comb_write x d f l z (combs_held l m) i).value }
+  unfolding combed comb_stored comb_write
+  comb-gives e =
       let b = read 8 l m i h m' k inside at same in
-      e ∙ (λ j. record { output = b j; filter_state = comb_store (b j) (kept j) d; fed = comb_fed x (comb_store (b j) (kept j) d) f; pos = next_place (long j) (at j) })
+      e ∙ (λ j. record { output = b j; filter_state = comb_store (b j) (kept j) d; fed = comb_fed x (comb_store (b j) (kept j) d) f })
 
   -- and its write
   pub comb-writes : {line : List Float} → l.start i + k ≤ length m' → line ≡ comb_line (take k (drop (l.start i) m')) v y x d f
@@ -139,12 +139,12 @@ module _ (x d f : Float) (l : Lines) (z m : List Float) (i : ℕ) (h : i < 8) (m
 
 -- an all-pass, with y into it
 module _ (x : Float) (l : Lines) (m : List Float) (i : ℕ) (h : i < 4) (m' : List Float) (y : Float) (k : ℕ) {v : ℕ} (inside : v < k) (at : v ≡ get_or l.positions i 0) (same : get_or m' (place_of l i) nan ≡ get_or m (place_of l i) nan) (into : y ≡ passed_on x (allpasses_held l m) i) where
-  pub pass-gives : {r : Passed} {n : ℕ} → n ≡ get_or l.lengths i 0 → r ≡ passed (get_or (take k (drop (l.start i) m')) v nan) n v y
-      → r ≡ record { output = passed_on x (allpasses_held l m) (i + 1); held = get_or (allpasses_held l m) i nan; fed = (allpass_write x l (allpasses_held l m) i).value; pos = next_position l i }
-  unfolding passed passed_on allpass_write next_position
-  pass-gives long e =
+  pub pass-gives : {r : Passed} → r ≡ passed (get_or (take k (drop (l.start i) m')) v nan) y
+      → r ≡ record { output = passed_on x (allpasses_held l m) (i + 1); held = get_or (allpasses_held l m) i nan; fed = (allpass_write x l (allpasses_held l m) i).value }
+  unfolding passed passed_on allpass_write
+  pass-gives e =
       let b = read 4 l m i h m' k inside at same in
-      rw (add-one i) (e ∙ (λ j. record { output = pass_output (into j) (b j); held = b j; fed = pass_fed (into j) (b j); pos = next_place (long j) (at j) }))
+      rw (add-one i) (e ∙ (λ j. record { output = pass_output (into j) (b j); held = b j; fed = pass_fed (into j) (b j) }))
 
   pub pass-writes : {line : List Float} → l.start i + k ≤ length m' → line ≡ pass_line (take k (drop (l.start i) m')) v y
       → put_mid (l.start i) k m' line ≡ set m' (allpass_write x l (allpasses_held l m) i).place (allpass_write x l (allpasses_held l m) i).value

@@ -1,11 +1,10 @@
 -- Freeverb's two filters, as Jezar at Dreampoint published them (2000, public domain), in binary64 and without his flush of denormal places and stores to 0.
--- Each works on a line: the first n places of its part of the tank, at a position that goes up by one and at n back to 0.
+-- Each works on its part of the tank, at its position there.
 -- Definitions only. Assumes nothing.
 use Rattle.std.specs.Prelude.{ℕ, List, slice_index_or, slice_set, Float}
 use Rattle.std.specs.Float.{nan, binary64}
 use Rattle.std.specs.Float.Ieee.{add, sub, mul, neg}
 use Rattle.float64.specs.Number.{float_of, half}
-use Rattle.common.specs.Line.{next_place}
 use Rattle.reverb.specs.declared.filters.Combed.{Combed}
 use Rattle.reverb.specs.declared.filters.Passed.{Passed}
 
@@ -19,11 +18,11 @@ comb_store held store damping = add binary64 (mul binary64 held (sub binary64 (f
 unfoldable pub comb_fed : Float → Float → Float → Float
 comb_fed input store feedback = add binary64 input (mul binary64 store feedback)
 
--- a step at the position pos of a line, whose place there held so much: what it answers, the next store, what the place gets and the next position
-unfoldable pub combed : Float → ℕ → ℕ → Float → Float → Float → Float → Combed
-combed held n pos store input damping feedback =
+-- a step on a place that held so much: what it answers, the next store and what the place gets
+unfoldable pub combed : Float → Float → Float → Float → Float → Combed
+combed held store input damping feedback =
     let next = comb_store held store damping in
-    record { output = held; filter_state = next; fed = comb_fed input next feedback; pos = next_place n pos }
+    record { output = held; filter_state = next; fed = comb_fed input next feedback }
 
 -- and the places that it leaves, of which the one at p is its own
 unfoldable pub comb_line : List Float → ℕ → Float → Float → Float → Float → List Float
@@ -40,8 +39,8 @@ unfoldable pub pass_fed : Float → Float → Float
 pass_fed input held = add binary64 input (mul binary64 held half)
 
 -- a step, as of a comb, with what the place held
-unfoldable pub passed : Float → ℕ → ℕ → Float → Passed
-passed held n pos input = record { output = pass_output input held; held = held; fed = pass_fed input held; pos = next_place n pos }
+unfoldable pub passed : Float → Float → Passed
+passed held input = record { output = pass_output input held; held = held; fed = pass_fed input held }
 
 unfoldable pub pass_line : List Float → ℕ → Float → List Float
 pass_line m p input = slice_set m p (pass_fed input (slice_index_or m p nan))

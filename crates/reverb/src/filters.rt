@@ -1,9 +1,9 @@
-// Freeverb's filters, and the predelay, each on its part of the tank: a line, whose position goes up by one and at the line's end back to 0.
+// Freeverb's filters, and the predelay, each on its part of the tank, which starts where its line does.
 ghost use Rattle.std.specs.Prelude.{◌≡◌, ◌+◌, ◌<◌, ◌≤◌};
 ghost use Rattle.std.proofs.Math.ListN as ListN;
 ghost use Rattle.std.specs.Float.{nan};
 ghost use Rattle.common.specs.Line.{nonzero};
-ghost use Rattle.reverb.specs.Tunings.{comb_size, allpass_size, predelay_size};
+ghost use Rattle.reverb.specs.Tunings.{predelay_size};
 ghost use Rattle.reverb.specs.Freeverb.{combed, comb_line, passed, pass_line};
 ghost use Rattle.reverb.specs.Tank.{delayed};
 ghost use Rattle.reverb.specs.Reverb.{delay_samples};
@@ -11,22 +11,20 @@ ghost use Rattle.reverb.specs.Reverb.{delay_samples};
 use crate::Reverb;
 use crate::stepped::Stepped;
 
-// What a step of a comb answers, which is what its place held, with its next store, what the place gets, and its next position.
+// What a step of a comb answers, which is what its place held, with its next store and what the place gets.
 #[derive(Clone, Copy)]
 pub struct Combed {
     pub output: f64,
     pub filter_state: f64,
     pub fed: f64,
-    pub pos: u32,
 }
 
-// What a step of an all-pass answers, with what its place held and gets, and its next position.
+// What a step of an all-pass answers, with what its place held and gets.
 #[derive(Clone, Copy)]
 pub struct Passed {
     pub output: f64,
     pub held: f64,
     pub fed: f64,
-    pub pos: u32,
 }
 
 // One step of a comb on its part of the tank.
@@ -40,8 +38,7 @@ pub fn process_comb(
     damping: f64,
 ) -> Combed
     requires inside { pos < ListN.length line.old }
-    requires short { ListN.length line.old ≤ comb_size }
-    ensures value { result ≡ combed (ListN.get_or line.old pos nan) (ListN.length line.old) pos filter_state input damping feedback }
+    ensures value { result ≡ combed (ListN.get_or line.old pos nan) filter_state input damping feedback }
     ensures line_after { line.new ≡ comb_line line.old pos filter_state input damping feedback }
 {
     let w = pos as usize;
@@ -53,7 +50,6 @@ pub fn process_comb(
         output,
         filter_state: store,
         fed,
-        pos: common::next_place(line.len(), w),
     }
 }
 
@@ -61,8 +57,7 @@ pub fn process_comb(
 #[tactic(auto, unfolding(crate::specs::Freeverb::pass_output, crate::specs::Freeverb::pass_fed, crate::specs::Freeverb::passed, crate::specs::Freeverb::pass_line, float64::proofs::Literals::of_bits, float64::proofs::Literals::round))]
 pub fn process_allpass(line: &mut [f64], pos: u32, input: f64) -> Passed
     requires inside { pos < ListN.length line.old }
-    requires short { ListN.length line.old ≤ allpass_size }
-    ensures value { result ≡ passed (ListN.get_or line.old pos nan) (ListN.length line.old) pos input }
+    ensures value { result ≡ passed (ListN.get_or line.old pos nan) input }
     ensures line_after { line.new ≡ pass_line line.old pos input }
 {
     let w = pos as usize;
@@ -73,7 +68,6 @@ pub fn process_allpass(line: &mut [f64], pos: u32, input: f64) -> Passed
         output: -input + held,
         held,
         fed,
-        pos: common::next_place(line.len(), w),
     }
 }
 

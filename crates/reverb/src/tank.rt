@@ -1,7 +1,7 @@
 // The tank: eight left combs, eight right, four left all-passes, four right, and the predelay, in one lent memory; their tests, and a step of its lines.
-ghost use Rattle.std.specs.Prelude.{◌≡◌, ◌+◌, ◌*◌, ◌≤◌, ◌&&◌, nat_le};
+ghost use Rattle.std.specs.Prelude.{◌≡◌, ◌+◌, ◌*◌, ◌<◌, ◌≤◌, ◌&&◌, nat_le, true};
 ghost use Rattle.std.proofs.Math.ListN as ListN;
-ghost use Rattle.common.specs.Line.{nonzeros};
+ghost use Rattle.common.specs.Line.{next_place, table, nonzeros};
 ghost use Rattle.reverb.specs.Tunings.{comb_size, comb_most, allpass_size, allpass_most};
 ghost use Rattle.reverb.specs.Tank.{comb_lines, allpass_lines, all_below, positions_fit, InLines, CombsStep, AllpassesStep};
 
@@ -40,6 +40,25 @@ pub fn numbers_fit(
     ((predelay < Reverb::MAX_PREDELAY_SIZE as u32) & (left & right)) & (count <= n.used)
 }
 
+// The position after w in a line of n places. It is `common::next_place` in 32 bits, so that four are found at a time.
+fn next_pos(n: u16, w: u32) -> u32
+    requires { w < n }
+    ensures { result ≡ next_place n w }
+{
+    let next = w + 1;
+    if next == u32::from(n) { 0 } else { next }
+}
+
+// Each position goes on by one.
+fn move_on<const N: usize>(pos: &mut [u32; N], lengths: [u16; N])
+    requires inside { all_below pos.old lengths ≡ true }
+    ensures { pos.new ≡ table (λ i. next_place (ListN.get_or lengths.entry i 0) (ListN.get_or pos.old i 0)) N }
+{
+    for i in 0..N {
+        pos[i] = next_pos(lengths[i], pos[i]);
+    }
+}
+
 // How many of these numbers are neither +0 nor -0. On vectors: by `common::nonzero` of each, a tick took some 110 instructions more.
 fn nonzeros<const N: usize>(numbers: &[f64; N]) -> u32
     requires { N ≤ 64 }
@@ -51,7 +70,8 @@ fn nonzeros<const N: usize>(numbers: &[f64; N]) -> u32
 }
 
 // The eight combs of a side, the first from place o of the tank on, with the same input: they move the lent positions and stores, and answer their sum. What their places
-// held and got is counted at the end, eight at a time: counted one by one, a tick took 839 instructions in place of 817.
+// held and got is counted at the end, eight at a time, and the positions move on then, four at a time: counted one by one, with each line's position in the loop, a tick took
+// 839 instructions in place of 726. A part that ends with the tank needs one test of where it is used, one that is cut to its line's length two.
 // Called for two sides, it would not be put in line.
 #[inline(always)]
 pub fn combs(
@@ -73,15 +93,14 @@ pub fn combs(
     let mut sum = 0.0;
     // By index: a zip of positions, stores, lengths and the tank's chunks from o on would take four names apart, and still cut each line to its length.
     for i in 0..8 {
-        let start = o + i * Reverb::MAX_COMB_SIZE;
-        let line = &mut mem[start..start + lengths[i] as usize];
+        let line = &mut mem[o + i * Reverb::MAX_COMB_SIZE..];
         let c = process_comb(line, pos[i], filter_state[i], input, feedback, damping);
-        pos[i] = c.pos;
         filter_state[i] = c.filter_state;
         held[i] = c.output;
         fed[i] = c.fed;
         sum = sum + c.output;
     }
+    move_on(pos, lengths);
     Stepped {
         output: sum,
         gained: nonzeros(&fed),
@@ -107,14 +126,13 @@ pub fn allpasses(
     let mut output = input;
     // By index, as the combs are.
     for i in 0..4 {
-        let start = o + i * Reverb::MAX_ALLPASS_SIZE;
-        let line = &mut mem[start..start + lengths[i] as usize];
+        let line = &mut mem[o + i * Reverb::MAX_ALLPASS_SIZE..];
         let p = process_allpass(line, pos[i], output);
-        pos[i] = p.pos;
         held[i] = p.held;
         fed[i] = p.fed;
         output = p.output;
     }
+    move_on(pos, lengths);
     Stepped {
         output,
         gained: nonzeros(&fed),

@@ -4,7 +4,7 @@ use lib.Ieee.{nan}
 use Rattle.common.specs.Line.{zeros, table}
 use Rattle.common.proofs.Tables.{tabled}
 use Rattle.effect.specs.Effect.{laid}
-use Rattle.reverb.specs.Tank.{allpass_lines, next_position, allpasses_held, passed_on, allpass_write}
+use Rattle.reverb.specs.Tank.{allpass_lines, allpasses_held, passed_on, allpass_write}
 use Rattle.reverb.proofs.tank.allpasses.Given as goal
 
 abbrev pub invariant-loop-i : goal.invariant-loop-i
@@ -13,7 +13,6 @@ invariant-loop-i l =
     let was = allpasses_held lines l.initial.mem in
     record {
       memory : l.mem ≡ laid (table (allpass_write l.input lines was) l.i) l.initial.mem;
-      pos : l.pos ≡ tabled (next_position lines) l.i l.initial.pos;
       held : l.held ≡ tabled (λ k. get_or was k nan) l.i (zeros 4);
       fed : l.fed ≡ tabled (λ k. (allpass_write l.input lines was k).value) l.i (zeros 4);
       output : l.output ≡ passed_on l.input was l.i;
