@@ -9,6 +9,7 @@ use mathlib.Core.List.{List, [], ◌∷◌, ◌++◌}
 use lib.IntN.{negsuc}
 use lib.Dec.{ltb, leb}
 use lib.ListN.{length, get_or, take, drop, set}
+use lib.Seq.{length-take-le}
 use lib.Ieee.{Float, fin, nan, binary64, add, sub, mul, div, neg, is_nan, le, lt, of_int, round}
 use lib.Ieee as Ieee
 use borrow.Author.Tests.{ltb-true, lt-ltb, leb-true, le-leb}
@@ -224,11 +225,11 @@ ready {t} {s} {m} e k =
 
 -- from its steps
 module _ (t : Tick) (s : Chorus) (m : List Float) (e : length m ≡ line_length s.sample_rate) where
-  pub voice-is : {d y : Float} (sine : Float) → d ≡ depth t
+  pub line-voice : {d y : Float} (sine : Float) → d ≡ depth t
       → y ≡ read_at (line_at 0 (length m) s.write_pos m) (distance_in (length m) s.sample_rate d sine)
       → y ≡ voice 0 sine t s m
   unfolding voice
-  voice-is sine g r = r ∙ (λ j. read_at (line_at 0 (e j) s.write_pos m) (distance_in (e j) s.sample_rate (g j) sine))
+  line-voice sine g r = r ∙ (λ j. read_at (line_at 0 (e j) s.write_pos m) (distance_in (e j) s.sample_rate (g j) sine))
 
   pub age-is : {d : Float} {a : ℕ} (sine : Float) → d ≡ depth t → a ≡ age_at (distance_in (length m) s.sample_rate d sine) → a ≡ age_at (distance s.sample_rate (depth t) sine)
   age-is sine g r = r ∙ (λ i. age_at (distance_in (e i) s.sample_rate (g i) sine))
@@ -246,6 +247,20 @@ module _ (t : Tick) (s : Chorus) (m : List Float) (e : length m ≡ line_length 
       ∙ (λ i. recounted (e i) s.nonzero_places (nonzero (audio i)) (nonzero (get_or m (first i) nan)))
       ∙ one-recount L (record { place = 0 * L + s.write_pos; value = input t }) m s.nonzero_places in
       λ i. state_of ((w ∙ ap (λ (z : ℕ). next_place z s.write_pos) e) i) (count i) (p i) s.sample_rate
+
+-- ---- an accepted tick from its steps in a memory m of any length
+
+module _ (t : Tick) (s : Chorus) (m : List Float) where
+  -- a read in its first n places, which are the line, is what a voice reads
+  module _ {n : ℕ} (e : n ≡ line_length s.sample_rate) where
+    pub voice-is : {d y : Float} (sine : Float) → n ≤ length m → s.write_pos < n → d ≡ depth t
+        → y ≡ read_at (line_at 0 (length (take n m)) s.write_pos (take n m)) (distance_in (length (take n m)) s.sample_rate d sine)
+        → y ≡ voice 0 sine t s m
+    unfolding voice
+    voice-is sine l h g r =
+        let rate = s.sample_rate in
+        let heard = front-line 0 (line_length rate) s.write_pos m n (omega (arith, e)) (omega (arith, e, h)) in
+        line-voice t s (take n m) (length-take-le n m l ∙ e) sine g r ∙ (λ i. read_at (heard i) (distance rate (depth t) sine))
 
   pub stored_is : {x : Float} → x ≡ input t → set m s.write_pos x ≡ laid (writes t s) m
   unfolding writes

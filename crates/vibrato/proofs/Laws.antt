@@ -7,6 +7,7 @@ use mathlib.Core.Bool.{true, false, ◌&&◌, ◌||◌}
 use mathlib.Core.List.{List, [], ◌∷◌, ◌++◌}
 use lib.Dec.{ltb, leb}
 use lib.ListN.{length, get_or, take, drop, set}
+use lib.Seq.{length-take-le}
 use lib.Ieee.{Float, nan, binary64, is_nan, add, mul, div, neg, le, lt, of_int, round}
 use lib.Ieee as Ieee
 use borrow.Author.Tests.{ltb-true, lt-ltb, leb-true, le-leb}
@@ -154,9 +155,9 @@ module _ (t : Tick) (s : Vibrato) (m : List Float) (e : length m ≡ line_length
 
   -- what a read at that distance hands back
   module _ {x : Float} (at : x ≡ distance s.sample_rate (depth t) t.sine) where
-    pub delayed-is : {y : Float} → y ≡ read_at (line_at 0 (length m) s.write_pos m) x → y ≡ delayed t s m
+    pub line-delayed : {y : Float} → y ≡ read_at (line_at 0 (length m) s.write_pos m) x → y ≡ delayed t s m
     unfolding delayed
-    delayed-is r = r ∙ (λ i. read_at (line_at 0 (e i) s.write_pos m) (at i))
+    line-delayed r = r ∙ (λ i. read_at (line_at 0 (e i) s.write_pos m) (at i))
 
     pub age-is : {a : ℕ} → a ≡ age_at x → a ≡ largest_age (reads t s)
     age-is r = r ∙ ap age_at at ∙ sym (oldest-one (read t s))
@@ -174,6 +175,20 @@ module _ (t : Tick) (s : Vibrato) (m : List Float) (e : length m ≡ line_length
       ∙ (λ i. recounted (e i) s.nonzero_places (nonzero (audio i)) (nonzero (get_or m (first i) nan)))
       ∙ one-recount L (record { place = 0 * L + s.write_pos; value = input t }) m s.nonzero_places in
       λ i. state_of ((w ∙ ap (λ (z : ℕ). next_place z s.write_pos) e) i) (count i) (p i) s.sample_rate
+
+-- ---- an accepted tick from its steps in a memory m of any length
+
+module _ (t : Tick) (s : Vibrato) (m : List Float) where
+  -- a read in its first n places, which are the line, is what the tick reads
+  module _ {n : ℕ} (e : n ≡ line_length s.sample_rate) where
+    pub delayed-is : {d x y : Float} → n ≤ length m → s.write_pos < n → d ≡ depth t → x ≡ distance s.sample_rate d t.sine
+        → y ≡ read_at (line_at 0 (length (take n m)) s.write_pos (take n m)) x
+        → y ≡ delayed t s m
+    unfolding delayed
+    delayed-is l h g at r =
+        let rate = s.sample_rate in
+        let heard = front-line 0 (line_length rate) s.write_pos m n (omega (arith, e)) (omega (arith, e, h)) in
+        line-delayed t s (take n m) (length-take-le n m l ∙ e) (at ∙ (λ i. distance rate (g i) t.sine)) r ∙ (λ i. read_at (heard i) (distance rate (depth t) t.sine))
 
   -- what is stored and played, from the audio, the read and the clamped mix
   module _ {x : Float} (audio : x ≡ input t) where

@@ -5,7 +5,7 @@ use Rattle.port.specs.declared.Port.TheVariants.{Set}
 use Rattle.effect.specs.Run.{tick}
 use Rattle.effect.proofs.Contract.{accepts}
 use Rattle.vibrato.specs.Vibrato.{vibrato, tick_of}
-use Rattle.vibrato.proofs.Laws.{distance-is, delayed-is, age-is, next-is, stored_is, played-is}
+use Rattle.vibrato.proofs.Laws.{distance-is, line-delayed, age-is, next-is, stored_is, played-is}
 use Rattle.vibrato.proofs.Vibrato.advance.Goals as goal
 
 pub returns : goal.returns
@@ -19,5 +19,5 @@ returns c =
     let heard = c.read-delayed.ensures in
     accepts vibrato (tick t) a.self m c.requires.tick_accepted
     (next-is t a.self m e refl c.next_place-write_pos.ensures c.store-nonzero_places.ensures.count c.advance_phase-phase.ensures)
-    (c.store-nonzero_places.ensures.stored ∙ stored_is t a.self m e refl)
-    (played-is t a.self m e refl (delayed-is t a.self m e at heard.sample) c.clamp-wet.ensures c.blend.ensures (age-is t a.self m e at heard.age))
+    (c.store-nonzero_places.ensures.stored ∙ stored_is t a.self m refl)
+    (played-is t a.self m refl (line-delayed t a.self m e at heard.sample) c.clamp-wet.ensures c.blend.ensures (age-is t a.self m e at heard.age))
