@@ -127,49 +127,64 @@ meets-none s n time feedback mix ms x p q r e =
     let k = tick-fits t s.linear_time none in
     rw (p, q, r, x, delay-number t s (fits-parts (reader s) u.state_fits) k, k.feedback, k.mix)
 
--- ---- an accepted tick: what it does in the line, which is the first n places of the memory, it does in the memory. It is as its page has it, from the
--- numbers that it takes from its ports and its delay in samples
+-- ---- a tick as its page has it, of any state and any memory, from the numbers that it takes from its ports and its delay in samples
 
-module _ (t : Tick) (s : DelayLine) (m : List Float) {n : ℕ} (e : n ≡ size (reader s)) (passed : 0 ≡ number_in delay_line reset (length m) s) {a c f b x : Float} (audio : a ≡ value_or t.audio plus_zero) (time : c ≡ value_or t.time half) (back : f ≡ value_or t.feedback plus_zero) (wet : b ≡ value_or t.mix half) (read : x ≡ samples_of s.sample_rate (cond s.linear_time (linear_ms s.max_delay_secs c) t.milliseconds)) where
-  inside : s.write_pos < size (reader s)
-  inside = (fits-parts (reader s) (unit delay_line s m e passed).state_fits).inside
-
+module _ (t : Tick) (s : DelayLine) (m : List Float) {a c f b x : Float} (audio : a ≡ value_or t.audio plus_zero) (time : c ≡ value_or t.time half) (back : f ≡ value_or t.feedback plus_zero) (wet : b ≡ value_or t.mix half) (read : x ≡ samples_of s.sample_rate (cond s.linear_time (linear_ms s.max_delay_secs c) t.milliseconds)) where
   samples-are : x ≡ delay_samples t s
   unfolding delay_ms
   samples-are = read ∙ (λ i. samples_of s.sample_rate (cond s.linear_time (linear_ms s.max_delay_secs (time i)) t.milliseconds))
 
-  -- the read half, made in the line
-  abbrev here : HalfRead
-  here = half_read ceiling (reader s) x a f b (take n m)
+  -- the read half
+  abbrev made : HalfRead
+  made = half_read ceiling (reader s) x a f b m
 
-  half-is : here ≡ half_of t s m
-  half-is = front-half (reader s) n m e inside ceiling x a f b ∙ (λ i. half_read ceiling (reader s) (samples-are i) (audio i) (back i) (wet i) m)
+  half-is : made ≡ half_of t s m
+  half-is = λ i. half_read ceiling (reader s) (samples-are i) (audio i) (back i) (wet i) m
 
-  -- the whole tick, from what it does in the line
-  whole : length (take n m) ≡ size (reader s)
-  whole = first-long delay_line s m e passed ∙ e
-
-  -- and the count after it
-  abbrev count : ℕ
-  count = count_after (length (take n m)) s.write_pos here.sum (take n m) s.nonzero_places
-
-  count-is : count ≡ count_after (size (reader s)) s.write_pos (half_of t s m).sum m s.nonzero_places
-  count-is =
-      front-count (reader s) n m e inside here.sum s.nonzero_places (first-long delay_line s m e passed)
-      ∙ (λ i. count_after (size (reader s)) s.write_pos (half-is i).sum m s.nonzero_places)
-
-  pub next-is : {r : DelayLine} → r ≡ next_state here (half_stored (length (take n m)) s.write_pos count here.kept) s → r ≡ next t s m
-  unfolding next_counted writes
-  next-is g = g ∙ (λ i. next_state (half-is i) (half_stored (whole i) s.write_pos (count-is i) (half-is i).kept) s)
-
-  pub stored_is : {l : List Float} → l ≡ set (take n m) s.write_pos here.sum → l ++ drop n m ≡ laid (writes t s m) m
+  pub stored_is : {m' : List Float} → m' ≡ set m s.write_pos made.sum → m' ≡ laid (writes t s m) m
   unfolding writes
-  stored_is g = front-stored (reader s) n m e inside _ (first-long delay_line s m e passed) g ∙ (λ i. set m s.write_pos (half-is i).sum)
+  stored_is g = g ∙ (λ i. set m s.write_pos (half-is i).sum)
 
-  pub played-is : {q : Reply} → q ≡ played (heard_of here.kept ∷ []) here.age
-      → q ≡ played (page.samples t s m) (largest_age (page.reads t s))
+  pub played-is : {q : Reply} → q ≡ played (heard_of made.kept ∷ []) made.age → q ≡ played (page.samples t s m) (largest_age (page.reads t s))
   unfolding page.samples
   played-is g =
       g
       ∙ (λ i. played (heard_of (half-is i).kept ∷ []) (half-is i).age)
       ∙ ap (played (page.samples t s m)) (sym (oldest-one (page.read t s)))
+
+  -- what an accepted tick does in the line, which is the first n places of the memory, it does in the memory
+  module _ {n : ℕ} (e : n ≡ size (reader s)) (passed : 0 ≡ number_in delay_line reset (length m) s) where
+    inside : s.write_pos < size (reader s)
+    inside = (fits-parts (reader s) (unit delay_line s m e passed).state_fits).inside
+
+    -- the read half, made in the line
+    abbrev here : HalfRead
+    here = half_read ceiling (reader s) x a f b (take n m)
+
+    here-is : here ≡ made
+    here-is = front-half (reader s) n m e inside ceiling x a f b
+
+    -- the whole tick, from what it does in the line
+    whole : length (take n m) ≡ size (reader s)
+    whole = first-long delay_line s m e passed ∙ e
+
+    -- and the count after it
+    abbrev count : ℕ
+    count = count_after (length (take n m)) s.write_pos here.sum (take n m) s.nonzero_places
+
+    count-is : count ≡ count_after (size (reader s)) s.write_pos (half_of t s m).sum m s.nonzero_places
+    count-is =
+        front-count (reader s) n m e inside here.sum s.nonzero_places (first-long delay_line s m e passed)
+        ∙ (λ i. count_after (size (reader s)) s.write_pos ((here-is ∙ half-is) i).sum m s.nonzero_places)
+
+    pub next-is : {r : DelayLine} → r ≡ next_state here (half_stored (length (take n m)) s.write_pos count here.kept) s → r ≡ next t s m
+    unfolding next_counted writes
+    next-is g =
+        let h = here-is ∙ half-is in
+        g ∙ (λ i. next_state (h i) (half_stored (whole i) s.write_pos (count-is i) (h i).kept) s)
+
+    pub line-stored : {l : List Float} → l ≡ set (take n m) s.write_pos here.sum → l ++ drop n m ≡ laid (writes t s m) m
+    line-stored g = stored_is (front-stored (reader s) n m e inside _ (first-long delay_line s m e passed) g ∙ (λ i. set m s.write_pos (here-is i).sum))
+
+    pub line-played : {q : Reply} → q ≡ played (heard_of here.kept ∷ []) here.age → q ≡ played (page.samples t s m) (largest_age (page.reads t s))
+    line-played g = played-is (g ∙ (λ i. played (heard_of (here-is i).kept ∷ []) (here-is i).age))

@@ -21,10 +21,11 @@ use Rattle.float64.proofs.Parts.{small-in, clamp-whole-in, whole-ends}
 use Rattle.float64.proofs.Glide.{glide-in}
 use Rattle.float64.proofs.Lengths.{line-length}
 use Rattle.float64.proofs.Zeros.{Zero}
-use Rattle.common.specs.Line.{read_at, all_zero}
+use Rattle.common.specs.Line.{line_at, read_at, all_zero}
 use Rattle.common.specs.Reads.{age_at}
 use Rattle.common.proofs.Ring.{front-line}
 use Rattle.common.proofs.Slices.{front-set}
+use Rattle.common.proofs.Sweep.{part-read}
 use Rattle.effect.specs.Parts.{first_places, held_in}
 use Rattle.effect.proofs.Parts.{first-read}
 use Rattle.effect.proofs.Counts.{recount-front}
@@ -150,6 +151,13 @@ ready {r} e k =
     let f = fits-parts r k in
     let l = size-fits r f in
     record { inside = omega (arith, e, f.inside); most = omega (arith, e, f.most); some = omega (arith, e, l.0); short = omega (arith, e, l.1) }
+
+-- a read in the first n places of any memory, which are the line, is what a tick reads
+pub delayed-is : (r : Reader) (x : Float) {n : ℕ} → n ≡ size r → (m : List Float) {d y : Float} → n ≤ length m → r.write_pos < n → d ≡ reads_at r x
+    → y ≡ read_at (line_at 0 (length (take n m)) r.write_pos (take n m)) d
+    → y ≡ delayed_by r x m
+unfolding delayed_by
+delayed-is r x {n} e m {d} l h a g = g ∙ part-read n 0 n r.write_pos m d refl (omega (arith, l)) h ∙ (λ i. read_at (line_at 0 (e i) r.write_pos m) (a i))
 
 -- What the halves do in the line they do in a memory that begins with it.
 module _ (r : Reader) (n : ℕ) (m : List Float) (e : n ≡ size r) (inside : r.write_pos < size r) where

@@ -151,49 +151,51 @@ ready {t} {s} {m} e k =
       sine1 = curves.sine1;
     }
 
--- from its steps
-module _ (t : Tick) (s : Flanger) (m : List Float) {n : ℕ} (r : Ready t s m n) where
+-- ---- a tick from its steps, of any state and any memory, where a line has n places; the next state alone, whose count is that of all of m, asks for `Ready`
+
+module _ (t : Tick) (s : Flanger) (m : List Float) {n : ℕ} (long : n ≡ line_length s.sample_rate) where
   -- in the part of k places from place o on, which is line i
   module _ (i k o : ℕ) (sine : Float) (a : k ≡ n) (h : o + n ≤ length m) where
     pub distance-is : {d x : Float} → d ≡ depth t → x ≡ distance_in (length (take k (drop o m))) s.sample_rate d sine → x ≡ distance s.sample_rate (depth t) sine
-    distance-is g f = f ∙ (λ j. distance_in ((part_length o k m n a h ∙ r.long) j) s.sample_rate (g j) sine)
+    distance-is g f = f ∙ (λ j. distance_in ((part_length o k m n a h ∙ long) j) s.sample_rate (g j) sine)
 
     -- a read at that distance hears what the tick reads in line i
-    pub tap-is : {x y : Float} → o ≡ i * n → x ≡ distance s.sample_rate (depth t) sine
+    pub tap-is : {x y : Float} → s.write_pos < n → o ≡ i * n → x ≡ distance s.sample_rate (depth t) sine
         → y ≡ read_at (line_at 0 (length (take k (drop o m))) s.write_pos (take k (drop o m))) x
         → y ≡ tap i sine t s m
     unfolding tap
-    tap-is {x} b f y =
-        let start = b ∙ ap (λ (z : ℕ). i * z) r.long in
-        y ∙ part-read k o n s.write_pos m x a h r.inside ∙ (λ j. read_at (line_at (start j) (r.long j) s.write_pos m) (f j))
-
-  -- what a line is fed, from the audio, its read and the clamped feedback
-  pub fed-is : {x d f y : Float} → x ≡ input t → d ≡ y → f ≡ feedback t → add binary64 x (mul binary64 d f) ≡ fed t y
-  unfolding fed
-  fed-is audio read back = λ i. add binary64 (audio i) (mul binary64 (read i) (back i))
+    tap-is {x} inside b f y =
+        let start = b ∙ ap (λ (z : ℕ). i * z) long in
+        y ∙ part-read k o n s.write_pos m x a h inside ∙ (λ j. read_at (line_at (start j) (long j) s.write_pos m) (f j))
 
   -- what is left, from what both lines are fed
   module _ {x0 x1 : Float} (left : x0 ≡ fed t (tap 0 t.sine0 t s m)) (right : x1 ≡ fed t (tap 1 t.sine1 t s m)) where
     pub stored_is : set (set m s.write_pos x0) (n + s.write_pos) x1 ≡ laid (writes t s m) m
     unfolding writes
-    stored_is = λ i. set (set m s.write_pos (left i)) (r.long i + s.write_pos) (right i)
+    stored_is = λ i. set (set m s.write_pos (left i)) (long i + s.write_pos) (right i)
 
-    pub next-is : {v c : ℕ} {p : Float} → v ≡ next_place (length (take n m)) s.write_pos
+    pub next-is : {v c : ℕ} {p : Float} → Ready t s m n → v ≡ next_place (length (take n m)) s.write_pos
         → c
         ≡ recounted (length m) s.nonzero_places (nonzero x0 + nonzero x1) (nonzero (get_or m s.write_pos nan) + nonzero (get_or m (n + s.write_pos) nan))
         → p ≡ advanced s.lfo_phase (div binary64 t.frequency s.sample_rate)
         → state_of v c p s.sample_rate ≡ next t s m
     unfolding next_counted writes
-    next-is v c p =
+    next-is r v c p =
         let k = s.nonzero_places in
         let w = s.write_pos in
         let one : Write = record { place = w; value = fed t (tap 0 t.sine0 t s m) } in
         let two : Write = record { place = line_length s.sample_rate + w; value = fed t (tap 1 t.sine1 t s m) } in
         let count =
         c
-        ∙ (λ i. recounted (r.all i) k (nonzero (left i) + nonzero (right i)) (nonzero (get_or m w nan) + nonzero (get_or m (r.long i + w) nan)))
+        ∙ (λ i. recounted (r.all i) k (nonzero (left i) + nonzero (right i)) (nonzero (get_or m w nan) + nonzero (get_or m (long i + w) nan)))
         ∙ two-recount (places s.sample_rate) one two m k in
-        λ i. state_of ((v ∙ ap (λ (z : ℕ). next_place z w) (r.left ∙ r.long)) i) (count i) (p i) s.sample_rate
+        λ i. state_of ((v ∙ ap (λ (z : ℕ). next_place z w) (r.left ∙ long)) i) (count i) (p i) s.sample_rate
+
+module _ (t : Tick) (s : Flanger) (m : List Float) where
+  -- what a line is fed, from the audio, its read and the clamped feedback
+  pub fed-is : {x d f y : Float} → x ≡ input t → d ≡ y → f ≡ feedback t → add binary64 x (mul binary64 d f) ≡ fed t y
+  unfolding fed
+  fed-is audio read back = λ i. add binary64 (audio i) (mul binary64 (read i) (back i))
 
   -- what is played, from the audio, the two reads and the clamped mix
   module _ {x d0 d1 : Float} (audio : x ≡ input t) (left : d0 ≡ tap 0 t.sine0 t s m) (right : d1 ≡ tap 1 t.sine1 t s m) where

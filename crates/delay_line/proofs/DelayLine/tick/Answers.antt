@@ -14,7 +14,7 @@ use Rattle.effect.specs.Run.{tick}
 use Rattle.effect.proofs.Contract.{refuses, accepts}
 use Rattle.effect.proofs.Rows.{tick_row}
 use Rattle.delay_line.specs.DelayLine.{delay_line, tick_of}
-use Rattle.delay_line.proofs.Laws.{set-row, set-number, no_nan, meets-none, next-is, stored_is, played-is}
+use Rattle.delay_line.proofs.Laws.{set-row, set-number, no_nan, meets-none, next-is, line-stored, line-played}
 use Rattle.delay_line.proofs.DelayLine.tick.Goals as goal
 
 is-err : {A : Type 0} (r : Result A Refusal) → number_of r ≢ 0 → IsErr r
@@ -59,6 +59,6 @@ returns c =
     let does = c.advance.ensures in
     accepts delay_line (tick t) s m
     (sym (tick_row delay_line t s m passed (sym none ∙ set-row t s.linear_time time back wet)))
-    (next-is t s m long passed audio time back wet read does.state)
-    (stored_is t s m long passed audio time back wet read does.memory)
-    (played-is t s m long passed audio time back wet read does.answer)
+    (next-is t s m audio time back wet read long passed does.state)
+    (line-stored t s m audio time back wet read long passed does.memory)
+    (line-played t s m audio time back wet read long passed does.answer)
