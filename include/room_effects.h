@@ -138,7 +138,8 @@
  *
  * By the frames of the compiled functions a call takes at most 792 bytes of stack (a reverb's tick; its question takes 392, its
  * other calls at most 168, and those of the other effects 96), and beside that what memset takes, the one function that the
- * archive needs from elsewhere. Where memset is bound at its first call, that takes some 3 KB more, once.
+ * archive needs from elsewhere. Where memset is bound at its first call, that takes some 3 KB more, once. Below its frame a
+ * call may use up to 88 bytes more (a chorus's tick; a flanger's 80), in the red zone that the ABI keeps there.
  *
  * What calls cost
  *
